@@ -100,9 +100,9 @@ whole_opens e (f ∷ es) mark rest is made =
     let fits = has_numbers e made in
     let n = length es in
     let parts = append_assoc (list_head e.old_len (length e.entries)) (flat_map edit_text e.entries) (mark ++ rest) in
-    let cut : flat_map edit_text (f ∷ es) ++ (mark ++ rest) ≡ edit_text f ++ (flat_map edit_text es ++ (mark ++ rest)) =
+    let split_is : flat_map edit_text (f ∷ es) ++ (mark ++ rest) ≡ edit_text f ++ (flat_map edit_text es ++ (mark ++ rest)) =
     ap (λ (y : List ℕ). y ++ (mark ++ rest)) (flat_map-cons edit_text f es) ∙ append_assoc (edit_text f) (flat_map edit_text es) (mark ++ rest) in
-    let some = ap (λ (x : List EditEntry). list_head e.old_len (length x) ++ (flat_map edit_text x ++ (mark ++ rest))) is ∙ ap (λ (y : List ℕ). list_head e.old_len (suc n) ++ y) cut in
+    let some = ap (λ (x : List EditEntry). list_head e.old_len (length x) ++ (flat_map edit_text x ++ (mark ++ rest))) is ∙ ap (λ (y : List ℕ). list_head e.old_len (suc n) ++ y) split_is in
     record { old_len = e.old_len; count = suc n; old_len_fits = fits.old_len; count_fits = omega (arith, fits.count, ap length is); next = edit_text f; next_is = (f, refl, first_fits e.entries f es is fits.edits); rest = flat_map edit_text es ++ (mark ++ rest); is = parts ∙ some }
 
 -- ---- a record that has begun
@@ -168,8 +168,8 @@ old_steps_open t head after e h =
     through (number_at 1 64 newline t2) _ (head, after) g2 λ count t3 count_is g3.
     through (step_at t3) _ (head, after) g3 λ first t4 first_is g4.
     let head_eq : (record { word = word; first = first; others = count - 1 }, t4) ≡ (head, after) = ok_is _ _ g4 in
-    let grown : steps_allocate (count - 1) t4 ≡ true = ap (λ (x : OldHead × List ℕ). steps_allocate x.0.others x.1) head_eq ∙ h in
-    more_steps (count - 1) t4 grown λ k x count_eq step_is.
+    let extended : steps_allocate (count - 1) t4 ≡ true = ap (λ (x : OldHead × List ℕ). steps_allocate x.0.others x.1) head_eq ∙ h in
+    more_steps (count - 1) t4 extended λ k x count_eq step_is.
     let mark = two_marks count k count_eq in
     let taken = step_takes t3 first t4 first_is in
     let n = number_takes 1 64 newline t2 (count, t3) (omega arith) count_is in
@@ -212,22 +212,22 @@ record_out true t r rest h =
     let parts = h.1 ∙ four (codes "tfrec 1 ") (word_text old.word) (number_text newline n) (flat_map step_text (steps old)) (codes "end\n") rest in
     let b = after_first old.others rest in
     let later = flat_map step_text old.others ++ (codes "end\n" ++ rest) in
-    let cut : flat_map step_text (steps old) ++ (codes "end\n" ++ rest) ≡ codes "step " ++ (list_text old.first ++ later) =
+    let split_is : flat_map step_text (steps old) ++ (codes "end\n" ++ rest) ≡ codes "step " ++ (list_text old.first ++ later) =
     ap (λ (y : List ℕ). y ++ (codes "end\n" ++ rest)) (flat_map-cons step_text old.first old.others) ∙ append_assoc (step_text old.first) (flat_map step_text old.others) (codes "end\n" ++ rest)
     ∙ append_assoc (codes "step ") (list_text old.first) later in
     let opens : ReachesEdit (mark_after n) (list_text old.first ++ later) = subst (λ (y : List ℕ). ReachesEdit (mark_after n) (list_text old.first ++ y)) (sym b.1) (whole_opens old.first old.first.entries (mark_after n) b.0 refl h.2.made.0) in
-    inr (from_old t _ _ _ _ old.word n parts refl refl (omega arith) h.2.within_limit cut opens)
+    inr (from_old t _ _ _ _ old.word n parts refl refl (omega arith) h.2.within_limit split_is opens)
 
 -- ---- in the loop over records
 
 -- nothing is read of the text, or it may have taken memory
-abbrev pub Begun : List ℕ → List ℕ → Type 0
-Begun text rest = (rest ≡ text) ⊎ DecodeMayAllocate text
+abbrev pub UnreadOrAllocates : List ℕ → List ℕ → Type 0
+UnreadOrAllocates text rest = (rest ≡ text) ⊎ DecodeMayAllocate text
 
-pub runs_out : (old : Bool) (text rest : List ℕ) → Begun text rest → allocates old rest ≡ true → DecodeMayAllocate text
+pub runs_out : (old : Bool) (text rest : List ℕ) → UnreadOrAllocates text rest → allocates old rest ≡ true → DecodeMayAllocate text
 runs_out old text rest (inl e) h = allocates_out old text (subst (λ (x : List ℕ). allocates old x ≡ true) e h)
 runs_out old text rest (inr m) h = m
 
-pub record_taken : (old : Bool) (text rest after : List ℕ) (r : JournalEntry) → Begun text rest → RecordAt old rest r after → DecodeMayAllocate text
+pub record_taken : (old : Bool) (text rest after : List ℕ) (r : JournalEntry) → UnreadOrAllocates text rest → RecordAt old rest r after → DecodeMayAllocate text
 record_taken old text rest after r (inl e) h = record_out old text r after (subst (λ (x : List ℕ). RecordAt old x r after) e h)
 record_taken old text rest after r (inr m) h = m

@@ -35,9 +35,9 @@ through_one (Ok x) f y e k = k x refl e
 through_one (Err g) f y e k = absurd cc
 
 -- and how it goes on
-pub goes_on : {A B : Type 0} (r : Result A TextError) (f : A → Result B TextError) (a : A) (y : Result B TextError) → r ≡ Ok a → f a ≡ y → (r >>= f) ≡ y
-goes_on (Ok x) f a y e h = ap f (ok_is x a e) ∙ h
-goes_on (Err g) f a y e h = absurd cc
+pub continues_with : {A B : Type 0} (r : Result A TextError) (f : A → Result B TextError) (a : A) (y : Result B TextError) → r ≡ Ok a → f a ≡ y → (r >>= f) ≡ y
+continues_with (Ok x) f a y e h = ap f (ok_is x a e) ∙ h
+continues_with (Err g) f a y e h = absurd cc
 
 -- parts of a text one after another
 pub part : (a t t' rest : List ℕ) → t ≡ a ++ t' → t' ≡ rest → t ≡ a ++ rest

@@ -5,7 +5,7 @@ use Rattle.edit_record.specs.Lists.Validity.{make_edits, new_len, AreValidEdits,
 use Rattle.edit_record.specs.declared.lists.edits.TheConstants.{MAX_TEXT}
 use Rattle.edit_record.specs.declared.edit_sums.EditSums.{EditSums}
 use Rattle.edit_record.specs.Inner.EditSums.{AreSummedUp}
-use Rattle.edit_record.proofs.Making.{room, valid_again}
+use Rattle.edit_record.proofs.Making.{within_len, valid_again}
 
 disjoint_push : (f g from : ℕ) (es : List EditEntry) (x : EditEntry) → AreDisjoint f from es → f ≤ x.at → x.at + length x.removed ≤ g → 0 < length x.removed + length x.added → AreDisjoint g from (es ++ x ∷ [])
 disjoint_push f g from [] x p later within some = (record { later = omega (arith, p, later); within = within; some = some }, within)
@@ -33,7 +33,7 @@ pub one_more : (es : List EditEntry) (x : EditEntry) (s t : EditSums) → AreSum
     → AreSummedUp (es ++ x ∷ []) t
 one_more es x s t h later some end removed added small =
     let before = h (omega (arith, later, end, small)) in
-    let fewer = room s.end 0 es before.disjoint in
+    let fewer = within_len s.end 0 es before.disjoint in
     let r = removed_push es x in
     let a = added_push es x in
     record {
@@ -47,7 +47,7 @@ pub valid : (old_len len : ℕ) (es : List EditEntry) (s : EditSums) → AreSumm
     → len ≡ (old_len - s.removed) + s.added → AreValidEdits old_len len es
 valid old_len len es s h fits small within few is =
     let sums = h (omega (arith, fits, small)) in
-    let fewer = room s.end 0 es sums.disjoint in
+    let fewer = within_len s.end 0 es sums.disjoint in
     record {
       disjoint = disjoint_longer s.end old_len 0 es sums.disjoint fits;
       new = omega (arith, sums.removed, sums.added, fewer, is, few, fits);

@@ -11,7 +11,7 @@ use Rattle.edit_record.specs.Text.{newline, NumbersFit, edit_head, edit_text}
 use Rattle.edit_record.specs.declared.fault.FaultKind.{FaultKind}
 use Rattle.edit_record.specs.declared.fault.FaultKind.TheVariants.{End}
 use Rattle.edit_record.specs.Parsing.{strip, expected, expect, bytes_at, edit_head_at, edit_at, edits_at}
-use Rattle.edit_record.proofs.Choices.{err_else, ok_is, through, through_one, goes_on, part}
+use Rattle.edit_record.proofs.Choices.{err_else, ok_is, through, through_one, continues_with, part}
 use Rattle.edit_record.proofs.Many.{many_take, many_again}
 use Rattle.edit_record.proofs.Heads.{edit_head_takes, edit_head_again}
 
@@ -89,9 +89,9 @@ edit_again e rest fits =
     let t1 = e.removed ++ t2 in
     let head = edit_head e.at (length e.removed) (length e.added) in
     let read : edit_at (head ++ t1) ≡ Ok (e, rest) =
-    goes_on (edit_head_at (head ++ t1)) _ ((e.at, length e.removed, length e.added), t1) _ (edit_head_again e.at (length e.removed) (length e.added) t1 fits.at fits.removed fits.added)
-    (goes_on (bytes_at (length e.removed) t1) _ (e.removed, t2) _ (bytes_again e.removed t2)
-    (goes_on (bytes_at (length e.added) t2) _ (e.added, t3) _ (bytes_again e.added t3)
+    continues_with (edit_head_at (head ++ t1)) _ ((e.at, length e.removed, length e.added), t1) _ (edit_head_again e.at (length e.removed) (length e.added) t1 fits.at fits.removed fits.added)
+    (continues_with (bytes_at (length e.removed) t1) _ (e.removed, t2) _ (bytes_again e.removed t2)
+    (continues_with (bytes_at (length e.added) t2) _ (e.added, t3) _ (bytes_again e.added t3)
     refl)) in
     ap edit_at (regroup head e.removed e.added (newline ∷ []) rest) ∙ read
 

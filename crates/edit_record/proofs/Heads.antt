@@ -2,7 +2,7 @@
 use Rattle.std.proofs.Common.{◌≡◌, ℕ, ◌≤◌, List, ◌++◌, Ok, refl, sym, ap, subst, ◌∙◌, append_assoc, arith}
 use Rattle.edit_record.specs.Text.{space, newline, max_number, number_text, edit_head, list_head}
 use Rattle.edit_record.specs.Parsing.{number_at, edit_head_at, list_head_at}
-use Rattle.edit_record.proofs.Choices.{ok_is, through, goes_on, part}
+use Rattle.edit_record.proofs.Choices.{ok_is, through, continues_with, part}
 use Rattle.edit_record.proofs.Numbers.{number_takes, number_again}
 
 pub record EditHeadIs (n : ℕ × ℕ × ℕ) (t rest : List ℕ) : Type 0 where
@@ -41,9 +41,9 @@ edit_head_again at removed added rest at_fits removed_fits added_fits =
     let t1 = number_text space removed ++ t2 in
     let t0 = number_text space at ++ t1 in
     let read : edit_head_at t0 ≡ Ok ((at, removed, added), rest) =
-    goes_on (number_at 0 max_number space t0) _ (at, t1) _ (number_again 0 max_number space at t1 (omega arith) refl (omega arith) at_fits)
-    (goes_on (number_at 0 max_number space t1) _ (removed, t2) _ (number_again 0 max_number space removed t2 (omega arith) refl (omega arith) removed_fits)
-    (goes_on (number_at 0 max_number newline t2) _ (added, rest) _ (number_again 0 max_number newline added rest (omega arith) refl (omega arith) added_fits)
+    continues_with (number_at 0 max_number space t0) _ (at, t1) _ (number_again 0 max_number space at t1 (omega arith) refl (omega arith) at_fits)
+    (continues_with (number_at 0 max_number space t1) _ (removed, t2) _ (number_again 0 max_number space removed t2 (omega arith) refl (omega arith) removed_fits)
+    (continues_with (number_at 0 max_number newline t2) _ (added, rest) _ (number_again 0 max_number newline added rest (omega arith) refl (omega arith) added_fits)
     refl)) in
     ap edit_head_at (three (number_text space at) (number_text space removed) (number_text newline added) rest) ∙ read
 
@@ -65,7 +65,7 @@ list_head_again old_len count rest old_len_fits count_fits =
     let t1 = number_text newline count ++ rest in
     let t0 = number_text space old_len ++ t1 in
     let read : list_head_at t0 ≡ Ok ((old_len, count), rest) =
-    goes_on (number_at 0 max_number space t0) _ (old_len, t1) _ (number_again 0 max_number space old_len t1 (omega arith) refl (omega arith) old_len_fits)
-    (goes_on (number_at 0 max_number newline t1) _ (count, rest) _ (number_again 0 max_number newline count rest (omega arith) refl (omega arith) count_fits)
+    continues_with (number_at 0 max_number space t0) _ (old_len, t1) _ (number_again 0 max_number space old_len t1 (omega arith) refl (omega arith) old_len_fits)
+    (continues_with (number_at 0 max_number newline t1) _ (count, rest) _ (number_again 0 max_number newline count rest (omega arith) refl (omega arith) count_fits)
     refl) in
     ap list_head_at (append_assoc (number_text space old_len) (number_text newline count) rest) ∙ read

@@ -20,7 +20,7 @@ use Rattle.edit_record.specs.OldParsing.{old_record_at, OldRecordError}
 use Rattle.edit_record.specs.Inner.Allocating.{allocates}
 use Rattle.edit_record.specs.Inner.ParseResults.{IsRead, ParsesAs, IsStopFor, OldRecordAt, RecordAt, RecordsAt, StartsWith, HasError, IsReadResult}
 use Rattle.edit_record.proofs.Choices.{ok_is, err_ok}
-use Rattle.edit_record.proofs.Allocating.{Begun, runs_out}
+use Rattle.edit_record.proofs.Allocating.{UnreadOrAllocates, runs_out}
 use Rattle.edit_record.proofs.Records.{three, four, record_takes, record_again, old_takes, old_again}
 
 module _ {X Y : Type 0} (view : X → Y) (rest : X → List ℕ) where
@@ -96,23 +96,23 @@ record_shorter old t r rest h =
 
 -- A text is the records in front, and then the rest, whatever it is.
 abbrev pub Begins : Bool → List ℕ → List JournalEntry → List ℕ → Type 0
-Begins old text front rest = (ss : List JournalEntry) → RecordsAt old text ss ↔ ((rs : List JournalEntry) × (ss ≡ front ++ rs) × RecordsAt old rest rs)
+Begins old text leading rest = (ss : List JournalEntry) → RecordsAt old text ss ↔ ((rs : List JournalEntry) × (ss ≡ leading ++ rs) × RecordsAt old rest rs)
 
-next_of : (old : Bool) (front : List JournalEntry) (rest after : List ℕ) (r : JournalEntry) → RecordAt old rest r after → (ss rs : List JournalEntry) → ss ≡ front ++ rs → RecordsAt old rest rs
-    → (more : List JournalEntry) × (ss ≡ (front ++ r ∷ []) ++ more) × RecordsAt old after more
-next_of old front rest after r h ss [] e k = absurd (omega (arith, record_shorter old rest r after h, ap length k))
-next_of old front rest after r h ss (s ∷ rs) e k =
+next_of : (old : Bool) (leading : List JournalEntry) (rest after : List ℕ) (r : JournalEntry) → RecordAt old rest r after → (ss rs : List JournalEntry) → ss ≡ leading ++ rs → RecordsAt old rest rs
+    → (more : List JournalEntry) × (ss ≡ (leading ++ r ∷ []) ++ more) × RecordsAt old after more
+next_of old leading rest after r h ss [] e k = absurd (omega (arith, record_shorter old rest r after h, ap length k))
+next_of old leading rest after r h ss (s ∷ rs) e k =
     let one = record_one old rest s r k.0 after k.1 h in
-    (rs, e ∙ ap (λ (x : JournalEntry). front ++ x ∷ rs) one.0 ∙ sym (append_assoc front (r ∷ []) rs), subst (λ (x : List ℕ). RecordsAt old x rs) one.1 k.2)
+    (rs, e ∙ ap (λ (x : JournalEntry). leading ++ x ∷ rs) one.0 ∙ sym (append_assoc leading (r ∷ []) rs), subst (λ (x : List ℕ). RecordsAt old x rs) one.1 k.2)
 
-pub begins_on : (old : Bool) (text : List ℕ) (front : List JournalEntry) (rest after : List ℕ) (r : JournalEntry) → Begins old text front rest → RecordAt old rest r after → Begins old text (front ++ r ∷ []) after
-begins_on old text front rest after r so_far h ss = (
-  λ k. let b = (so_far ss).0 k in next_of old front rest after r h ss b.0 b.1 b.2,
-  λ k. (so_far ss).1 (r ∷ k.0, k.1 ∙ append_assoc front (r ∷ []) k.0, (after, h, k.2)),
+pub begins_on : (old : Bool) (text : List ℕ) (leading : List JournalEntry) (rest after : List ℕ) (r : JournalEntry) → Begins old text leading rest → RecordAt old rest r after → Begins old text (leading ++ r ∷ []) after
+begins_on old text leading rest after r so_far h ss = (
+  λ k. let b = (so_far ss).0 k in next_of old leading rest after r h ss b.0 b.1 b.2,
+  λ k. (so_far ss).1 (r ∷ k.0, k.1 ∙ append_assoc leading (r ∷ []) k.0, (after, h, k.2)),
 )
 
-pub begins_none : (old : Bool) (text : List ℕ) (front : List JournalEntry) (rest : List ℕ) → Begins old text front rest → 0 < length rest → ((r : JournalEntry) (after : List ℕ) → RecordAt old rest r after → ⊥) → (ss : List JournalEntry) → RecordsAt old text ss → ⊥
-begins_none old text front rest so_far some none ss h =
+pub begins_none : (old : Bool) (text : List ℕ) (leading : List JournalEntry) (rest : List ℕ) → Begins old text leading rest → 0 < length rest → ((r : JournalEntry) (after : List ℕ) → RecordAt old rest r after → ⊥) → (ss : List JournalEntry) → RecordsAt old text ss → ⊥
+begins_none old text leading rest so_far some none ss h =
     let b = (so_far ss).0 h in
     no b.0 b.2
   where
@@ -120,8 +120,8 @@ begins_none old text front rest so_far some none ss h =
     no [] k = omega (arith, ap length k, some)
     no (r ∷ rs) k = none r k.0 k.1
 
-pub begins_all : (old : Bool) (text : List ℕ) (front : List JournalEntry) (rest : List ℕ) → Begins old text front rest → rest ≡ [] → RecordsAt old text front
-begins_all old text front rest so_far done = (so_far front).1 ([], sym (append-nil front), done)
+pub begins_all : (old : Bool) (text : List ℕ) (leading : List JournalEntry) (rest : List ℕ) → Begins old text leading rest → rest ≡ [] → RecordsAt old text leading
+begins_all old text leading rest so_far done = (so_far leading).1 ([], sym (append-nil leading), done)
 
 -- the records one after another are the text of a journal
 pub text_from : (t : List ℕ) (rs : List JournalEntry) → RecordsAt false t rs → IsCurrentText t rs
@@ -216,16 +216,16 @@ read_on true text records rest after r so_far h = (
   more_read text so_far.0 (old_record_text h.0) rest after so_far.2 h.1,
 )
 
-module _ (old : Bool) (text : List ℕ) (front : List JournalEntry) (rest : List ℕ) (so_far : Begins old text front rest) where
-  pub reads_stop : Begun text rest → StartsWith old text front rest → IsVersion old text → 0 < length rest → (stop : DecodeStop) → IsStopFor (allocates old rest) stop (RecordAt old rest) → HasError stop (RecordError old rest) → IsReadResult text (Err stop)
+module _ (old : Bool) (text : List ℕ) (leading : List JournalEntry) (rest : List ℕ) (so_far : Begins old text leading rest) where
+  pub reads_stop : UnreadOrAllocates text rest → StartsWith old text leading rest → IsVersion old text → 0 < length rest → (stop : DecodeStop) → IsStopFor (allocates old rest) stop (RecordAt old rest) → HasError stop (RecordError old rest) → IsReadResult text (Err stop)
   reads_stop begun read version some stops.Memory taken error = runs_out old text rest begun taken
   reads_stop begun read version some (stops.Bad bad) none error = (
-    λ rs h. begins_none old text front rest so_far some none rs (from_journal old text rs version h),
-    record { old = old; version = version; done = read.0; records = front; is_done = read.1; rest = rest; is = read.2; error_is = error },
+    λ rs h. begins_none old text leading rest so_far some none rs (from_journal old text rs version h),
+    record { old = old; version = version; done = read.0; records = leading; is_done = read.1; rest = rest; is = read.2; error_is = error },
   )
 
-  pub reads_all : rest ≡ [] → IsReadResult text (Ok front)
-  reads_all done = journal_from old text front (begins_all old text front rest so_far done)
+  pub reads_all : rest ≡ [] → IsReadResult text (Ok leading)
+  reads_all done = journal_from old text leading (begins_all old text leading rest so_far done)
 
 -- the error of the one record
 pub new_error : {X : Type 0} (view : X → JournalEntry × List ℕ) (takes : Bool) (t : List ℕ) (r : Result X DecodeStop) → IsRead view takes r (record_at t) → IfErr r (λ stop. HasError stop (RecordError false t))

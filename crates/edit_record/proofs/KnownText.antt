@@ -34,20 +34,20 @@ all_left P [] ys h = tt
 all_left P (x ∷ xs) ys h = (h.0, all_left P xs ys h.1)
 
 -- the kept text, cut in two
-pub cut_in_two : (rs : List JournalEntry) (known to : ℕ) (text : List ℕ) → IsKnownText rs known text → to ≤ known
+pub known_split : (rs : List JournalEntry) (known to : ℕ) (text : List ℕ) → IsKnownText rs known text → to ≤ known
     → text ≡ journal_text (take to rs) ++ journal_text (slice_range rs to known)
-cut_in_two rs known to text h l = h.is.is ∙ ap journal_text (take_split to known rs l) ∙ flat_map-append record_text (take to rs) (slice_range rs to known)
+known_split rs known to text h l = h.is.is ∙ ap journal_text (take_split to known rs l) ∙ flat_map-append record_text (take to rs) (slice_range rs to known)
 
-pub cut_fits : (rs : List JournalEntry) (known to : ℕ) (text : List ℕ) → IsKnownText rs known text → to ≤ known
+pub known_fits : (rs : List JournalEntry) (known to : ℕ) (text : List ℕ) → IsKnownText rs known text → to ≤ known
     → length (journal_text (slice_range rs to known)) ≤ length text
-cut_fits rs known to text h l =
-    let e = ap length (cut_in_two rs known to text h l) in
+known_fits rs known to text h l =
+    let e = ap length (known_split rs known to text h l) in
     omega (arith, e, length-append (journal_text (take to rs)) (journal_text (slice_range rs to known)))
 
-pub cut_known : (rs : List JournalEntry) (known to len : ℕ) (text : List ℕ) → IsKnownText rs known text → to ≤ known
+pub known_prefix : (rs : List JournalEntry) (known to len : ℕ) (text : List ℕ) → IsKnownText rs known text → to ≤ known
     → len ≡ length text - length (journal_text (slice_range rs to known)) → IsKnownText rs to (take len text)
-cut_known rs known to len text h l e =
-    let two = cut_in_two rs known to text h l in
+known_prefix rs known to len text h l e =
+    let two = known_split rs known to text h l in
     let at : len ≡ length (journal_text (take to rs)) = omega (arith, e, ap length two, length-append (journal_text (take to rs)) (journal_text (slice_range rs to known))) in
     let prefix : take len text ≡ journal_text (take to rs) =
     ap (λ (n : ℕ). take n text) at ∙ ap (take (length (journal_text (take to rs)))) two ∙ take-append_seam (journal_text (take to rs)) (journal_text (slice_range rs to known)) in

@@ -59,20 +59,20 @@ begin_alike (r ∷ rs) ss more made h =
     let text : journal_text (r ∷ rs) ++ more ≡ record_text r ++ (journal_text rs ++ more) = ap (λ (x : List ℕ). x ++ more) (flat_map-cons record_text r rs) ∙ append_assoc (record_text r) (journal_text rs) more in
     first_alike r (journal_text rs ++ more) more rs ss made.0 (λ later k. begin_alike rs later more made.1 k) (subst (λ (x : List ℕ). RecordsAt false x ss) text h)
 
-pub begins_alike : (front more : List ℕ) (rs ss : List JournalEntry) → IsCurrentText front rs → IsCurrentText (front ++ more) ss → (others : List JournalEntry) × (ss ≡ rs ++ others) × IsCurrentText more others
-begins_alike front more rs ss h k =
+pub begins_alike : (leading more : List ℕ) (rs ss : List JournalEntry) → IsCurrentText leading rs → IsCurrentText (leading ++ more) ss → (others : List JournalEntry) × (ss ≡ rs ++ others) × IsCurrentText more others
+begins_alike leading more rs ss h k =
     let text = ap (λ (x : List ℕ). x ++ more) h.is in
-    let b = begin_alike rs ss more h.made (subst (λ (x : List ℕ). RecordsAt false x ss) text (from_text (front ++ more) ss k.made k.is)) in
+    let b = begin_alike rs ss more h.made (subst (λ (x : List ℕ). RecordsAt false x ss) text (from_text (leading ++ more) ss k.made k.is)) in
     (b.0, b.1, text_from more b.0 b.2)
 
 one_alike : (old : OldRecord) (r : JournalEntry) → MigratesTo old r → (t u : List ℕ) → Transforms r.edits t u ↔ old_transforms old t u
 one_alike old r b = (squash_as_one old.first old.others).equivalent r.edits b.squashed
 
-pub turn_alike : (olds : List OldRecord) (rs : List JournalEntry) → MigrateAllTo olds rs → (t u : List ℕ) → journal_transforms rs t u ↔ TransformsInOrder old_transforms olds t u
-turn_alike [] [] b t u = (λ h. h, λ h. h)
-turn_alike [] (r ∷ rs) b t u = absurd b
-turn_alike (old ∷ olds) [] b t u = absurd b
-turn_alike (old ∷ olds) (r ∷ rs) b t u = (
-  λ h. (h.0, (one_alike old r b.0 t h.0).0 h.1, (turn_alike olds rs b.1 h.0 u).0 h.2),
-  λ h. (h.0, (one_alike old r b.0 t h.0).1 h.1, (turn_alike olds rs b.1 h.0 u).1 h.2),
+pub transform_alike : (olds : List OldRecord) (rs : List JournalEntry) → MigrateAllTo olds rs → (t u : List ℕ) → journal_transforms rs t u ↔ TransformsInOrder old_transforms olds t u
+transform_alike [] [] b t u = (λ h. h, λ h. h)
+transform_alike [] (r ∷ rs) b t u = absurd b
+transform_alike (old ∷ olds) [] b t u = absurd b
+transform_alike (old ∷ olds) (r ∷ rs) b t u = (
+  λ h. (h.0, (one_alike old r b.0 t h.0).0 h.1, (transform_alike olds rs b.1 h.0 u).0 h.2),
+  λ h. (h.0, (one_alike old r b.0 t h.0).1 h.1, (transform_alike olds rs b.1 h.0 u).1 h.2),
 )

@@ -16,9 +16,9 @@ pub valid_again : (e : EditList) → IsValidList e → make_edits e.old_len e.en
 valid_again e m = (make_is_exact e.old_len e.entries e).1 (refl, m)
 
 -- edits remove no more bytes than there are
-pub room : (old_len from : ℕ) (es : List EditEntry) → AreDisjoint old_len from es → from + removed_len es ≤ old_len
-room old_len from [] p = omega (arith, p)
-room old_len from (e ∷ es) p = let r = room old_len (e.at + length e.removed) es p.1 in let q = p.0.later in omega arith
+pub within_len : (old_len from : ℕ) (es : List EditEntry) → AreDisjoint old_len from es → from + removed_len es ≤ old_len
+within_len old_len from [] p = omega (arith, p)
+within_len old_len from (e ∷ es) p = let r = within_len old_len (e.at + length e.removed) es p.1 in let q = p.0.later in omega arith
 
 have_text : (old_len from : ℕ) (es : List EditEntry) → AreDisjoint old_len from es → old_len ≤ MAX_TEXT → added_len es ≤ MAX_TEXT → AllByRecursion NumbersFit es × (length es ≤ removed_len es + added_len es)
 have_text old_len from [] p old_fits new_fits = (tt, omega arith)
@@ -39,6 +39,6 @@ has_numbers e m =
     let new = m.new in
     let old_fits = m.old_fits in
     let new_fits = m.new_fits in
-    let fewer = room e.old_len 0 e.entries m.disjoint in
+    let fewer = within_len e.old_len 0 e.entries m.disjoint in
     let h = have_text e.old_len 0 e.entries m.disjoint m.old_fits (omega (arith, fewer)) in
     record { old_len = omega arith; count = omega (arith, h.1, fewer); edits = h.0 }

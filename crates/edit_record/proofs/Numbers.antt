@@ -20,9 +20,9 @@ digit_bounds c e = let b = both_true (nat_le 48 c) (nat_le c 57) e in (leb-true 
 more_digits : (value c : ℕ) (t : List ℕ) → with_digit value c < 2 ^ 64 → is_digit c ≡ true → 0 < value → decimal (with_digit value c) ++ t ≡ decimal value ++ c ∷ t
 more_digits value c t small digit some =
     let d = digit_bounds c digit in
-    let front : with_digit value c / 10 ≡ value = omega (arith, d.0, d.1) in
+    let leading : with_digit value c / 10 ≡ value = omega (arith, d.0, d.1) in
     let end : 48 + with_digit value c % 10 ≡ c = omega (arith, d.0, d.1) in
-    ap (λ x. x ++ t) (decimal_step (with_digit value c) (omega (arith, d.0)) small ∙ (λ i. decimal (front i) ++ (end i ∷ [])))
+    ap (λ x. x ++ t) (decimal_step (with_digit value c) (omega (arith, d.0)) small ∙ (λ i. decimal (leading i) ++ (end i ∷ [])))
     ∙ append_assoc (decimal value) (c ∷ []) t
 
 first_digit : (c : ℕ) (t : List ℕ) → is_digit c ≡ true → decimal (with_digit 0 c) ++ t ≡ c ∷ t

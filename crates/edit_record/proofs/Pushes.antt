@@ -13,9 +13,9 @@ joined old mid new a b whole first second is =
 -- an edit, whose removed and added bytes begin one list
 pub edit_pushed : (at removed added : ℕ) (texts t0 t1 t2 t3 t4 t5 t6 t7 : List ℕ) → removed + added ≤ length texts → t1 ≡ t0 ++ number_text space at → t2 ≡ t1 ++ decimal removed → t3 ≡ t2 ++ space ∷ [] → t4 ≡ t3 ++ decimal added → t5 ≡ t4 ++ newline ∷ [] → t6 ≡ t5 ++ take (removed + added) texts → t7 ≡ t6 ++ newline ∷ [] → t7 ≡ t0 ++ edit_text (record { at = at; removed = take removed texts; added = take added (drop removed texts) })
 edit_pushed at removed added texts t0 t1 t2 t3 t4 t5 t6 t7 fits e1 e2 e3 e4 e5 e6 e7 =
-    let cut : length (take removed texts) ≡ removed = length-take-le removed texts (omega arith) in
+    let split_is : length (take removed texts) ≡ removed = length-take-le removed texts (omega arith) in
     let new : length (take added (drop removed texts)) ≡ added = length-take-le added (drop removed texts) (omega (arith, length-drop removed texts)) in
-    rw (e7, e6, e5, e4, e3, e2, e1, take-add removed added texts, cut, new) (simp append_assoc)
+    rw (e7, e6, e5, e4, e3, e2, e1, take-add removed added texts, split_is, new) (simp append_assoc)
 
 parts_len : (a b c r s : List ℕ) → length a + length b + length c + length r + length s + 4 ≡ length ((a ++ space ∷ []) ++ (b ++ space ∷ []) ++ (c ++ newline ∷ []) ++ r ++ s ++ newline ∷ [])
 parts_len a b c r s = sym (simp length-append (omega arith))

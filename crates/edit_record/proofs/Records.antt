@@ -13,7 +13,7 @@ use Rattle.edit_record.specs.Text.{space, newline, number_text, edit_text, list_
 use Rattle.edit_record.specs.declared.fault.FaultKind.TheVariants.{Head, End}
 use Rattle.edit_record.specs.Parsing.{strip, expect, number_at, edits_at, if_valid, list_head_at, edit_list_at, word_of, bare_word_at, word_at, record_at}
 use Rattle.edit_record.specs.OldParsing.{step_at, steps_at, OldHead, old_head_at, old_record_at}
-use Rattle.edit_record.proofs.Choices.{ok_is, through, through_one, goes_on, part}
+use Rattle.edit_record.proofs.Choices.{ok_is, through, through_one, continues_with, part}
 use Rattle.edit_record.proofs.Many.{many_take, many_again}
 use Rattle.edit_record.proofs.Numbers.{number_takes, number_again}
 use Rattle.edit_record.proofs.Heads.{list_head_takes, list_head_again}
@@ -45,8 +45,8 @@ list_again left e rest made_e =
     let head = list_head e.old_len (length e.entries) in
     let last : if_valid left (make_edits e.old_len e.entries) rest ≡ Ok (e, rest) = rw (valid_again e made_e) refl in
     let read : edit_list_at left (head ++ t1) ≡ Ok (e, rest) =
-    goes_on (list_head_at (head ++ t1)) _ ((e.old_len, length e.entries), t1) _ (list_head_again e.old_len (length e.entries) t1 n.old_len n.count)
-    (goes_on (edits_at (length e.entries) t1) _ (e.entries, rest) _ (edits_again e.entries rest n.edits) last) in
+    continues_with (list_head_at (head ++ t1)) _ ((e.old_len, length e.entries), t1) _ (list_head_again e.old_len (length e.entries) t1 n.old_len n.count)
+    (continues_with (edits_at (length e.entries) t1) _ (e.entries, rest) _ (edits_again e.entries rest n.edits) last) in
     ap (edit_list_at left) (append_assoc head (flat_map edit_text e.entries) rest) ∙ read
 
 -- the word without the space after it
@@ -105,8 +105,8 @@ record_again r rest made_r =
     let t1 = word_text r.word ++ t2 in
     let t0 = codes "tfrec 2 " ++ t1 in
     let read : record_at t0 ≡ Ok (r, rest) =
-    goes_on (word_at t1) _ (r.word, t2) _ (word_again r.word t2)
-    (goes_on (edit_list_at (length t0) t2) _ (r.edits, t3) _ (list_again (length t0) r.edits t3 made_r) refl) in
+    continues_with (word_at t1) _ (r.word, t2) _ (word_again r.word t2)
+    (continues_with (edit_list_at (length t0) t2) _ (r.edits, t3) _ (list_again (length t0) r.edits t3 made_r) refl) in
     ap record_at (three (codes "tfrec 2 ") (word_text r.word) (list_text r.edits) (codes "end\n") rest) ∙ read
 
 pub step_takes : (t : List ℕ) (e : EditList) (rest : List ℕ) → step_at t ≡ Ok (e, rest) → (t ≡ step_text e ++ rest) × IsValidList e
@@ -185,10 +185,10 @@ old_again r rest old =
     let others_are : steps_at (length (steps r) - 1) t4 ≡ Ok (r.others, t5) = ap (λ (k : ℕ). steps_at k t4) (sym others) ∙ steps_again r.others t5 old.made.1 in
     let head : OldHead = record { word = r.word; first = r.first; others = length (steps r) - 1 } in
     let head_is : old_head_at t0 ≡ Ok (head, t4) =
-    goes_on (word_at t1) _ (r.word, t2) _ (word_again r.word t2)
-    (goes_on (number_at 1 64 newline t2) _ (length (steps r), t3) _ (number_again 1 64 newline (length (steps r)) t3 (omega arith) refl some old.within_limit)
-    (goes_on (step_at t3) _ (r.first, t4) _ first_is refl)) in
+    continues_with (word_at t1) _ (r.word, t2) _ (word_again r.word t2)
+    (continues_with (number_at 1 64 newline t2) _ (length (steps r), t3) _ (number_again 1 64 newline (length (steps r)) t3 (omega arith) refl some old.within_limit)
+    (continues_with (step_at t3) _ (r.first, t4) _ first_is refl)) in
     let read : old_record_at t0 ≡ Ok (r, rest) =
-    goes_on (old_head_at t0) _ (head, t4) _ head_is
-    (goes_on (steps_at (length (steps r) - 1) t4) _ (r.others, t5) _ others_are refl) in
+    continues_with (old_head_at t0) _ (head, t4) _ head_is
+    (continues_with (steps_at (length (steps r) - 1) t4) _ (r.others, t5) _ others_are refl) in
     ap old_record_at (four (codes "tfrec 1 ") (word_text r.word) (number_text newline (length (steps r))) (flat_map step_text (steps r)) (codes "end\n") rest) ∙ read

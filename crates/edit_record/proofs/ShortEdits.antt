@@ -7,7 +7,7 @@ use Rattle.edit_record.specs.Text.{space, newline, max_number, number_text}
 use Rattle.edit_record.specs.declared.fault.FaultKind.TheVariants.{End}
 use Rattle.edit_record.specs.Parsing.{is_digit, expect, number_at, bytes_at, edit_head_at, edit_at}
 use Rattle.edit_record.specs.Inner.EditLengths.{lengths_at, after_head_at}
-use Rattle.edit_record.proofs.Choices.{ok_is, through, goes_on}
+use Rattle.edit_record.proofs.Choices.{ok_is, through, continues_with}
 use Rattle.edit_record.proofs.Numbers.{number_again}
 
 bytes_read : (n : ℕ) (t : List ℕ) → n ≤ length t → bytes_at n t ≡ Ok (take n t, drop n t)
@@ -28,8 +28,8 @@ one_digit stop c rest no_digit low high =
 pub two_digits_read : (r a : ℕ) (t rest : List ℕ) → t ≡ r ∷ space ∷ a ∷ newline ∷ rest → 48 ≤ r → r ≤ 57 → 48 ≤ a → a ≤ 57 → lengths_at t ≡ Ok ((r - 48, a - 48), rest)
 two_digits_read r a t rest is r_low r_high a_low a_high =
     ap lengths_at is
-    ∙ goes_on (number_at 0 max_number space (r ∷ space ∷ a ∷ newline ∷ rest)) _ (r - 48, a ∷ newline ∷ rest) _ (one_digit space r (a ∷ newline ∷ rest) refl r_low r_high)
-    (goes_on (number_at 0 max_number newline (a ∷ newline ∷ rest)) _ (a - 48, rest) _ (one_digit newline a rest refl a_low a_high)
+    ∙ continues_with (number_at 0 max_number space (r ∷ space ∷ a ∷ newline ∷ rest)) _ (r - 48, a ∷ newline ∷ rest) _ (one_digit space r (a ∷ newline ∷ rest) refl r_low r_high)
+    (continues_with (number_at 0 max_number newline (a ∷ newline ∷ rest)) _ (a - 48, rest) _ (one_digit newline a rest refl a_low a_high)
     refl)
 
 -- the place, and then the lengths
@@ -39,19 +39,19 @@ head_read t at removed added t1 rest place lengths =
     through (number_at 0 max_number space t1) _ ((removed, added), rest) lengths λ r t2 r_is e1.
     through (number_at 0 max_number newline t2) _ ((removed, added), rest) e1 λ a t3 a_is e2.
     let head : edit_head_at t ≡ Ok ((at, removed, added), rest) =
-    goes_on (number_at 0 max_number space t) _ (at, t1) _ place
-    (goes_on (number_at 0 max_number space t1) _ (r, t2) _ r_is
-    (goes_on (number_at 0 max_number newline t2) _ (a, t3) _ a_is
+    continues_with (number_at 0 max_number space t) _ (at, t1) _ place
+    (continues_with (number_at 0 max_number space t1) _ (r, t2) _ r_is
+    (continues_with (number_at 0 max_number newline t2) _ (a, t3) _ a_is
     (ap (λ (x : (ℕ × ℕ) × List ℕ). Ok ((at, x.0.0, x.0.1), x.1)) (ok_is ((r, a), t3) ((removed, added), rest) e2)))) in
-    goes_on (edit_head_at t) _ ((at, removed, added), rest) _ head refl
+    continues_with (edit_head_at t) _ ((at, removed, added), rest) _ head refl
 
 pub edit_read : (at removed added : ℕ) (rest after : List ℕ) → removed + added ≤ length rest → drop (removed + added) rest ≡ newline ∷ after → after_head_at at removed added rest ≡ Ok (record { at = at; removed = take removed rest; added = take added (drop removed rest) }, after)
 unfolding after_head_at
 edit_read at removed added rest after spare end =
-    let behind = drop removed rest in
-    goes_on (bytes_at removed rest) _ (take removed rest, behind) _ (bytes_read removed rest (omega arith))
-    (goes_on (bytes_at added behind) _ (take added behind, drop added behind) _ (bytes_read added behind (omega (arith, length-drop removed rest)))
-    (goes_on (expect (newline ∷ []) End (drop added behind)) _ after _ (line_end (drop added behind) after (drop-drop added removed rest ∙ end))
+    let following = drop removed rest in
+    continues_with (bytes_at removed rest) _ (take removed rest, following) _ (bytes_read removed rest (omega arith))
+    (continues_with (bytes_at added following) _ (take added following, drop added following) _ (bytes_read added following (omega (arith, length-drop removed rest)))
+    (continues_with (expect (newline ∷ []) End (drop added following)) _ after _ (line_end (drop added following) after (drop-drop added removed rest ∙ end))
     refl))
 
 -- the bytes of both texts are in the first ones

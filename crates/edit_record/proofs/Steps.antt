@@ -15,7 +15,7 @@ use Rattle.edit_record.specs.Parsing.{expect, repeat_at}
 use Rattle.edit_record.specs.OldParsing.{step_at, steps_at, OldHead, old_head_at, old_record_at, SquashAt, StepsError, OldRecordError}
 use Rattle.edit_record.specs.Inner.Allocating.{is_ok_and, old_head_allocates, steps_allocate, old_record_allocates}
 use Rattle.edit_record.specs.Inner.ParseResults.{IsStop, IsStopFor, IsSquashOrStop, OldRecordAt, HasError}
-use Rattle.edit_record.proofs.Choices.{ok_is, err_ok, through, through_one, goes_on}
+use Rattle.edit_record.proofs.Choices.{ok_is, err_ok, through, through_one, continues_with}
 
 pub squash_unique : (a b c d : EditList) → IsSquash a b c → IsSquash a b d → c ≡ d
 squash_unique a b c d h k = (squash_as_one a (b ∷ [])).one c d (c, h, refl) (d, k, refl)
@@ -29,7 +29,7 @@ onward : (a next both : EditList) (n : ℕ) (t after : List ℕ) → step_at t �
 unfolding steps_at
 onward a next both n t after next_is both_is e rest h = (
   next ∷ h.0,
-  goes_on (step_at t) _ (next, after) _ next_is (goes_on (repeat_at step_at n after) _ (h.0, rest) _ h.1 refl),
+  continues_with (step_at t) _ (next, after) _ next_is (continues_with (repeat_at step_at n after) _ (h.0, rest) _ h.1 refl),
   (both, both_is, h.2),
 )
 
@@ -161,14 +161,14 @@ pub no_end : (t t1 t2 : List ℕ) (head : OldHead) (edits : EditList) (bad : Tex
 unfolding old_record_at
 no_end t t1 t2 head edits bad head_is others none =
     let nothing : old_record_at t ≡ Err bad =
-    goes_on (old_head_at t) _ (head, t1) _ head_is (goes_on (steps_at head.others t1) _ (others.0, t2) _ others.1 (rw none refl)) in
+    continues_with (old_head_at t) _ (head, t1) _ head_is (continues_with (steps_at head.others t1) _ (others.0, t2) _ others.1 (rw none refl)) in
     none_old t bad nothing
 
 pub old_is : (t t1 t2 t3 : List ℕ) (head : OldHead) (edits : EditList) → old_head_at t ≡ Ok (head, t1) → SquashAt head.first head.others t1 edits t2 → expect (codes "end\n") End t2 ≡ Ok t3 → OldRecordAt t (record { word = head.word; edits = edits }) t3
 unfolding old_record_at
 old_is t t1 t2 t3 head edits head_is others end_is = (
   record { word = head.word; first = head.first; others = others.0 },
-  goes_on (old_head_at t) _ (head, t1) _ head_is (goes_on (steps_at head.others t1) _ (others.0, t2) _ others.1 (goes_on (expect (codes "end\n") End t2) _ t3 _ end_is refl)),
+  continues_with (old_head_at t) _ (head, t1) _ head_is (continues_with (steps_at head.others t1) _ (others.0, t2) _ others.1 (continues_with (expect (codes "end\n") End t2) _ t3 _ end_is refl)),
   refl,
   others.2,
 )

@@ -60,14 +60,14 @@ module _ (ts : List Token) (b : ℕ) (answers : FileParserIsExact) where
   no_memory (Ok x) new h = tt
   no_memory (Err f) new h = not_memory f (none.file ts b 0) h
 
-  pub told_of : (r : Result (Unit {0}) TokenFault) (new : ℕ) → ReadsExactly (q.file ts b 0) r new → IsCheckResult ts b r
-  told_of r new h = record { derived = derived r new h; only = only r new h; deeper = deeper r new h; no_memory = no_memory r new h }
+  pub result_of : (r : Result (Unit {0}) TokenFault) (new : ℕ) → ReadsExactly (q.file ts b 0) r new → IsCheckResult ts b r
+  result_of r new h = record { derived = derived r new h; only = only r new h; deeper = deeper r new h; no_memory = no_memory r new h }
 
 -- what is read by a reader of a text is read of the text's own tokens
-pub its_told : (ts : List Token) {here : ReaderState} {r s : Result (Unit {0}) TokenFault} (new : ℕ) → FileParserIsExact → here ≡ record { tokens = ts; skip_newlines = false; depth = MAX_NESTING } → r ≡ s
+pub own_result : (ts : List Token) {here : ReaderState} {r s : Result (Unit {0}) TokenFault} (new : ℕ) → FileParserIsExact → here ≡ record { tokens = ts; skip_newlines = false; depth = MAX_NESTING } → r ≡ s
     → ReadsExactly (q.file here.tokens here.depth 0) r new → IsCheckResult ts MAX_NESTING s
-its_told ts {here} {r} {s} new answers e same h =
-    told_of ts MAX_NESTING answers s new (subst (λ (h : ReaderState). ReadsExactly (q.file h.tokens h.depth 0) s new) e (subst (λ (o : Result (Unit {0}) TokenFault). ReadsExactly (q.file here.tokens here.depth 0) o new) same h))
+own_result ts {here} {r} {s} new answers e same h =
+    result_of ts MAX_NESTING answers s new (subst (λ (h : ReaderState). ReadsExactly (q.file h.tokens h.depth 0) s new) e (subst (λ (o : Result (Unit {0}) TokenFault). ReadsExactly (q.file here.tokens here.depth 0) o new) same h))
 
 pub deep_by_bytes : (s : TokenizedText) (f : TokenFault) → IsDeep f → IsTooDeep (to_parse_fault s f)
 deep_by_bytes s (TooDeep at) h = tt

@@ -27,9 +27,9 @@ at_kind [] i d k h = absurd (cc)
 at_kind (t ∷ ts) zero d k h = (omega arith, cc)
 at_kind (t ∷ ts) (suc i) d k h = let r = at_kind ts i d k h in (omega (arith, r.0), r.1)
 
-pub start-past : (pairs : List Pair) (skip_newlines : Bool) (i : ℕ) → length pairs ≤ i → next_index (tokens_of pairs) skip_newlines i ≡ i
+pub start-at-end : (pairs : List Pair) (skip_newlines : Bool) (i : ℕ) → length pairs ≤ i → next_index (tokens_of pairs) skip_newlines i ≡ i
 unfolding next_index
-start-past pairs skip_newlines i h = omega (arith, prefix_len-drop_all (λ (t : Token). is_skipped skip_newlines t.0) (tokens_of pairs) i (omega (arith, h, length-tokens pairs)))
+start-at-end pairs skip_newlines i h = omega (arith, prefix_len-drop_all (λ (t : Token). is_skipped skip_newlines t.0) (tokens_of pairs) i (omega (arith, h, length-tokens pairs)))
 
 pub start-kept : (pairs : List Pair) (skip_newlines : Bool) (i : ℕ) (k : Kind) → Some k ≡ kind_of pairs i → is_skipped skip_newlines k ≡ false → next_index (tokens_of pairs) skip_newlines i ≡ i
 unfolding next_index
@@ -45,12 +45,12 @@ start-dropped pairs skip_newlines i k h e =
     let r = at_kind (tokens_of pairs) i d k (token-kind pairs i ∙ sym h) in
     omega (arith, prefix_len-drop_yes (λ (t : Token). is_skipped skip_newlines t.0) (tokens_of pairs) i d r.0 (ap (is_skipped skip_newlines) r.1 ∙ e))
 
-pub ruleset places = (start-past, start-kept, start-dropped, token-kind)
+pub ruleset places = (start-at-end, start-kept, start-dropped, token-kind)
 
 -- past the last token, none comes next
-pub next-past : (pairs : List Pair) (skip_newlines : Bool) (at i : ℕ) → next_index (tokens_of pairs) skip_newlines i ≡ next_index (tokens_of pairs) skip_newlines at → length pairs ≤ i → next_kind (tokens_of pairs) skip_newlines at ≡ None
+pub next-at-end : (pairs : List Pair) (skip_newlines : Bool) (at i : ℕ) → next_index (tokens_of pairs) skip_newlines i ≡ next_index (tokens_of pairs) skip_newlines at → length pairs ≤ i → next_kind (tokens_of pairs) skip_newlines at ≡ None
 unfolding next_kind next_token
-next-past pairs skip_newlines at i e h = rw (sym e ∙ start-past pairs skip_newlines i h) (token-kind pairs i ∙ ap (option_map (λ (p : Pair). p.kind)) (slice_get_past pairs i h))
+next-at-end pairs skip_newlines at i e h = rw (sym e ∙ start-at-end pairs skip_newlines i h) (token-kind pairs i ∙ ap (option_map (λ (p : Pair). p.kind)) (slice_get_past pairs i h))
 
 -- where no token comes next, no word does
 pub unread : (ts : List Token) (skip_newlines : Bool) (w : List ℕ) (i : ℕ) → next_kind ts skip_newlines i ≡ None → next_is_word ts skip_newlines w i ≡ false

@@ -5,8 +5,8 @@ use Rattle.hcl_grammar.specs.declared.fault.TokenFault.{TokenFault}
 use Rattle.hcl_grammar.specs.Pure.Reading.{Outcome, Step, and_then, ReadsExactly, Reads}
 
 -- in a turn, one more is left
-pub turn_left : {X : Type 0} {r : X} (left : ℕ → X) {fuel turn : ℕ} → turn < fuel → r ≡ left (fuel - turn) → r ≡ left (suc (fuel - (turn + 1)))
-turn_left left {fuel} {turn} skip_newlines e = let count : fuel - turn ≡ suc (fuel - (turn + 1)) = omega (arith, skip_newlines) in e ∙ ap left count
+pub one_left : {X : Type 0} {r : X} (left : ℕ → X) {fuel turn : ℕ} → turn < fuel → r ≡ left (fuel - turn) → r ≡ left (suc (fuel - (turn + 1)))
+one_left left {fuel} {turn} skip_newlines e = let count : fuel - turn ≡ suc (fuel - (turn + 1)) = omega (arith, skip_newlines) in e ∙ ap left count
 
 -- after the last, none is left
 pub none_left : {X : Type 0} {r : X} (left : ℕ → X) {fuel turn : ℕ} → fuel ≤ turn → r ≡ left (fuel - turn) → r ≡ left 0

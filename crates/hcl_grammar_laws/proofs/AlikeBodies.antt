@@ -39,13 +39,13 @@ module _ {ts us : List Token} (h : Alike ts us) where
       (line_block (at0 h _ _ p) (subst (λ z. IsLabels us ls z j) (a1 h false i) (same_labels labels)) (at0 h _ _ begin) (subst (λ z. IsOneLineBody us d a z o) (a1 h false j) (same_on_line on))
       (at0 h _ _ close) (subst (λ z. IsEol us z q) (a1 h false o) (same_eol h end)) (same_members rest))
 
-  same_front : {i : ℕ} → IsOptionalMark ts i → IsOptionalMark us i
-  same_front no_mark = no_mark
-  same_front (mark p) = rw (a1 h false 0) (mark (at0 h _ _ p))
+  same_mark : {i : ℕ} → IsOptionalMark ts i → IsOptionalMark us i
+  same_mark no_mark = no_mark
+  same_mark (mark p) = rw (a1 h false 0) (mark (at0 h _ _ p))
 
   same_last : {i : ℕ} → IsFileEnd ts i → IsFileEnd us i
   same_last (at_end p) = at_end (is0 h _ _ p)
   same_last (at_comment p q) = at_comment (at0 h _ _ p) (is1 h _ _ _ q)
 
   pub same_file : {d : ℕ} {t : Tree} → IsFile ts d t → IsFile us d t
-  same_file (file {ms} {i} {j} p q r) = rw (sym h.lengths, first0 h false i j) (file (same_front p) (same_members q) (same_last r))
+  same_file (file {ms} {i} {j} p q r) = rw (sym h.lengths, first0 h false i j) (file (same_mark p) (same_members q) (same_last r))

@@ -23,7 +23,7 @@ use Rattle.hcl_grammar_laws.proofs.Ahead.{Stops, stops_at, sees-not, sees-other}
 use Rattle.hcl_grammar_laws.proofs.Complete.{nested, c_expr}
 use Rattle.hcl_grammar_laws.proofs.Lines.{NoLine, no_line, line-yes, NoInner, no_inner, no_inner_at, inner-yes}
 use Rattle.hcl_grammar_laws.proofs.Spans.{step, span_line, span_eol, span_expr, span_labels, span_on_line, span_members}
-use Rattle.hcl_grammar_laws.proofs.Steps.{Answers, found, deep, bind, deeper_found, sees-yes, past-yes, past-no, expect-yes}
+use Rattle.hcl_grammar_laws.proofs.Steps.{Answers, found, deep, bind, deeper_found, sees-yes, if_next-yes, if_next-no, expect-yes}
 
 module _ (ts : List Token) where
   pub unlike : (t : Kind) (i : ℕ) → next_kind ts false i ≡ None → next_is ts false t i ≡ false
@@ -46,13 +46,13 @@ module _ (ts : List Token) where
 
   pub line-no : (i : ℕ) → NextIs ts false k.LineComment i → next_kind ts false (after_next ts false i) ≡ None → p.eat_newline ts i ≡ Ok (false, i)
   unfolding p.eat_newline
-  line-no i q h = rw (past-yes ts false k.LineComment i q, unlike k.LineEnd (after_next ts false i) h)
+  line-no i q h = rw (if_next-yes ts false k.LineComment i q, unlike k.LineEnd (after_next ts false i) h)
 
   eol-yes : {i j : ℕ} → IsEol ts i j → bodies.eol ts i ≡ Ok (tt, j)
   unfolding bodies.eol
   eol-yes (eol_line q) = rw (line-yes q)
-  eol-yes (eol_end {i} h) = let n = unlike k.LineComment i h in rw ((no_line_end i h).is, past-no ts false k.LineComment i n, h)
-  eol-yes (eol_comment {i} q h) = rw (line-no i q h, past-yes ts false k.LineComment i q, h)
+  eol-yes (eol_end {i} h) = let n = unlike k.LineComment i h in rw ((no_line_end i h).is, if_next-no ts false k.LineComment i n, h)
+  eol-yes (eol_comment {i} q h) = rw (line-no i q h, if_next-yes ts false k.LineComment i q, h)
 
   pub eol_stop : {i j : ℕ} → IsEol ts i j → Stops 8 ts false i
   eol_stop (eol_line (line_end q)) = stops_at 8 k.LineEnd q (omega arith)
@@ -81,14 +81,14 @@ module _ (ts : List Token) where
       → bodies.label_of ts i ≡ Ok (Some (node.label (next_index ts false i) (after_next ts false (after_next ts false (after_next ts false i))) (Some (next_index ts false (after_next ts false i)))), after_next ts false (after_next ts false (after_next ts false i)))
   unfolding bodies.quoted_label
   label_text i a b c =
-      rw (label-at (Some k.QuoteOpen) i a, sees-yes ts false k.QuoteLit (after_next ts false i) b, past-yes ts false k.QuoteLit (after_next ts false i) b, expect-yes ts false k.QuoteClose (after_next ts false (after_next ts false i)) c)
+      rw (label-at (Some k.QuoteOpen) i a, sees-yes ts false k.QuoteLit (after_next ts false i) b, if_next-yes ts false k.QuoteLit (after_next ts false i) b, expect-yes ts false k.QuoteClose (after_next ts false (after_next ts false i)) c)
 
   label_empty : (i : ℕ) → NextIs ts false k.QuoteOpen i → NextIs ts false k.QuoteClose (after_next ts false i)
       → bodies.label_of ts i ≡ Ok (Some (node.label (next_index ts false i) (after_next ts false (after_next ts false i)) None), after_next ts false (after_next ts false i))
   unfolding bodies.quoted_label same_kind
   label_empty i a c =
       let n = sees-other ts false k.QuoteClose k.QuoteLit (after_next ts false i) c refl in
-      rw (label-at (Some k.QuoteOpen) i a, n, past-no ts false k.QuoteLit (after_next ts false i) n, expect-yes ts false k.QuoteClose (after_next ts false i) c)
+      rw (label-at (Some k.QuoteOpen) i a, n, if_next-no ts false k.QuoteLit (after_next ts false i) n, expect-yes ts false k.QuoteClose (after_next ts false i) c)
 
   labels-yes : {ls : List Label} {i j : ℕ} → IsLabels ts ls i j → NextIs ts false k.OpenBrace j → (turns : ℕ) (acc : List Label) → j ≤ turns + i → bodies.labels_from ts turns acc i ≡ Ok (acc ++ ls, j)
   labels-yes (no_labels {i}) s turns acc l = labels-end turns acc i s ∙ ap (λ xs. Ok (xs, i)) (sym (append-nil acc))
@@ -130,12 +130,12 @@ module _ (ts : List Token) where
   members_end : {d a : ℕ} (turns : ℕ) (acc : List Member) (i : ℕ) → Ends i → Answers d a acc i (bodies.members_from ts a (deeper_members ts a) turns acc i)
   unfolding bodies.members_from bodies.member_of
   members_end zero acc i s = found
-  members_end (suc turns) acc i s = rw (s.no_line.is, s.no_name, past-no ts false k.Identifier i s.no_name) found
+  members_end (suc turns) acc i s = rw (s.no_line.is, s.no_name, if_next-no ts false k.Identifier i s.no_name) found
 
-  members_blank : {d a : ℕ} {ys : List Member} {j l : ℕ} (turns : ℕ) (acc : List Member) (i : ℕ) → IsNewline ts i j → Answers d a ys l (bodies.members_from ts a (deeper_members ts a) turns acc j)
+  members_newline : {d a : ℕ} {ys : List Member} {j l : ℕ} (turns : ℕ) (acc : List Member) (i : ℕ) → IsNewline ts i j → Answers d a ys l (bodies.members_from ts a (deeper_members ts a) turns acc j)
       → Answers d a ys l (bodies.members_from ts a (deeper_members ts a) (suc turns) acc i)
   unfolding bodies.members_from
-  members_blank turns acc i q r = rw (line-yes q) r
+  members_newline turns acc i q r = rw (line-yes q) r
 
   -- a member, and those after it
   members_more : {d a : ℕ} {x : Member} {ys : List Member} {n l : ℕ} (turns : ℕ) (acc : List Member) (i : ℕ) → NextIs ts false k.Identifier i
@@ -143,21 +143,21 @@ module _ (ts : List Token) where
       → Answers d a ys l (bodies.members_from ts a (deeper_members ts a) turns (acc ++ x ∷ []) n)
       → Answers d a ys l (bodies.members_from ts a (deeper_members ts a) (suc turns) acc i)
   unfolding bodies.members_from bodies.member_of
-  members_more turns acc i q x more = rw ((no_line_name i q).is, sees-yes ts false k.Identifier i q, past-yes ts false k.Identifier i q) (bind _ (bind _ x found) more)
+  members_more turns acc i q x more = rw ((no_line_name i q).is, sees-yes ts false k.Identifier i q, if_next-yes ts false k.Identifier i q) (bind _ (bind _ x found) more)
 
   pub member_attribute : {d a : ℕ} {e : Expr} {j n : ℕ} (first i : ℕ) → NextIs ts false k.Equal i → Answers d a e j (p.expr ts a false Whole (after_next ts false i)) → IsEol ts j n
       → Answers d a (member.Attribute (node.attribute first n e)) n (bodies.attribute_or_block ts a (deeper_members ts a) first i)
   unfolding bodies.attribute_or_block bodies.attribute_by
-  member_attribute first i e x l = rw (sees-yes ts false k.Equal i e, past-yes ts false k.Equal i e) (bind _ x (rw (eol-yes l) found))
+  member_attribute first i e x l = rw (sees-yes ts false k.Equal i e, if_next-yes ts false k.Equal i e) (bind _ x (rw (eol-yes l) found))
 
   pub member_block : {d : ℕ} {ls : List Label} {x : Content} {j o q : ℕ} (first i : ℕ) → IsLabels ts ls i j → NextIs ts false k.OpenBrace j → NextIs ts false k.CloseBrace o → IsEol ts (after_next ts false o) q → (b : ℕ)
       → ((a : ℕ) → Answers d a x o (bodies.block_content ts (suc a) (bodies.members ts a) (after_next ts false j)))
       → Answers (suc d) b (node.block first q ls x) q (bodies.attribute_or_block ts b (deeper_members ts b) first i)
   unfolding bodies.attribute_or_block bodies.block_by
   member_block {j} {o} first i ls br cl el zero x =
-      rw (not_equals ls br, past-no ts false k.Equal i (not_equals ls br), labels_all ls br, expect-yes ts false k.OpenBrace j br) (deep (omega arith))
+      rw (not_equals ls br, if_next-no ts false k.Equal i (not_equals ls br), labels_all ls br, expect-yes ts false k.OpenBrace j br) (deep (omega arith))
   member_block {j} {o} first i ls br cl el (suc a) x =
-      rw (not_equals ls br, past-no ts false k.Equal i (not_equals ls br), labels_all ls br, expect-yes ts false k.OpenBrace j br)
+      rw (not_equals ls br, if_next-no ts false k.Equal i (not_equals ls br), labels_all ls br, expect-yes ts false k.OpenBrace j br)
       (bind _ (deeper_found (x a)) (rw (expect-yes ts false k.CloseBrace o cl, eol-yes el) found))
 
   pub content_lines : {d a : ℕ} {bs : List Member} {n o : ℕ} (i : ℕ) → IsNewline ts i n → Answers d a bs o (bodies.members ts a n)
@@ -167,12 +167,12 @@ module _ (ts : List Token) where
 
   content_empty : {d a : ℕ} (i : ℕ) → NextIs ts false k.CloseBrace i → Answers d a (content.OneLine None) i (bodies.block_content ts (suc a) (bodies.members ts a) i)
   unfolding bodies.block_content bodies.one_line_body same_kind
-  content_empty i h = let n = sees-other ts false k.CloseBrace k.Identifier i h refl in rw ((no_inner_at ts i h).is, n, past-no ts false k.Identifier i n) found
+  content_empty i h = let n = sees-other ts false k.CloseBrace k.Identifier i h refl in rw ((no_inner_at ts i h).is, n, if_next-no ts false k.Identifier i n) found
 
   content_one : {d a : ℕ} {e : Expr} {j : ℕ} (i : ℕ) → NextIs ts false k.Identifier i → NextIs ts false k.Equal (after_next ts false i) → Answers d a e j (p.expr ts a false Whole (after_next ts false (after_next ts false i)))
       → Answers d a (content.OneLine (Some (node.attribute (next_index ts false i) j e))) j (bodies.block_content ts (suc a) (bodies.members ts a) i)
   unfolding bodies.block_content bodies.one_line_body
-  content_one i h q x = rw ((no_inner_name i h).is, sees-yes ts false k.Identifier i h, past-yes ts false k.Identifier i h, expect-yes ts false k.Equal (after_next ts false i) q) (bind _ x found)
+  content_one i h q x = rw ((no_inner_name i h).is, sees-yes ts false k.Identifier i h, if_next-yes ts false k.Identifier i h, expect-yes ts false k.Equal (after_next ts false i) q) (bind _ x found)
 
   pub c_on_line : {d : ℕ} {x : Option Attribute} {i j : ℕ} → IsOneLineBody ts d x i j → NextIs ts false k.CloseBrace j → (a : ℕ) → Answers d a (content.OneLine x) j (bodies.block_content ts (suc a) (bodies.members ts a) i)
   c_on_line (nothing {i}) h a = content_empty i h
@@ -187,7 +187,7 @@ module _ (ts : List Token) where
       → Answers d b (acc ++ ms) j (bodies.members_from ts b (deeper_members ts b) turns acc i)
   c_members (no_members {i}) s b turns acc l = rw (append-nil acc) (members_end turns acc i s)
   c_members (blank q ms) s b zero acc l = absurd (omega (arith, (span_line q).forth, (span_members ms).forth))
-  c_members (blank {i} q ms) s b (suc turns) acc l = members_blank turns acc i q (c_members ms s b turns acc (omega (arith, (span_line q).forth)))
+  c_members (blank {i} q ms) s b (suc turns) acc l = members_newline turns acc i q (c_members ms s b turns acc (omega (arith, (span_line q).forth)))
   c_members (attribute {i} q e x el ms) s b zero acc l =
       absurd (omega (arith, (step ts false k.Identifier i q).forth, (step ts false k.Equal (after_next ts false i) e).forth, (span_expr x).forth, (span_eol el).forth, (span_members ms).forth))
   c_members (attribute {e = y} {ms = ys} {i} {n} q e x el ms) s b (suc turns) acc l =
@@ -214,14 +214,14 @@ module _ (ts : List Token) where
 
   -- ---- one member
 
-  no_blank : {i j : ℕ} → NextIs ts false k.Identifier i → IsNewline ts i j → ⊥
-  no_blank {i} h (line_end q) = let clash : Some k.Identifier ≡ Some k.LineEnd = sym h ∙ q in absurd (cc)
-  no_blank {i} h (comment q n) = let clash : Some k.Identifier ≡ Some k.LineComment = sym h ∙ q in absurd (cc)
+  no_newline : {i j : ℕ} → NextIs ts false k.Identifier i → IsNewline ts i j → ⊥
+  no_newline {i} h (line_end q) = let clash : Some k.Identifier ≡ Some k.LineEnd = sym h ∙ q in absurd (cc)
+  no_newline {i} h (comment q n) = let clash : Some k.Identifier ≡ Some k.LineComment = sym h ∙ q in absurd (cc)
 
   -- the member that a body begins with, where no line end is before it
   c_named : {d : ℕ} {m : Member} {ms : List Member} {i l : ℕ} → NextIs ts false k.Identifier i → IsMembers ts d (m ∷ ms) i l → (b : ℕ)
       → (n : ℕ) × Answers d b m n (bodies.attribute_or_block ts b (deeper_members ts b) (next_index ts false i) (after_next ts false i))
-  c_named h (blank q ms) b = absurd (no_blank h q)
+  c_named h (blank q ms) b = absurd (no_newline h q)
   c_named h (attribute {i} {n = n} q e x el ms) b = (n, member_attribute (next_index ts false i) (after_next ts false i) e (nested ts false (after_next ts false (after_next ts false i)) b (c_expr ts x (eol_stop el) b)) el)
   c_named h (block {i} {j} {n} {o} {q} g ls br nl bs cl el ms) b = (
     q,
@@ -233,7 +233,7 @@ module _ (ts : List Token) where
   c_some : {d : ℕ} {m : Member} {n : ℕ} (b i : ℕ) → NextIs ts false k.Identifier i → Answers d b m n (bodies.attribute_or_block ts b (deeper_members ts b) (next_index ts false i) (after_next ts false i))
       → Answers d b (Some m) n (bodies.member_of ts b (deeper_members ts b) i)
   unfolding bodies.member_of
-  c_some b i h x = rw (sees-yes ts false k.Identifier i h, past-yes ts false k.Identifier i h) (bind _ x found)
+  c_some b i h x = rw (sees-yes ts false k.Identifier i h, if_next-yes ts false k.Identifier i h) (bind _ x found)
 
   pub c_member : {d : ℕ} {m : Member} {ms : List Member} {l : ℕ} (i : ℕ) → NextIs ts false k.Identifier i → IsMembers ts d (m ∷ ms) i l → (b : ℕ)
       → (n : ℕ) × Answers d b (Some m) n (bodies.member_of ts b (deeper_members ts b) i)
@@ -241,7 +241,7 @@ module _ (ts : List Token) where
 
   pub c_none : (b i : ℕ) → next_kind ts false i ≢ Some k.Identifier → Answers b b None i (bodies.member_of ts b (deeper_members ts b) i)
   unfolding bodies.member_of
-  c_none b i h = let n = sees-not ts false k.Identifier i h in rw (n, past-no ts false k.Identifier i n) found
+  c_none b i h = let n = sees-not ts false k.Identifier i h in rw (n, if_next-no ts false k.Identifier i n) found
 
   -- ---- whole texts
 
@@ -251,28 +251,28 @@ module _ (ts : List Token) where
   last_ends i (at_comment q h) = record { no_line = record { is = line-no i q h }; no_name = sees-other ts false k.LineComment k.Identifier i q refl }
 
   -- there is no byte order mark where a body begins
-  no_front : {d : ℕ} {ms : List Member} {i j : ℕ} → IsMembers ts d ms i j → IsFileEnd ts j → next_is ts false k.Mark i ≡ false
+  no_mark_before : {d : ℕ} {ms : List Member} {i j : ℕ} → IsMembers ts d ms i j → IsFileEnd ts j → next_is ts false k.Mark i ≡ false
   unfolding same_kind
-  no_front (no_members {i}) (at_end h) = unlike k.Mark i h
-  no_front (no_members {i}) (at_comment q h) = sees-other ts false k.LineComment k.Mark i q refl
-  no_front (blank {i} (line_end q) ms) l = sees-other ts false k.LineEnd k.Mark i q refl
-  no_front (blank {i} (comment q n) ms) l = sees-other ts false k.LineComment k.Mark i q refl
-  no_front (attribute {i} q e x el ms) l = sees-other ts false k.Identifier k.Mark i q refl
-  no_front (block {i} q ls br nl bs cl el ms) l = sees-other ts false k.Identifier k.Mark i q refl
-  no_front (line_block {i} q ls br x cl el ms) l = sees-other ts false k.Identifier k.Mark i q refl
+  no_mark_before (no_members {i}) (at_end h) = unlike k.Mark i h
+  no_mark_before (no_members {i}) (at_comment q h) = sees-other ts false k.LineComment k.Mark i q refl
+  no_mark_before (blank {i} (line_end q) ms) l = sees-other ts false k.LineEnd k.Mark i q refl
+  no_mark_before (blank {i} (comment q n) ms) l = sees-other ts false k.LineComment k.Mark i q refl
+  no_mark_before (attribute {i} q e x el ms) l = sees-other ts false k.Identifier k.Mark i q refl
+  no_mark_before (block {i} q ls br nl bs cl el ms) l = sees-other ts false k.Identifier k.Mark i q refl
+  no_mark_before (line_block {i} q ls br x cl el ms) l = sees-other ts false k.Identifier k.Mark i q refl
 
   -- what the file is parsed from: past a byte order mark
-  front-past : {d : ℕ} {ms : List Member} {i j : ℕ} → IsOptionalMark ts i → IsMembers ts d ms i j → IsFileEnd ts j → after_if_next ts false k.Mark 0 ≡ i
-  front-past no_mark ms l = past-no ts false k.Mark 0 (no_front ms l)
-  front-past (mark q) ms l = past-yes ts false k.Mark 0 q
+  after-mark : {d : ℕ} {ms : List Member} {i j : ℕ} → IsOptionalMark ts i → IsMembers ts d ms i j → IsFileEnd ts j → after_if_next ts false k.Mark 0 ≡ i
+  after-mark no_mark ms l = if_next-no ts false k.Mark 0 (no_mark_before ms l)
+  after-mark (mark q) ms l = if_next-yes ts false k.Mark 0 q
 
   file_by : {d : ℕ} {ms : List Member} {i j : ℕ} (b : ℕ) → after_if_next ts false k.Mark 0 ≡ i → Answers d b ms j (bodies.members ts b i) → IsFileEnd ts j
       → (n : ℕ) × Answers d b (node.tree (length ts) (node.body (first_token_in ts false i j) j ms)) n (bodies.file ts b 0)
   unfolding bodies.file
-  file_by {j} b s x (at_end h) = (j, rw s (bind _ x (let n = unlike k.LineComment j h in rw (past-no ts false k.LineComment j n, h) found)))
-  file_by {j} b s x (at_comment q h) = (after_next ts false j, rw s (bind _ x (rw (past-yes ts false k.LineComment j q, h) found)))
+  file_by {j} b s x (at_end h) = (j, rw s (bind _ x (let n = unlike k.LineComment j h in rw (if_next-no ts false k.LineComment j n, h) found)))
+  file_by {j} b s x (at_comment q h) = (after_next ts false j, rw s (bind _ x (rw (if_next-yes ts false k.LineComment j q, h) found)))
 
   -- each derivation of a whole text is answered
   pub file_answers : (b d : ℕ) (t : Tree) → IsFile ts d t → (n : ℕ) × Answers d b t n (bodies.file ts b 0)
   file_answers b d t (file {i} {j} f ms l) =
-      file_by b (front-past f ms l) (rw (members-is b i) (c_members ms (last_ends j l) b (length ts) [] (omega (arith, (span_members ms).within)))) l
+      file_by b (after-mark f ms l) (rw (members-is b i) (c_members ms (last_ends j l) b (length ts) [] (omega (arith, (span_members ms).within)))) l

@@ -31,7 +31,7 @@ use Rattle.hcl_grammar_laws.proofs.Ahead.{reach, reach_by, Stops, looser, stops_
 use Rattle.hcl_grammar_laws.proofs.Firsts.{begin_expr, begin_elem, begin_intro, no_prefix}
 use Rattle.hcl_grammar_laws.proofs.Lines.{NoInner, no_inner_begins, no_inner_at, lines_all, sep_or_end-yes, sep_or_end-no}
 use Rattle.hcl_grammar_laws.proofs.Spans.{span_sep, span_expr, span_level, span_links, span_tails, span_tail, span_arguments, span_items, span_elems, span_elem, span_names, span_parts, span_part, step}
-use Rattle.hcl_grammar_laws.proofs.Steps.{Answers, found, deep, bind, deeper_found, sees-yes, past-yes, past-no, expect-yes, bump-yes, word_at, word-yes, reads-yes, reads-no, reads-other, reads-another}
+use Rattle.hcl_grammar_laws.proofs.Steps.{Answers, found, deep, bind, deeper_found, sees-yes, if_next-yes, if_next-no, expect-yes, bump-yes, word_at, word-yes, reads-yes, reads-no, reads-other, reads-another}
 
 pub nat-same : (n : ℕ) → (n == n) ≡ true
 nat-same n = eq-eqb n n refl
@@ -44,7 +44,7 @@ module _ (ts : List Token) where
 
   whole_plain : {d b : ℕ} {e : Expr} {j : ℕ} (m : Bool) (i : ℕ) → Answers d b e j (p.level ts b (deeper ts b) levels m i) → Stops 8 ts m j → Answers d b e j (p.whole ts b (deeper ts b) m i)
   unfolding p.whole
-  whole_plain {j} m i r s = let n = no-stop 8 ts m k.Question j s (omega arith) in bind _ r (rw (n, past-no ts m k.Question j n) found)
+  whole_plain {j} m i r s = let n = no-stop 8 ts m k.Question j s (omega arith) in bind _ r (rw (n, if_next-no ts m k.Question j n) found)
 
   whole_conditional : {d : ℕ} {c then_branch else_branch : Expr} {j n l : ℕ} (m : Bool) (i : ℕ) → NextIs ts m k.Question j → NextIs ts m k.Colon n → (b : ℕ) → Answers (suc d) b c j (p.level ts b (deeper ts b) levels m i)
       → ((a : ℕ) → Answers d a then_branch n (p.expr ts a m Whole (after_next ts m j)))
@@ -52,7 +52,7 @@ module _ (ts : List Token) where
       → Answers (suc d) b (node.expr (next_index ts m i) l (form.Conditional c then_branch else_branch)) l (p.whole ts b (deeper ts b) m i)
   unfolding p.whole
   whole_conditional {j} m i q s zero r x y = bind _ r (rw (sees-yes ts m k.Question j q) (deep (omega arith)))
-  whole_conditional {j} {n} m i q s (suc a) r x y = bind _ r (rw (sees-yes ts m k.Question j q, past-yes ts m k.Question j q) (bind _ (deeper_found (x a)) (rw (expect-yes ts m k.Colon n s) (bind _ (deeper_found (y a)) found))))
+  whole_conditional {j} {n} m i q s (suc a) r x y = bind _ r (rw (sees-yes ts m k.Question j q, if_next-yes ts m k.Question j q) (bind _ (deeper_found (x a)) (rw (expect-yes ts m k.Colon n s) (bind _ (deeper_found (y a)) found))))
 
   -- ---- operators
 
@@ -148,12 +148,12 @@ module _ (ts : List Token) where
   unfolding p.dot_tail same_kind
   tail_name m i h n b =
       let star = sees-other ts m k.Identifier k.Star (after_next ts m i) n refl in
-      rw (tail-at b m (Some k.Dot) i h, star, past-no ts m k.Star (after_next ts m i) star, expect-yes ts m k.Identifier (after_next ts m i) n) found
+      rw (tail-at b m (Some k.Dot) i h, star, if_next-no ts m k.Star (after_next ts m i) star, expect-yes ts m k.Identifier (after_next ts m i) n) found
 
   tail_splat : {d : ℕ} (m : Bool) (i : ℕ) → NextIs ts m k.Dot i → NextIs ts m k.Star (after_next ts m i) → (b : ℕ)
       → Answers d b (Some tail.AttributeSplat) (after_next ts m (after_next ts m i)) (p.tail_of ts b (deeper ts b) m i)
   unfolding p.dot_tail
-  tail_splat m i h n b = rw (tail-at b m (Some k.Dot) i h, sees-yes ts m k.Star (after_next ts m i) n, past-yes ts m k.Star (after_next ts m i) n) found
+  tail_splat m i h n b = rw (tail-at b m (Some k.Dot) i h, sees-yes ts m k.Star (after_next ts m i) n, if_next-yes ts m k.Star (after_next ts m i) n) found
 
   tail_legacy : {d : ℕ} (m : Bool) (i : ℕ) → NextIs ts m k.DotIndex i → (b : ℕ)
       → Answers d b (Some (tail.LegacyIndex (next_index ts m i))) (after_next ts m i) (p.tail_of ts b (deeper ts b) m i)
@@ -164,7 +164,7 @@ module _ (ts : List Token) where
   unfolding p.bracket_tail
   tail_full m i h s c zero = rw (tail-at zero m (Some k.OpenBracket) i h) (deep (omega arith))
   tail_full m i h s c (suc a) =
-      rw (tail-at (suc a) m (Some k.OpenBracket) i h, sees-yes ts true k.Star (after_next ts m i) s, past-yes ts true k.Star (after_next ts m i) s, expect-yes ts true k.CloseBracket (after_next ts true (after_next ts m i)) c) found
+      rw (tail-at (suc a) m (Some k.OpenBracket) i h, sees-yes ts true k.Star (after_next ts m i) s, if_next-yes ts true k.Star (after_next ts m i) s, expect-yes ts true k.CloseBracket (after_next ts true (after_next ts m i)) c) found
 
   tail_index : {d : ℕ} {e : Expr} {j : ℕ} (m : Bool) (i : ℕ) → NextIs ts m k.OpenBracket i → next_is ts true k.Star (after_next ts m i) ≡ false → NextIs ts true k.CloseBracket j → (b : ℕ)
       → ((a : ℕ) → Answers d a e j (p.expr ts a true Whole (after_next ts m i)))
@@ -172,7 +172,7 @@ module _ (ts : List Token) where
   unfolding p.bracket_tail
   tail_index m i h s c zero x = rw (tail-at zero m (Some k.OpenBracket) i h) (deep (omega arith))
   tail_index {j} m i h s c (suc a) x =
-      rw (tail-at (suc a) m (Some k.OpenBracket) i h, s, past-no ts true k.Star (after_next ts m i) s)
+      rw (tail-at (suc a) m (Some k.OpenBracket) i h, s, if_next-no ts true k.Star (after_next ts m i) s)
       (bind _ (bind _ (deeper_found (x a)) (rw (expect-yes ts true k.CloseBracket j c) found)) found)
 
   -- ---- terms
@@ -193,10 +193,10 @@ module _ (ts : List Token) where
   names-yes : {m : Bool} {ns : List ℕ} {i j : ℕ} → IsNameTail ts m ns i j → next_is ts m k.DoubleColon j ≡ false → (turns : ℕ) (acc : List ℕ) → j ≤ turns + i → p.names_from ts m turns acc i ≡ Ok (acc ++ ns, j)
   unfolding p.names_from
   names-yes (no_names {i}) s zero acc l = rw (append-nil acc)
-  names-yes (no_names {m} {i}) s (suc turns) acc l = rw (s, past-no ts m k.DoubleColon i s, append-nil acc)
+  names-yes (no_names {m} {i}) s (suc turns) acc l = rw (s, if_next-no ts m k.DoubleColon i s, append-nil acc)
   names-yes (name {m} {i} q n ns) s zero acc l = absurd (omega (arith, (step ts m k.DoubleColon i q).forth, (step ts m k.Identifier (after_next ts m i) n).forth, (span_names ns).forth))
   names-yes (name {m} {ns = xs} {i} {j} q n ns) s (suc turns) acc l =
-      rw (sees-yes ts m k.DoubleColon i q, past-yes ts m k.DoubleColon i q, expect-yes ts m k.Identifier (after_next ts m i) n)
+      rw (sees-yes ts m k.DoubleColon i q, if_next-yes ts m k.DoubleColon i q, expect-yes ts m k.Identifier (after_next ts m i) n)
       (names-yes ns s turns (acc ++ next_index ts m (after_next ts m i) ∷ []) (omega (arith, (step ts m k.DoubleColon i q).forth, (step ts m k.Identifier (after_next ts m i) n).forth))
       ∙ ap (λ x. Ok (x, j)) (append_assoc acc (next_index ts m (after_next ts m i) ∷ []) xs))
 
@@ -284,25 +284,25 @@ module _ (ts : List Token) where
   items_none : {d a : ℕ} (turns : ℕ) (xs : List Expr) (i : ℕ) → NextIs ts true k.CloseBracket i
       → Answers d a xs (after_next ts true i) (p.tuple_items_from ts (p.expr ts a) (suc turns) xs i)
   unfolding p.tuple_items_from
-  items_none turns xs i h = rw (sees-yes ts true k.CloseBracket i h, past-yes ts true k.CloseBracket i h) found
+  items_none turns xs i h = rw (sees-yes ts true k.CloseBracket i h, if_next-yes ts true k.CloseBracket i h) found
 
   items_last : {d a : ℕ} {e : Expr} {j : ℕ} (turns : ℕ) (xs : List Expr) (i : ℕ) → next_is ts true k.CloseBracket i ≡ false → Answers d a e j (p.expr ts a true Whole i) → NextIs ts true k.CloseBracket j
       → Answers d a (xs ++ e ∷ []) (after_next ts true j) (p.tuple_items_from ts (p.expr ts a) (suc turns) xs i)
   unfolding p.tuple_items_from same_kind
   items_last {j} turns xs i n r h =
       let c = sees-other ts true k.CloseBracket k.Comma j h refl in
-      rw (n, past-no ts true k.CloseBracket i n) (bind _ r (rw (c, past-no ts true k.Comma j c, expect-yes ts true k.CloseBracket j h) found))
+      rw (n, if_next-no ts true k.CloseBracket i n) (bind _ r (rw (c, if_next-no ts true k.Comma j c, expect-yes ts true k.CloseBracket j h) found))
 
   items_more : {d a : ℕ} {e : Expr} {ys : List Expr} {j l : ℕ} (turns : ℕ) (xs : List Expr) (i : ℕ) → next_is ts true k.CloseBracket i ≡ false → Answers d a e j (p.expr ts a true Whole i)
       → NextIs ts true k.Comma j → Answers d a ys l (p.tuple_items_from ts (p.expr ts a) turns (xs ++ e ∷ []) (after_next ts true j))
       → Answers d a ys l (p.tuple_items_from ts (p.expr ts a) (suc turns) xs i)
   unfolding p.tuple_items_from
-  items_more {j} turns xs i n r c more = rw (n, past-no ts true k.CloseBracket i n) (bind _ r (rw (sees-yes ts true k.Comma j c, past-yes ts true k.Comma j c) more))
+  items_more {j} turns xs i n r c more = rw (n, if_next-no ts true k.CloseBracket i n) (bind _ r (rw (sees-yes ts true k.Comma j c, if_next-yes ts true k.Comma j c) more))
 
   arguments_none : {d a : ℕ} (turns : ℕ) (xs : List Expr) (i : ℕ) → NextIs ts true k.CloseParen i
       → Answers d a (xs, false) (after_next ts true i) (p.arguments_from ts (p.expr ts a) (suc turns) xs i)
   unfolding p.arguments_from
-  arguments_none turns xs i h = rw (sees-yes ts true k.CloseParen i h, past-yes ts true k.CloseParen i h) found
+  arguments_none turns xs i h = rw (sees-yes ts true k.CloseParen i h, if_next-yes ts true k.CloseParen i h) found
 
   arguments_last : {d a : ℕ} {e : Expr} {j : ℕ} (turns : ℕ) (xs : List Expr) (i : ℕ) → next_is ts true k.CloseParen i ≡ false → Answers d a e j (p.expr ts a true Whole i) → NextIs ts true k.CloseParen j
       → Answers d a (xs ++ e ∷ [], false) (after_next ts true j) (p.arguments_from ts (p.expr ts a) (suc turns) xs i)
@@ -310,54 +310,54 @@ module _ (ts : List Token) where
   arguments_last {j} turns xs i n r h =
       let c = sees-other ts true k.CloseParen k.Comma j h refl in
       let s = sees-other ts true k.CloseParen k.Ellipsis j h refl in
-      rw (n, past-no ts true k.CloseParen i n) (bind _ r (rw (c, past-no ts true k.Comma j c, s, past-no ts true k.Ellipsis j s, expect-yes ts true k.CloseParen j h) found))
+      rw (n, if_next-no ts true k.CloseParen i n) (bind _ r (rw (c, if_next-no ts true k.Comma j c, s, if_next-no ts true k.Ellipsis j s, expect-yes ts true k.CloseParen j h) found))
 
   arguments_spread : {d a : ℕ} {e : Expr} {j : ℕ} (turns : ℕ) (xs : List Expr) (i : ℕ) → next_is ts true k.CloseParen i ≡ false → Answers d a e j (p.expr ts a true Whole i) → NextIs ts true k.Ellipsis j → NextIs ts true k.CloseParen (after_next ts true j)
       → Answers d a (xs ++ e ∷ [], true) (after_next ts true (after_next ts true j)) (p.arguments_from ts (p.expr ts a) (suc turns) xs i)
   unfolding p.arguments_from same_kind
   arguments_spread {j} turns xs i n r s h =
       let c = sees-other ts true k.Ellipsis k.Comma j s refl in
-      rw (n, past-no ts true k.CloseParen i n) (bind _ r (rw (c, past-no ts true k.Comma j c, sees-yes ts true k.Ellipsis j s, past-yes ts true k.Ellipsis j s, expect-yes ts true k.CloseParen (after_next ts true j) h) found))
+      rw (n, if_next-no ts true k.CloseParen i n) (bind _ r (rw (c, if_next-no ts true k.Comma j c, sees-yes ts true k.Ellipsis j s, if_next-yes ts true k.Ellipsis j s, expect-yes ts true k.CloseParen (after_next ts true j) h) found))
 
   arguments_more : {d a : ℕ} {e : Expr} {ys : List Expr × Bool} {j l : ℕ} (turns : ℕ) (xs : List Expr) (i : ℕ) → next_is ts true k.CloseParen i ≡ false → Answers d a e j (p.expr ts a true Whole i)
       → NextIs ts true k.Comma j → Answers d a ys l (p.arguments_from ts (p.expr ts a) turns (xs ++ e ∷ []) (after_next ts true j))
       → Answers d a ys l (p.arguments_from ts (p.expr ts a) (suc turns) xs i)
   unfolding p.arguments_from
-  arguments_more {j} turns xs i n r c more = rw (n, past-no ts true k.CloseParen i n) (bind _ r (rw (sees-yes ts true k.Comma j c, past-yes ts true k.Comma j c) more))
+  arguments_more {j} turns xs i n r c more = rw (n, if_next-no ts true k.CloseParen i n) (bind _ r (rw (sees-yes ts true k.Comma j c, if_next-yes ts true k.Comma j c) more))
 
   elem_equals : {d a : ℕ} {x y : Expr} {j l : ℕ} (i : ℕ) → Answers d a x j (p.expr ts a false Whole i) → NextIs ts false k.Equal j → Answers d a y l (p.expr ts a false Whole (after_next ts false j))
       → Answers d a (node.elem x y) l (p.element ts (p.expr ts a) i)
   unfolding p.element
-  elem_equals {j} i r h q = bind _ r (rw (sees-yes ts false k.Equal j h, past-yes ts false k.Equal j h) (bind _ q found))
+  elem_equals {j} i r h q = bind _ r (rw (sees-yes ts false k.Equal j h, if_next-yes ts false k.Equal j h) (bind _ q found))
 
   elem_colon : {d a : ℕ} {x y : Expr} {j l : ℕ} (i : ℕ) → Answers d a x j (p.expr ts a false Whole i) → NextIs ts false k.Colon j → Answers d a y l (p.expr ts a false Whole (after_next ts false j))
       → Answers d a (node.elem x y) l (p.element ts (p.expr ts a) i)
   unfolding p.element same_kind
-  elem_colon {j} i r h q = let n = sees-other ts false k.Colon k.Equal j h refl in bind _ r (rw (n, past-no ts false k.Equal j n, expect-yes ts false k.Colon j h) (bind _ q found))
+  elem_colon {j} i r h q = let n = sees-other ts false k.Colon k.Equal j h refl in bind _ r (rw (n, if_next-no ts false k.Equal j n, expect-yes ts false k.Colon j h) (bind _ q found))
 
   elems_none : {d a : ℕ} (turns : ℕ) (xs : List Elem) (i : ℕ) → NextIs ts false k.CloseBrace i
       → Answers d a xs (after_next ts false i) (p.elements_from ts (p.expr ts a) (suc turns) xs i)
   unfolding p.elements_from
-  elems_none turns xs i h = rw (sees-yes ts false k.CloseBrace i h, past-yes ts false k.CloseBrace i h) found
+  elems_none turns xs i h = rw (sees-yes ts false k.CloseBrace i h, if_next-yes ts false k.CloseBrace i h) found
 
   elems_last : {d a : ℕ} {x : Elem} {j : ℕ} (turns : ℕ) (xs : List Elem) (i : ℕ) → next_is ts false k.CloseBrace i ≡ false → Answers d a x j (p.element ts (p.expr ts a) i)
       → NextIs ts false k.CloseBrace j
       → Answers d a (xs ++ x ∷ []) (after_next ts false j) (p.elements_from ts (p.expr ts a) (suc turns) xs i)
   unfolding p.elements_from
-  elems_last {j} turns xs i n r h = rw (n, past-no ts false k.CloseBrace i n) (bind _ r (rw (sep_or_end-no ts j h) found))
+  elems_last {j} turns xs i n r h = rw (n, if_next-no ts false k.CloseBrace i n) (bind _ r (rw (sep_or_end-no ts j h) found))
 
   elems_more : {d a : ℕ} {x : Elem} {ys : List Elem} {j n l : ℕ} (turns : ℕ) (xs : List Elem) (i : ℕ) → next_is ts false k.CloseBrace i ≡ false → Answers d a x j (p.element ts (p.expr ts a) i)
       → IsSep ts j n → NoInner ts n → Answers d a ys l (p.elements_from ts (p.expr ts a) turns (xs ++ x ∷ []) n)
       → Answers d a ys l (p.elements_from ts (p.expr ts a) (suc turns) xs i)
   unfolding p.elements_from
-  elems_more turns xs i not r s line more = rw (not, past-no ts false k.CloseBrace i not) (bind _ r (rw (sep_or_end-yes s line) more))
+  elems_more turns xs i not r s line more = rw (not, if_next-no ts false k.CloseBrace i not) (bind _ r (rw (sep_or_end-yes s line) more))
 
   -- ---- `for`
 
   second-yes : {o : Option ℕ} {i j : ℕ} → IsSecondName ts o i j → NextIsWord ts true in_word j → p.second_name ts i ≡ Ok (o, j)
   unfolding p.second_name same_kind
-  second-yes (no_second {i}) w = let n = sees-other ts true k.Identifier k.Comma i (word_at ts true in_word i w) refl in rw (n, past-no ts true k.Comma i n)
-  second-yes (second {i} q n) w = rw (sees-yes ts true k.Comma i q, past-yes ts true k.Comma i q, expect-yes ts true k.Identifier (after_next ts true i) n)
+  second-yes (no_second {i}) w = let n = sees-other ts true k.Identifier k.Comma i (word_at ts true in_word i w) refl in rw (n, if_next-no ts true k.Comma i n)
+  second-yes (second {i} q n) w = rw (sees-yes ts true k.Comma i q, if_next-yes ts true k.Comma i q, expect-yes ts true k.Identifier (after_next ts true i) n)
 
   intro_by : {d a : ℕ} {o : Option ℕ} {e : Expr} {j l : ℕ} (i : ℕ) → NextIsWord ts true for_word i → NextIs ts true k.Identifier (after_next ts true i) → IsSecondName ts o (after_next ts true (after_next ts true i)) j → NextIsWord ts true in_word j
       → Answers d a e l (p.expr ts a true Whole (after_next ts true j))
@@ -541,9 +541,9 @@ module _ (ts : List Token) where
   dots-seen no_ellipsis s = s
   dots-seen (ellipsis {i} q) s = sees-yes ts true k.Ellipsis i q
 
-  dots-past : {b : Bool} {i j : ℕ} → IsEllipsis ts b i j → next_is ts true k.Ellipsis j ≡ false → after_if_next ts true k.Ellipsis i ≡ j
-  dots-past (no_ellipsis {i}) s = past-no ts true k.Ellipsis i s
-  dots-past (ellipsis {i} q) s = past-yes ts true k.Ellipsis i q
+  after-ellipsis : {b : Bool} {i j : ℕ} → IsEllipsis ts b i j → next_is ts true k.Ellipsis j ≡ false → after_if_next ts true k.Ellipsis i ≡ j
+  after-ellipsis (no_ellipsis {i}) s = if_next-no ts true k.Ellipsis i s
+  after-ellipsis (ellipsis {i} q) s = if_next-yes ts true k.Ellipsis i q
 
   intro_word : {d : ℕ} {x : Intro} {i j : ℕ} → IsIntro ts d x i j → NextIsWord ts true for_word i
   intro_word (intro w q s v e) = w
@@ -596,7 +596,7 @@ module _ (ts : List Token) where
         term_for_tuple m i q (begin_intro x) c b (λ a. c_intro x (stops_at 8 k.Colon c (omega arith)) a)
         (λ a. nested true (after_next ts true j) a (c_expr v (filter_stop closes_bracket o) a)) (λ a. c_filter closes_bracket o a)
     c_term (for_object {m} {i} {j} {n} q x c y f v s o) b =
-        term_for_object m i q (begin_intro x) c f (dots-seen s (filter_dots closes_brace o)) (dots-past s (filter_dots closes_brace o)) b
+        term_for_object m i q (begin_intro x) c f (dots-seen s (filter_dots closes_brace o)) (after-ellipsis s (filter_dots closes_brace o)) b
         (λ a. c_intro x (stops_at 8 k.Colon c (omega arith)) a) (λ a. nested true (after_next ts true j) a (c_expr y (stops_at 8 k.FatArrow f (omega arith)) a))
         (λ a. nested true (after_next ts true n) a (c_expr v (dots_stop s (filter_stop closes_brace o)) a)) (λ a. c_filter closes_brace o a)
     c_term (quoted {m} {i} {j} q ps c) b = term_quoted m i q c b (λ a. nested_parts m (after_next ts m i) a (c_parts ps (no_part_quote m j c) a (length ts) [] (omega (arith, (span_parts ps).within))))

@@ -37,21 +37,21 @@ use Rattle.hcl_grammar_laws.proofs.RestartBodies.{some_is}
 use Rattle.hcl_grammar_laws.proofs.Spans.{step, span_line, span_keyword}
 
 -- a node that is derived somewhere, a body and a template from within the tokens on
-pub data Held (ts : List Token) : Node → Type 0 where
-  held_body : {d : ℕ} {x : Body} {i j : ℕ} → i ≤ length ts → IsMembers ts d x.members i j → x.first ≡ first_token_in ts false i j → x.past ≡ j → Held ts (n.body x)
-  held_member : {d : ℕ} {x : Member} {i j : ℕ} → IsMembers ts d (x ∷ []) i j → Held ts (n.member x)
-  held_on_line : {d : ℕ} {x : Attribute} {i j : ℕ} → IsOneLineBody ts d (Some x) i j → Held ts (n.one_line_attribute x)
-  held_label : {x : Label} {i j : ℕ} → IsLabels ts (x ∷ []) i j → Held ts (n.label x)
-  held_expr : {role : Role} {d : ℕ} {m : Bool} {x : Expr} {i j : ℕ} → IsExpr ts d m x i j → Held ts (n.expr role x)
-  held_term : {role : Role} {d : ℕ} {m : Bool} {x : Term} {i j : ℕ} → IsTerm ts d m x i j → Held ts (n.term role x)
-  held_tail : {splat : Bool} {d : ℕ} {m : Bool} {x : Tail} {i j : ℕ} → IsTail ts d m x i j → Held ts (n.tail splat x)
-  held_intro : {d : ℕ} {x : Intro} {i j : ℕ} → IsIntro ts d x i j → Held ts (n.intro x)
-  held_template : {d : ℕ} {m : Bool} {x : Template} {i j : ℕ} → i ≤ length ts → IsParts ts d m x.parts i j → x.first ≡ first_token_in ts m i j → x.past ≡ j → Held ts (n.template x)
-  held_part : {d : ℕ} {m : Bool} {x : Part} {i j : ℕ} → IsPart ts d m x i j → Held ts (n.part x)
+pub data DerivedNode (ts : List Token) : Node → Type 0 where
+  derived_node_body : {d : ℕ} {x : Body} {i j : ℕ} → i ≤ length ts → IsMembers ts d x.members i j → x.first ≡ first_token_in ts false i j → x.past ≡ j → DerivedNode ts (n.body x)
+  derived_node_member : {d : ℕ} {x : Member} {i j : ℕ} → IsMembers ts d (x ∷ []) i j → DerivedNode ts (n.member x)
+  derived_node_on_line : {d : ℕ} {x : Attribute} {i j : ℕ} → IsOneLineBody ts d (Some x) i j → DerivedNode ts (n.one_line_attribute x)
+  derived_node_label : {x : Label} {i j : ℕ} → IsLabels ts (x ∷ []) i j → DerivedNode ts (n.label x)
+  derived_node_expr : {role : Role} {d : ℕ} {m : Bool} {x : Expr} {i j : ℕ} → IsExpr ts d m x i j → DerivedNode ts (n.expr role x)
+  derived_node_term : {role : Role} {d : ℕ} {m : Bool} {x : Term} {i j : ℕ} → IsTerm ts d m x i j → DerivedNode ts (n.term role x)
+  derived_node_tail : {splat : Bool} {d : ℕ} {m : Bool} {x : Tail} {i j : ℕ} → IsTail ts d m x i j → DerivedNode ts (n.tail splat x)
+  derived_node_intro : {d : ℕ} {x : Intro} {i j : ℕ} → IsIntro ts d x i j → DerivedNode ts (n.intro x)
+  derived_node_template : {d : ℕ} {m : Bool} {x : Template} {i j : ℕ} → i ≤ length ts → IsParts ts d m x.parts i j → x.first ≡ first_token_in ts m i j → x.past ≡ j → DerivedNode ts (n.template x)
+  derived_node_part : {d : ℕ} {m : Bool} {x : Part} {i j : ℕ} → IsPart ts d m x i j → DerivedNode ts (n.part x)
 
 abbrev All : List Token → List Node → Type 0
 All ts [] = Unit {0}
-All ts (x ∷ xs) = Held ts x × All ts xs
+All ts (x ∷ xs) = DerivedNode ts x × All ts xs
 
 all_append : (ts : List Token) (xs ys : List Node) → All ts xs → All ts ys → All ts (xs ++ ys)
 all_append ts [] ys a b = b
@@ -74,34 +74,34 @@ module _ {ts : List Token} where
   lift {d} {m} {l} {x} {i} {j} zero e w = let top : l ≡ levels = omega (arith, e) in plain (subst (λ z. IsLevel ts d m z x i j) top w)
   lift (suc k) e w = lift k (omega (arith, e)) (level w no_operations)
 
-  held_level : {role : Role} {d : ℕ} {m : Bool} {l : ℕ} {x : Expr} {i j : ℕ} (k : ℕ) → k + l ≡ levels → IsLevel ts d m l x i j → Held ts (n.expr role x)
-  held_level k e w = held_expr (lift k e w)
+  derived_node_level : {role : Role} {d : ℕ} {m : Bool} {l : ℕ} {x : Expr} {i j : ℕ} (k : ℕ) → k + l ≡ levels → IsLevel ts d m l x i j → DerivedNode ts (n.expr role x)
+  derived_node_level k e w = derived_node_expr (lift k e w)
 
-  held_unary : {role : Role} {d : ℕ} {m : Bool} {x : Expr} {i j : ℕ} → IsUnary ts d m x i j → Held ts (n.expr role x)
-  held_unary w = held_level levels refl (lowest w)
+  derived_node_unary : {role : Role} {d : ℕ} {m : Bool} {x : Expr} {i j : ℕ} → IsUnary ts d m x i j → DerivedNode ts (n.expr role x)
+  derived_node_unary w = derived_node_level levels refl (lowest w)
 
   all_links : {d : ℕ} {m : Bool} {l : ℕ} {xs : List Operation} {i j : ℕ} (k : ℕ) → k + l ≡ levels → IsOperations ts d m l xs i j → All ts (map (λ (l : Operation). n.expr Elsewhere l.operand) xs)
   unfolding node.operation
   all_links k e no_operations = tt
-  all_links k e (operation p o x xs) = (held_level k e x, all_links k e xs)
+  all_links k e (operation p o x xs) = (derived_node_level k e x, all_links k e xs)
 
   all_tails : {d : ℕ} {m : Bool} {xs : List Tail} {i j : ℕ} (splat : Bool) → IsTails ts d m xs i j → All ts (n.tails_nodes splat xs)
   all_tails splat no_tails = tt
-  all_tails splat (tails {x} w ws) = (held_tail w, all_tails (n.splat_after splat (out-Tail x)) ws)
+  all_tails splat (tails {x} w ws) = (derived_node_tail w, all_tails (n.splat_after splat (out-Tail x)) ws)
 
   in_tail : {d : ℕ} {m : Bool} {x : Tail} {i j : ℕ} → IsTail ts d m x i j → All ts (n.tail_children (out-Tail x))
   in_tail (by_name p q) = are ts _ [] (ap n.tail_children (open_name _)) tt
   in_tail (legacy p) = are ts _ [] (ap n.tail_children (open_legacy _)) tt
   in_tail (attribute_splat p q) = are ts _ [] (ap n.tail_children open_attribute_splat) tt
   in_tail (full_splat p q c) = are ts _ [] (ap n.tail_children open_full_splat) tt
-  in_tail (index {e} p x q) = are ts _ (n.expr Index e ∷ []) (ap n.tail_children (open_index e)) (held_expr x, tt)
+  in_tail (index {e} p x q) = are ts _ (n.expr Index e ∷ []) (ap n.tail_children (open_index e)) (derived_node_expr x, tt)
 
   in_unary : {d : ℕ} {m : Bool} {x : Expr} {i j : ℕ} (role : Role) → IsUnary ts d m x i j → All ts (n.expr_kind_children role (out-ExprKind x.kind))
   unfolding node.expr
-  in_unary role (with_operator {op} {e} p o x) = are ts _ (n.expr Elsewhere e ∷ []) (ap (n.expr_kind_children role) (open_prefixed op e)) (held_unary x, tt)
-  in_unary role (post {head} p no_tails) = are ts _ (n.term role head ∷ []) (ap (n.expr_kind_children role) (open_plain head)) (held_term p, tt)
+  in_unary role (with_operator {op} {e} p o x) = are ts _ (n.expr Elsewhere e ∷ []) (ap (n.expr_kind_children role) (open_prefixed op e)) (derived_node_unary x, tt)
+  in_unary role (post {head} p no_tails) = are ts _ (n.term role head ∷ []) (ap (n.expr_kind_children role) (open_plain head)) (derived_node_term p, tt)
   in_unary role (post {head} p (tails {x} {xs} t r)) =
-      are ts _ (n.term Elsewhere head ∷ n.tails_nodes false (x ∷ xs)) (ap (n.expr_kind_children role) (open_tailed head (x ∷ xs))) (held_term p, all_tails false (tails t r))
+      are ts _ (n.term Elsewhere head ∷ n.tails_nodes false (x ∷ xs)) (ap (n.expr_kind_children role) (open_tailed head (x ∷ xs))) (derived_node_term p, all_tails false (tails t r))
 
   in_level : {d : ℕ} {m : Bool} {l : ℕ} {x : Expr} {i j : ℕ} (role : Role) (k : ℕ) → k + l ≡ levels → IsLevel ts d m l x i j → All ts (n.expr_kind_children role (out-ExprKind x.kind))
   unfolding node.expr
@@ -109,45 +109,45 @@ module _ {ts : List Token} where
   in_level role k e (level p no_operations) = in_level role (suc k) (omega (arith, e)) p
   in_level role k e (level {head} p (operation {op} {x} {links} q o y ys)) =
       are ts _ (n.expr Elsewhere head ∷ map (λ (l : Operation). n.expr Elsewhere l.operand) (node.operation op x ∷ links)) (ap (n.expr_kind_children role) (open_chain head (node.operation op x ∷ links)))
-      (held_level (suc k) (omega (arith, e)) p, all_links (suc k) (omega (arith, e)) (operation q o y ys))
+      (derived_node_level (suc k) (omega (arith, e)) p, all_links (suc k) (omega (arith, e)) (operation q o y ys))
 
   in_expr : {d : ℕ} {m : Bool} {x : Expr} {i j : ℕ} (role : Role) → IsExpr ts d m x i j → All ts (n.expr_kind_children role (out-ExprKind x.kind))
   unfolding node.expr
   in_expr role (plain p) = in_level role zero refl p
   in_expr role (conditional {c} {then_branch} {else_branch} p q x s y) =
       are ts _ (n.expr Elsewhere c ∷ n.expr Elsewhere then_branch ∷ n.expr Elsewhere else_branch ∷ []) (ap (n.expr_kind_children role) (open_conditional c then_branch else_branch))
-      (held_level zero refl p, (held_expr x, (held_expr y, tt)))
+      (derived_node_level zero refl p, (derived_node_expr x, (derived_node_expr y, tt)))
 
   -- ---- terms
 
   all_arguments : {d : ℕ} {es : List Expr} {s : Bool} {i j : ℕ} → IsArguments ts d es s i j → All ts (map (n.expr Argument) es)
   all_arguments (no_arguments p) = tt
-  all_arguments (last_argument x p) = (held_expr x, tt)
-  all_arguments (spread_argument x q p) = (held_expr x, tt)
-  all_arguments (argument x p xs) = (held_expr x, all_arguments xs)
+  all_arguments (last_argument x p) = (derived_node_expr x, tt)
+  all_arguments (spread_argument x q p) = (derived_node_expr x, tt)
+  all_arguments (argument x p xs) = (derived_node_expr x, all_arguments xs)
 
   all_items : {d : ℕ} {es : List Expr} {i j : ℕ} → IsItems ts d es i j → All ts (map (n.expr Element) es)
   all_items (no_items p) = tt
-  all_items (last_item x p) = (held_expr x, tt)
-  all_items (item x p xs) = (held_expr x, all_items xs)
+  all_items (last_item x p) = (derived_node_expr x, tt)
+  all_items (item x p xs) = (derived_node_expr x, all_items xs)
 
-  elem_held : {d : ℕ} {x : Elem} {i j : ℕ} → IsElem ts d x i j → All ts (n.elem_children x)
+  elem_nodes_derived : {d : ℕ} {x : Elem} {i j : ℕ} → IsElem ts d x i j → All ts (n.elem_children x)
   unfolding node.elem
-  elem_held (by_equals a p b) = (held_expr a, (held_expr b, tt))
-  elem_held (by_colon a p b) = (held_expr a, (held_expr b, tt))
+  elem_nodes_derived (by_equals a p b) = (derived_node_expr a, (derived_node_expr b, tt))
+  elem_nodes_derived (by_colon a p b) = (derived_node_expr a, (derived_node_expr b, tt))
 
   all_elems : {d : ℕ} {xs : List Elem} {i j : ℕ} → IsElems ts d xs i j → All ts (flat_map n.elem_children xs)
   all_elems (no_elems p) = tt
-  all_elems (last_elem {x} e p) = all_append ts (n.elem_children x) [] (elem_held e) tt
-  all_elems (elems {x} {xs} e s es) = all_append ts (n.elem_children x) (flat_map n.elem_children xs) (elem_held e) (all_elems es)
+  all_elems (last_elem {x} e p) = all_append ts (n.elem_children x) [] (elem_nodes_derived e) tt
+  all_elems (elems {x} {xs} e s es) = all_append ts (n.elem_children x) (flat_map n.elem_children xs) (elem_nodes_derived e) (all_elems es)
 
-  filter_held : {d : ℕ} {close : Kind} {o : Option Expr} {i j : ℕ} → IsFilter ts d close o i j → All ts (n.filter_children o)
-  filter_held (no_filter p) = tt
-  filter_held (filter w x p) = (held_expr x, tt)
+  filter_nodes_derived : {d : ℕ} {close : Kind} {o : Option Expr} {i j : ℕ} → IsFilter ts d close o i j → All ts (n.filter_children o)
+  filter_nodes_derived (no_filter p) = tt
+  filter_nodes_derived (filter w x p) = (derived_node_expr x, tt)
 
-  template_held : {d : ℕ} {m : Bool} {ps : List Part} {i j : ℕ} → i ≤ length ts → IsParts ts d m ps i j → Held ts (n.template (node.template (first_token_in ts m i j) j ps))
+  template_nodes_derived : {d : ℕ} {m : Bool} {ps : List Part} {i j : ℕ} → i ≤ length ts → IsParts ts d m ps i j → DerivedNode ts (n.template (node.template (first_token_in ts m i j) j ps))
   unfolding node.template
-  template_held b w = held_template b w refl refl
+  template_nodes_derived b w = derived_node_template b w refl refl
 
   in_term : {d : ℕ} {m : Bool} {x : Term} {i j : ℕ} → IsTerm ts d m x i j → All ts (n.primary_children (out-Primary x.kind))
   unfolding node.term node.call node.for_tuple node.for_object
@@ -159,31 +159,31 @@ module _ {ts : List Token} where
   in_term (for_tuple {x} {value} {filter} p y c v f) =
       are ts _ (n.intro x ∷ n.expr Elsewhere value ∷ n.filter_children filter)
       (ap n.primary_children (open_for_tuple _) ∙ rw (for_tuple_intro x value filter, for_tuple_value x value filter, for_tuple_filter x value filter) refl)
-      (held_intro y, (held_expr v, filter_held f))
+      (derived_node_intro y, (derived_node_expr v, filter_nodes_derived f))
   in_term (for_object {x} {key} {value} {grouped} {filter} p y c a w v s f) =
       are ts _ (n.intro x ∷ n.expr Elsewhere key ∷ n.expr Elsewhere value ∷ n.filter_children filter)
       (ap n.primary_children (open_for_object _)
       ∙ rw (for_object_intro x key value grouped filter, for_object_key x key value grouped filter, for_object_value x key value grouped filter, for_object_filter x key value grouped filter) refl)
-      (held_intro y, (held_expr a, (held_expr v, filter_held f)))
-  in_term (quoted {m} {i} p ps q) = are ts _ (n.template _ ∷ []) (ap n.primary_children (open_quoted _)) (template_held (step ts m k.QuoteOpen i p).within ps, tt)
-  in_term (heredoc {m} {i} p ps q) = are ts _ (n.template _ ∷ []) (ap n.primary_children (open_heredoc _)) (template_held (step ts m k.HereOpen i p).within ps, tt)
-  in_term (parens {e} p x q) = are ts _ (n.expr Parentheses e ∷ []) (ap n.primary_children (open_parens e)) (held_expr x, tt)
+      (derived_node_intro y, (derived_node_expr a, (derived_node_expr v, filter_nodes_derived f)))
+  in_term (quoted {m} {i} p ps q) = are ts _ (n.template _ ∷ []) (ap n.primary_children (open_quoted _)) (template_nodes_derived (step ts m k.QuoteOpen i p).within ps, tt)
+  in_term (heredoc {m} {i} p ps q) = are ts _ (n.template _ ∷ []) (ap n.primary_children (open_heredoc _)) (template_nodes_derived (step ts m k.HereOpen i p).within ps, tt)
+  in_term (parens {e} p x q) = are ts _ (n.expr Parentheses e ∷ []) (ap n.primary_children (open_parens e)) (derived_node_expr x, tt)
 
   in_intro : {d : ℕ} {x : Intro} {i j : ℕ} → IsIntro ts d x i j → All ts (n.expr Elsewhere x.collection ∷ [])
   unfolding node.intro
-  in_intro (intro w p s v y) = (held_expr y, tt)
+  in_intro (intro w p s v y) = (derived_node_expr y, tt)
 
   -- ---- templates
 
   all_parts : {d : ℕ} {m : Bool} {xs : List Part} {i j : ℕ} → IsParts ts d m xs i j → All ts (map n.part xs)
   all_parts no_parts = tt
-  all_parts (parts x xs) = (held_part x, all_parts xs)
+  all_parts (parts x xs) = (derived_node_part x, all_parts xs)
 
-  else_held : {d : ℕ} {m : Bool} {o : Option Template} {i j : ℕ} → IsElse ts d m o i j → All ts (n.else_children o)
-  else_held (no_else e) = tt
-  else_held (has_else q ps e) = (template_held (span_keyword q).within ps, tt)
+  else_nodes_derived : {d : ℕ} {m : Bool} {o : Option Template} {i j : ℕ} → IsElse ts d m o i j → All ts (n.else_children o)
+  else_nodes_derived (no_else e) = tt
+  else_nodes_derived (has_else q ps e) = (template_nodes_derived (span_keyword q).within ps, tt)
 
-  in_if : (a b : ℕ) (c : Expr) (t : Template) (u : Option Template) → Held ts (n.expr Elsewhere c) → Held ts (n.template t) → All ts (n.else_children u)
+  in_if : (a b : ℕ) (c : Expr) (t : Template) (u : Option Template) → DerivedNode ts (n.expr Elsewhere c) → DerivedNode ts (n.template t) → All ts (n.else_children u)
       → All ts (n.part_children (out-Part (node.if_part a b c t u)))
   unfolding node.if_part
   in_if a b c t u h g k =
@@ -196,73 +196,73 @@ module _ {ts : List Token} where
   unfolding node.for_part
   in_part (quote_text p) = are ts _ [] (ap n.part_children (open_literal _)) tt
   in_part (here_text p) = are ts _ [] (ap n.part_children (open_literal _)) tt
-  in_part (interp {e} p x q) = are ts _ (n.expr Interpolation e ∷ []) (ap n.part_children (open_interp e)) (held_expr x, tt)
-  in_part (if_directive {j} p w c q ps o) = in_if _ _ _ _ _ (held_expr c) (template_held (step ts true k.SeqClose j q).within ps) (else_held o)
-  in_part (for_directive {j} p y q ps e) = are ts _ (n.intro _ ∷ n.template _ ∷ []) (ap n.part_children (open_for _)) (held_intro y, (template_held (step ts true k.SeqClose j q).within ps, tt))
+  in_part (interp {e} p x q) = are ts _ (n.expr Interpolation e ∷ []) (ap n.part_children (open_interp e)) (derived_node_expr x, tt)
+  in_part (if_directive {j} p w c q ps o) = in_if _ _ _ _ _ (derived_node_expr c) (template_nodes_derived (step ts true k.SeqClose j q).within ps) (else_nodes_derived o)
+  in_part (for_directive {j} p y q ps e) = are ts _ (n.intro _ ∷ n.template _ ∷ []) (ap n.part_children (open_for _)) (derived_node_intro y, (template_nodes_derived (step ts true k.SeqClose j q).within ps, tt))
 
   -- ---- bodies
 
   all_labels : {ls : List Label} {i j : ℕ} → IsLabels ts ls i j → All ts (map n.label ls)
   all_labels no_labels = tt
-  all_labels (word_label p r) = (held_label (word_label p no_labels), all_labels r)
-  all_labels (text_label p q s r) = (held_label (text_label p q s no_labels), all_labels r)
-  all_labels (empty_label p q r) = (held_label (empty_label p q no_labels), all_labels r)
+  all_labels (word_label p r) = (derived_node_label (word_label p no_labels), all_labels r)
+  all_labels (text_label p q s r) = (derived_node_label (text_label p q s no_labels), all_labels r)
+  all_labels (empty_label p q r) = (derived_node_label (empty_label p q no_labels), all_labels r)
 
   in_on_line : {d : ℕ} {o : Option Attribute} {i j : ℕ} → IsOneLineBody ts d o i j → (x : Attribute) → o ≡ Some x → All ts (n.expr AttributeValue x.value ∷ [])
   unfolding node.attribute
   in_on_line nothing x e = absurd (cc)
-  in_on_line (just p q y) x e = subst (λ x. All ts (n.expr AttributeValue x.value ∷ [])) (some_is e) (held_expr y, tt)
+  in_on_line (just p q y) x e = subst (λ x. All ts (n.expr AttributeValue x.value ∷ [])) (some_is e) (derived_node_expr y, tt)
 
-  line_held : {d : ℕ} {o : Option Attribute} {i j : ℕ} → IsOneLineBody ts d o i j → All ts (n.content_children (Content-F.OneLine o))
-  line_held nothing = tt
-  line_held (just p q y) = (held_on_line (just p q y), tt)
+  line_nodes_derived : {d : ℕ} {o : Option Attribute} {i j : ℕ} → IsOneLineBody ts d o i j → All ts (n.content_children (Content-F.OneLine o))
+  line_nodes_derived nothing = tt
+  line_nodes_derived (just p q y) = (derived_node_on_line (just p q y), tt)
 
   all_members : {d : ℕ} {ms : List Member} {i j : ℕ} → IsMembers ts d ms i j → All ts (map n.member ms)
   all_members no_members = tt
   all_members (blank l r) = all_members r
-  all_members (attribute p q y s r) = (held_member (attribute p q y s no_members), all_members r)
-  all_members (block p ns b s ms c l r) = (held_member (block p ns b s ms c l no_members), all_members r)
-  all_members (line_block p ns b t c l r) = (held_member (line_block p ns b t c l no_members), all_members r)
+  all_members (attribute p q y s r) = (derived_node_member (attribute p q y s no_members), all_members r)
+  all_members (block p ns b s ms c l r) = (derived_node_member (block p ns b s ms c l no_members), all_members r)
+  all_members (line_block p ns b t c l r) = (derived_node_member (line_block p ns b t c l no_members), all_members r)
 
-  body_held : {d : ℕ} {ms : List Member} {i j : ℕ} → i ≤ length ts → IsMembers ts d ms i j → Held ts (n.body (node.body (first_token_in ts false i j) j ms))
+  body_nodes_derived : {d : ℕ} {ms : List Member} {i j : ℕ} → i ≤ length ts → IsMembers ts d ms i j → DerivedNode ts (n.body (node.body (first_token_in ts false i j) j ms))
   unfolding node.body
-  body_held b w = held_body b w refl refl
+  body_nodes_derived b w = derived_node_body b w refl refl
 
-  in_attribute : (x : Attribute) → Held ts (n.expr AttributeValue x.value) → All ts (n.member_children (out-Member (member.Attribute x)))
+  in_attribute : (x : Attribute) → DerivedNode ts (n.expr AttributeValue x.value) → All ts (n.member_children (out-Member (member.Attribute x)))
   in_attribute x h = are ts _ (n.expr AttributeValue x.value ∷ []) (ap n.member_children (open_attribute x)) (h, tt)
 
   in_member : {d : ℕ} {ms : List Member} {i j : ℕ} → IsMembers ts d ms i j → (x : Member) → slice_get ms 0 ≡ Some x → All ts (n.member_children (out-Member x))
   unfolding node.attribute node.block
   in_member no_members x e = absurd (cc)
   in_member (blank l r) x e = in_member r x e
-  in_member (attribute p q y s r) x e = subst (λ x. All ts (n.member_children (out-Member x))) (some_is e) (in_attribute _ (held_expr y))
+  in_member (attribute p q y s r) x e = subst (λ x. All ts (n.member_children (out-Member x))) (some_is e) (in_attribute _ (derived_node_expr y))
   in_member (block p ns b s ms c l r) x e =
       subst (λ x. All ts (n.member_children (out-Member x))) (some_is e)
-      (in_block ts _ (all_labels ns) (are ts _ (n.body _ ∷ []) (ap n.content_children (open_lines _)) (body_held (span_line s).within ms, tt)))
+      (in_block ts _ (all_labels ns) (are ts _ (n.body _ ∷ []) (ap n.content_children (open_lines _)) (body_nodes_derived (span_line s).within ms, tt)))
   in_member (line_block p ns b t c l r) x e =
       subst (λ x. All ts (n.member_children (out-Member x))) (some_is e)
-      (in_block ts _ (all_labels ns) (are ts _ _ (ap n.content_children (open_line _)) (line_held t)))
+      (in_block ts _ (all_labels ns) (are ts _ _ (ap n.content_children (open_line _)) (line_nodes_derived t)))
 
   -- ---- a tree
 
-  inside : {x : Node} → Held ts x → All ts (children x)
-  inside (held_body b w e f) = all_members w
-  inside (held_member {x} w) = in_member w x refl
-  inside (held_on_line {x} w) = in_on_line w x refl
-  inside (held_label w) = tt
-  inside (held_expr {role} w) = in_expr role w
-  inside (held_term w) = in_term w
-  inside (held_tail w) = in_tail w
-  inside (held_intro w) = in_intro w
-  inside (held_template b w e f) = all_parts w
-  inside (held_part w) = in_part w
+  inside : {x : Node} → DerivedNode ts x → All ts (children x)
+  inside (derived_node_body b w e f) = all_members w
+  inside (derived_node_member {x} w) = in_member w x refl
+  inside (derived_node_on_line {x} w) = in_on_line w x refl
+  inside (derived_node_label w) = tt
+  inside (derived_node_expr {role} w) = in_expr role w
+  inside (derived_node_term w) = in_term w
+  inside (derived_node_tail w) = in_tail w
+  inside (derived_node_intro w) = in_intro w
+  inside (derived_node_template b w e f) = all_parts w
+  inside (derived_node_part w) = in_part w
 
   mutual
-    occurs : {x p : Node} → Held ts p → IsWithin x p → Held ts x
+    occurs : {x p : Node} → DerivedNode ts p → IsWithin x p → DerivedNode ts x
     occurs h itself = h
     occurs h (within a) = among (inside h) a
 
-    among : {x : Node} {ps : List Node} → All ts ps → IsWithinOneOf x ps → Held ts x
+    among : {x : Node} {ps : List Node} → All ts ps → IsWithinOneOf x ps → DerivedNode ts x
     among a (in_first s) = occurs a.0 s
     among a (in_rest s) = among a.1 s
 
@@ -270,6 +270,6 @@ module _ {ts : List Token} where
   begun no_mark = omega arith
   begun (mark p) = (step ts false k.Mark 0 p).within
 
-  pub held : {d : ℕ} {t : Tree} → IsFile ts d t → (x : Node) → IsWithin x (n.body t.body) → Held ts x
+  pub node_is_derived : {d : ℕ} {t : Tree} → IsFile ts d t → (x : Node) → IsWithin x (n.body t.body) → DerivedNode ts x
   unfolding node.tree
-  held (file f w l) x s = occurs (body_held (begun f) w) s
+  node_is_derived (file f w l) x s = occurs (body_nodes_derived (begun f) w) s

@@ -4,7 +4,7 @@ use Rattle.hcl_token.specs.declared.kind.Kind.{Kind}
 use Rattle.hcl_grammar.specs.Tokens.{Token, next_kind, after_next, is_kind}
 use Rattle.hcl_grammar.specs.Pure.Reading.{Outcome, Step, and_then, next_is, after_if_next, bump_kind, expect, bump, syntax_fault, pure, next_is_word, expect_word}
 use Rattle.hcl_grammar.specs.Lookahead.{NextIs, NextIsWord, NextIsNotWord}
-use Rattle.hcl_grammar_laws.proofs.Steps.{same-eq, sees-yes, past-yes, past-no, reads-yes, reads-word}
+use Rattle.hcl_grammar_laws.proofs.Steps.{same-eq, sees-yes, if_next-yes, if_next-no, reads-yes, reads-word}
 
 pub record Parsed {A B : Type 0} (r : Outcome A) (f : A → Step B) (y : B) (j : ℕ) : Type 0 where
   pub value : A
@@ -45,8 +45,8 @@ pub eat_inv : (ts : List Token) (m : Bool) (t : Kind) (i : ℕ) → Eaten ts m t
 eat_inv ts m t i = go (next_is ts m t i) refl
   where
     go : (b : Bool) → next_is ts m t i ≡ b → Eaten ts m t i
-    go true e = let h = sees-true ts m t i e in eaten h e (past-yes ts m t i h)
-    go false e = uneaten e (past-no ts m t i e)
+    go true e = let h = sees-true ts m t i e in eaten h e (if_next-yes ts m t i h)
+    go false e = uneaten e (if_next-no ts m t i e)
 
 pub record Expected (ts : List Token) (m : Bool) (t : Kind) (i j : ℕ) : Type 0 where
   pub token : NextIs ts m t i

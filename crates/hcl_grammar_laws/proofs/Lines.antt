@@ -5,7 +5,7 @@ use Rattle.hcl_grammar.specs.Tokens.{Token, after_next, same_kind}
 use Rattle.hcl_grammar.specs.Pure.Reading.{Outcome, Step, and_then, next_is}
 use Rattle.hcl_grammar.specs.Pure.Parser as p
 use Rattle.hcl_grammar.specs.Lookahead.{NextIs, IsNewline, line_end, comment, IsNewlines, no_lines, line, IsSep, comma, lines}
-use Rattle.hcl_grammar_laws.proofs.Steps.{expect-yes, sees-yes, past-yes, past-no}
+use Rattle.hcl_grammar_laws.proofs.Steps.{expect-yes, sees-yes, if_next-yes, if_next-no}
 use Rattle.hcl_grammar_laws.proofs.Ahead.{sees-other, Begins, no-begin}
 use Rattle.hcl_grammar_laws.proofs.Spans.{Spans, span_line, span_lines}
 
@@ -29,23 +29,23 @@ no_comma {ts} (comment {i} h n) = sees-other ts false k.LineComment k.Comma i h 
 module _ {ts : List Token} where
   pub line-yes : {i j : ℕ} → IsNewline ts i j → p.eat_newline ts i ≡ Ok (true, j)
   unfolding p.eat_newline same_kind
-  line-yes (line_end {i} h) = rw (past-no ts false k.LineComment i (sees-other ts false k.LineEnd k.LineComment i h refl), sees-yes ts false k.LineEnd i h)
-  line-yes (comment {i} h n) = rw (past-yes ts false k.LineComment i h, sees-yes ts false k.LineEnd (after_next ts false i) n)
+  line-yes (line_end {i} h) = rw (if_next-no ts false k.LineComment i (sees-other ts false k.LineEnd k.LineComment i h refl), sees-yes ts false k.LineEnd i h)
+  line-yes (comment {i} h n) = rw (if_next-yes ts false k.LineComment i h, sees-yes ts false k.LineEnd (after_next ts false i) n)
 
   pub inner-yes : {i j : ℕ} → IsNewline ts i j → p.eat_inner_newline ts i ≡ Ok (true, j)
   unfolding p.eat_inner_newline same_kind
   inner-yes (line_end {i} h) =
       let n = sees-other ts false k.LineEnd k.LineComment i h refl in
-      rw (n, past-no ts false k.LineComment i n, sees-yes ts false k.LineEnd i h, past-yes ts false k.LineEnd i h)
-  inner-yes (comment {i} h n) = rw (sees-yes ts false k.LineComment i h, past-yes ts false k.LineComment i h, expect-yes ts false k.LineEnd (after_next ts false i) n)
+      rw (n, if_next-no ts false k.LineComment i n, sees-yes ts false k.LineEnd i h, if_next-yes ts false k.LineEnd i h)
+  inner-yes (comment {i} h n) = rw (sees-yes ts false k.LineComment i h, if_next-yes ts false k.LineComment i h, expect-yes ts false k.LineEnd (after_next ts false i) n)
 
   pub no_line : {i : ℕ} → next_is ts false k.LineComment i ≡ false → next_is ts false k.LineEnd i ≡ false → NoLine ts i
   unfolding p.eat_newline
-  no_line {i} a b = record { is = rw (past-no ts false k.LineComment i a, b) }
+  no_line {i} a b = record { is = rw (if_next-no ts false k.LineComment i a, b) }
 
   pub no_inner : {i : ℕ} → next_is ts false k.LineComment i ≡ false → next_is ts false k.LineEnd i ≡ false → NoInner ts i
   unfolding p.eat_inner_newline
-  no_inner {i} a b = record { is = rw (a, past-no ts false k.LineComment i a, b, past-no ts false k.LineEnd i b) }
+  no_inner {i} a b = record { is = rw (a, if_next-no ts false k.LineComment i a, b, if_next-no ts false k.LineEnd i b) }
 
   pub no_inner_begins : {i : ℕ} → Begins ts false i → NoInner ts i
   no_inner_begins {i} b = no_inner (no-begin ts false k.LineComment i b refl) (no-begin ts false k.LineEnd i b refl)
@@ -65,8 +65,8 @@ module _ {ts : List Token} where
 
   pub sep-yes : {i j : ℕ} → IsSep ts i j → NoInner ts j → p.eat_separator ts i ≡ Ok (true, j)
   unfolding p.eat_separator
-  sep-yes (comma {i} {j} h t) s = rw (sees-yes ts false k.Comma i h, past-yes ts false k.Comma i h, lines_all t s)
-  sep-yes (lines {i} {j} {l = n} h t) s = rw (no_comma h, past-no ts false k.Comma i (no_comma h), inner-yes h, lines_all t s)
+  sep-yes (comma {i} {j} h t) s = rw (sees-yes ts false k.Comma i h, if_next-yes ts false k.Comma i h, lines_all t s)
+  sep-yes (lines {i} {j} {l = n} h t) s = rw (no_comma h, if_next-no ts false k.Comma i (no_comma h), inner-yes h, lines_all t s)
 
   pub sep_or_end-yes : {i j : ℕ} → IsSep ts i j → NoInner ts j → p.eat_separator_or_brace ts i ≡ Ok (true, j)
   unfolding p.eat_separator_or_brace
@@ -78,7 +78,7 @@ no_inner_at ts i h = no_inner (sees-other ts false k.CloseBrace k.LineComment i 
 
 pub sep-no : (ts : List Token) (i : ℕ) → NextIs ts false k.CloseBrace i → p.eat_separator ts i ≡ Ok (false, i)
 unfolding p.eat_separator same_kind
-sep-no ts i h = let n = sees-other ts false k.CloseBrace k.Comma i h refl in rw (n, past-no ts false k.Comma i n, (no_inner_at ts i h).is)
+sep-no ts i h = let n = sees-other ts false k.CloseBrace k.Comma i h refl in rw (n, if_next-no ts false k.Comma i n, (no_inner_at ts i h).is)
 
 pub sep_or_end-no : (ts : List Token) (i : ℕ) → NextIs ts false k.CloseBrace i → p.eat_separator_or_brace ts i ≡ Ok (false, after_next ts false i)
 unfolding p.eat_separator_or_brace

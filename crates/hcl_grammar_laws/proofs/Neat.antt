@@ -414,9 +414,9 @@ module _ (ts : List Token) where
   neat_members (line_block q ls h a c l ms) =
       via _ _ k.Identifier q refl (both (neat_labels ls) (via _ _ k.OpenBrace h refl (both (neat_on_line a (safe _ _ k.CloseBrace c refl)) (via _ _ k.CloseBrace c refl (both (neat_eol l) (neat_members ms))))))
 
-  neat_front : {i : ℕ} → IsOptionalMark ts i → Neat ts 0 i
-  neat_front no_mark = still 0
-  neat_front (mark q) = pass _ _ k.Mark q refl
+  neat_mark : {i : ℕ} → IsOptionalMark ts i → Neat ts 0 i
+  neat_mark no_mark = still 0
+  neat_mark (mark q) = pass _ _ k.Mark q refl
 
   -- what follows the last token that is not dropped
   none_left : (o : Option Token) → option_map (λ (t : Token). t.0) o ≡ None → o ≡ None
@@ -436,7 +436,7 @@ module _ (ts : List Token) where
   neat_file n {j} p l = split n j _ (λ x. p.at n (omega arith) x) (λ x. neat_last l n x)
 
   pub fine_file : {d : ℕ} {t : Tree} → IsFile ts d t → (n : ℕ) → Fine ts n
-  fine_file (file f ms l) n = neat_file n (both (neat_front f) (neat_members ms)) l
+  fine_file (file f ms l) n = neat_file n (both (neat_mark f) (neat_members ms)) l
 
 pub no_glue : (ts : List Token) (d : ℕ) (t : Tree) → IsFile ts d t → (n : ℕ) (a b : Token) → slice_get ts n ≡ Some a → slice_get ts (suc n) ≡ Some b → glues a.0 b.0 b.1 ≡ false
 no_glue ts d t w n a b p q = (fine_file ts w n).each a b p q

@@ -27,7 +27,7 @@ use Rattle.hcl_grammar.specs.Tokens.{Token, next_index, after_next}
 use Rattle.hcl_grammar.specs.TreeLayers.{PartLayer, MemberLayer}
 use Rattle.hcl_grammar.specs.TreeNodes as n
 use Rattle.hcl_grammar.specs.TreeNodes.{Node}
-use Rattle.hcl_grammar_laws.proofs.HeldNodes.{Held, held_body, held_member, held_on_line, held_label, held_expr, held_term, held_tail, held_intro, held_template, held_part, held}
+use Rattle.hcl_grammar_laws.proofs.HeldNodes.{DerivedNode, derived_node_body, derived_node_member, derived_node_on_line, derived_node_label, derived_node_expr, derived_node_term, derived_node_tail, derived_node_intro, derived_node_template, derived_node_part, node_is_derived}
 use Rattle.hcl_grammar_laws.proofs.Opens.{open_number, open_identifier, open_call, open_tuple, open_object, open_for_tuple, open_for_object, open_quoted, open_heredoc, open_parens, open_name, open_legacy, open_attribute_splat, open_full_splat, open_index, open_literal, open_interp, open_if, open_for, open_attribute, open_block, call_names, if_directive_first, if_directive_past}
 use Rattle.hcl_grammar_laws.proofs.Own.{own_template, own_body}
 use Rattle.hcl_grammar_laws.proofs.Restart.{own_expr, own_term}
@@ -143,17 +143,17 @@ module _ {ts : List Token} where
   member_derived (block p ns b s ms c l r) x e = subst (λ x. IsDerived ts (n.member x)) (some_is e) (is_block _ (own_block (block p ns b s ms c l r) 0 _ refl))
   member_derived (line_block p ns b t c l r) x e = subst (λ x. IsDerived ts (n.member x)) (some_is e) (is_block _ (own_block (line_block p ns b t c l r) 0 _ refl))
 
-  derived : {x : Node} → Held ts x → IsDerived ts x
-  derived (held_body {x} b w e f) = record { from = x.first; to = x.past; derived = is_body (own_body x w e f); own = (refl, refl) }
-  derived (held_member {x} w) = member_derived w x refl
-  derived (held_on_line {x} w) = record { from = x.first; to = x.past; derived = is_one_line_attribute (own_on_line w); own = (refl, refl) }
-  derived (held_label {x} w) = record { from = x.first; to = x.past; derived = is_label (own_label w 0 x refl); own = (refl, refl) }
-  derived (held_expr {x} w) = record { from = x.first; to = x.past; derived = is_expr (own_expr w); own = (refl, refl) }
-  derived (held_term {x} w) = record { from = x.first; to = x.past; derived = is_term (own_term w); own = (refl, refl) }
-  derived (held_tail {i} {j} w) = record { from = i; to = j; derived = is_tail w; own = tt }
-  derived (held_intro {x} w) = record { from = x.first; to = x.past; derived = is_intro (own_intro w); own = (refl, refl) }
-  derived (held_template {x} b w e f) = record { from = x.first; to = x.past; derived = is_template (own_template x w e f); own = (refl, refl) }
-  derived (held_part w) = part_derived w
+  derived : {x : Node} → DerivedNode ts x → IsDerived ts x
+  derived (derived_node_body {x} b w e f) = record { from = x.first; to = x.past; derived = is_body (own_body x w e f); own = (refl, refl) }
+  derived (derived_node_member {x} w) = member_derived w x refl
+  derived (derived_node_on_line {x} w) = record { from = x.first; to = x.past; derived = is_one_line_attribute (own_on_line w); own = (refl, refl) }
+  derived (derived_node_label {x} w) = record { from = x.first; to = x.past; derived = is_label (own_label w 0 x refl); own = (refl, refl) }
+  derived (derived_node_expr {x} w) = record { from = x.first; to = x.past; derived = is_expr (own_expr w); own = (refl, refl) }
+  derived (derived_node_term {x} w) = record { from = x.first; to = x.past; derived = is_term (own_term w); own = (refl, refl) }
+  derived (derived_node_tail {i} {j} w) = record { from = i; to = j; derived = is_tail w; own = tt }
+  derived (derived_node_intro {x} w) = record { from = x.first; to = x.past; derived = is_intro (own_intro w); own = (refl, refl) }
+  derived (derived_node_template {x} b w e f) = record { from = x.first; to = x.past; derived = is_template (own_template x w e f); own = (refl, refl) }
+  derived (derived_node_part w) = part_derived w
 
   -- ---- numbers
 
@@ -263,20 +263,20 @@ module _ {ts : List Token} where
   ends : {i j first past : ℕ} → i ≤ length ts → Spans ts i j → past ≡ j → Spans ts first past → Bounds ts (first, past)
   ends b s e t = (t.forth, omega (arith, b, s.within, e))
 
-  within : {x : Node} → Held ts x → AreNumbersWithin (length ts) x
-  within (held_body {x} b w e f) = record { tokens = tt; span = ends b (span_members w) f (span_members (own_body x w e f)) }
-  within (held_member {x} w) = member_within w x refl
-  within (held_on_line {x} w) = let s = take_on_line (own_on_line w) x refl in record { tokens = (first_fits s, (name_within w x refl, tt)); span = bounds s }
-  within (held_label {x} w) = let s = take_label (own_label w 0 x refl) in record { tokens = (first_fits s, label_numbers w); span = bounds s }
-  within (held_expr w) = let s = take_expr (own_expr w) in record { tokens = (first_fits s, tt); span = bounds s }
-  within (held_term w) = let s = span_term (own_term w) in record { tokens = (first_fits s, term_numbers w); span = bounds s }
-  within (held_tail w) = record { tokens = tail_numbers w; span = tt }
-  within (held_intro w) = let s = span_intro (own_intro w) in record { tokens = (first_fits s, intro_numbers w); span = bounds s }
-  within (held_template {x} b w e f) = record { tokens = tt; span = ends b (span_parts w) f (span_parts (own_template x w e f)) }
-  within (held_part w) = part_within w
+  within : {x : Node} → DerivedNode ts x → AreNumbersWithin (length ts) x
+  within (derived_node_body {x} b w e f) = record { tokens = tt; span = ends b (span_members w) f (span_members (own_body x w e f)) }
+  within (derived_node_member {x} w) = member_within w x refl
+  within (derived_node_on_line {x} w) = let s = take_on_line (own_on_line w) x refl in record { tokens = (first_fits s, (name_within w x refl, tt)); span = bounds s }
+  within (derived_node_label {x} w) = let s = take_label (own_label w 0 x refl) in record { tokens = (first_fits s, label_numbers w); span = bounds s }
+  within (derived_node_expr w) = let s = take_expr (own_expr w) in record { tokens = (first_fits s, tt); span = bounds s }
+  within (derived_node_term w) = let s = span_term (own_term w) in record { tokens = (first_fits s, term_numbers w); span = bounds s }
+  within (derived_node_tail w) = record { tokens = tail_numbers w; span = tt }
+  within (derived_node_intro w) = let s = span_intro (own_intro w) in record { tokens = (first_fits s, intro_numbers w); span = bounds s }
+  within (derived_node_template {x} b w e f) = record { tokens = tt; span = ends b (span_parts w) f (span_parts (own_template x w e f)) }
+  within (derived_node_part w) = part_within w
 
 pub nodes_derived : NodesAreDerived
-nodes_derived ts d t w x s = derived (held w x s)
+nodes_derived ts d t w x s = derived (node_is_derived w x s)
 
 pub numbers_within : NumbersAreWithin
-numbers_within ts d t w x s = within (held w x s)
+numbers_within ts d t w x s = within (node_is_derived w x s)

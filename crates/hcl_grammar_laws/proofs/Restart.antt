@@ -34,9 +34,9 @@ pub moved : (ts : List Token) (m : Bool) (t : Kind) (i n : ℕ) → next_index t
 unfolding next_kind next_token
 moved ts m t i n e h = ap (λ s. option_map (λ (t : Token). t.0) (slice_get ts s)) (sym e) ∙ h
 
-pub behind : (ts : List Token) (m : Bool) (i n : ℕ) → next_index ts m i ≡ next_index ts m n → after_next ts m i ≡ after_next ts m n
+pub following : (ts : List Token) (m : Bool) (i n : ℕ) → next_index ts m i ≡ next_index ts m n → after_next ts m i ≡ after_next ts m n
 unfolding after_next
-behind ts m i n e = ap suc e
+following ts m i n e = ap suc e
 
 -- the first token is the first from there on
 pub start-at : (ts : List Token) (m : Bool) (i : ℕ) (t : Kind) → NextIs ts m t i → next_index ts m i ≡ next_index ts m (next_index ts m i)
@@ -55,23 +55,23 @@ module _ {ts : List Token} where
   start-start m i b = start-at ts m i b.token b.is
 
   restart_term : {d : ℕ} {m : Bool} {x : Term} {i j : ℕ} → IsTerm ts d m x i j → (n : ℕ) → next_index ts m i ≡ next_index ts m n → IsTerm ts d m x n j
-  restart_term (number {m} {i} p) n e = rw (e, behind ts m i n e) (number (moved ts m k.Number i n e p))
+  restart_term (number {m} {i} p) n e = rw (e, following ts m i n e) (number (moved ts m k.Number i n e p))
   restart_term (identifier {m} {i} p q r) n e =
-      let a = behind ts m i n e in
+      let a = following ts m i n e in
       rw (e, a) (identifier (moved ts m k.Identifier i n e p) (subst (λ x. next_kind ts m x ≢ Some k.OpenParen) a q) (subst (λ x. next_kind ts m x ≢ Some k.DoubleColon) a r))
-  restart_term (call {m} {names} {i} {j} p ns q xs) n e = let a = behind ts m i n e in rw e (call (moved ts m k.Identifier i n e p) (subst (λ x. IsNameTail ts m names x j) a ns) q xs)
+  restart_term (call {m} {names} {i} {j} p ns q xs) n e = let a = following ts m i n e in rw e (call (moved ts m k.Identifier i n e p) (subst (λ x. IsNameTail ts m names x j) a ns) q xs)
   restart_term (tuple {d} {m} {es} {i} {j} p w xs) n e =
-      let a = behind ts m i n e in rw e (tuple (moved ts m k.OpenBracket i n e p) (subst (λ x. NextIsNotWord ts true for_word x) a w) (subst (λ x. IsItems ts d es x j) a xs))
+      let a = following ts m i n e in rw e (tuple (moved ts m k.OpenBracket i n e p) (subst (λ x. NextIsNotWord ts true for_word x) a w) (subst (λ x. IsItems ts d es x j) a xs))
   restart_term (object {m} {i} {j} p w l xs) n e =
-      let a = behind ts m i n e in rw e (object (moved ts m k.OpenBrace i n e p) (subst (λ x. NextIsNotWord ts true for_word x) a w) (subst (λ x. IsNewlines ts x j) a l) xs)
-  restart_term (for_tuple {d} {m} {x} {i} {j} p y c v f) n e = let a = behind ts m i n e in rw e (for_tuple (moved ts m k.OpenBracket i n e p) (subst (λ z. IsIntro ts d x z j) a y) c v f)
-  restart_term (for_object {d} {m} {x} {i} {j} p y c v f w s o) n e = let a = behind ts m i n e in rw e (for_object (moved ts m k.OpenBrace i n e p) (subst (λ z. IsIntro ts d x z j) a y) c v f w s o)
-  restart_term (quoted {d} {m} {ps} {i} {j} p xs q) n e = let a = behind ts m i n e in rw (e, a) (quoted (moved ts m k.QuoteOpen i n e p) (subst (λ x. IsParts ts d m ps x j) a xs) q)
-  restart_term (heredoc {d} {m} {ps} {i} {j} p xs q) n e = let a = behind ts m i n e in rw (e, a) (heredoc (moved ts m k.HereOpen i n e p) (subst (λ x. IsParts ts d m ps x j) a xs) q)
-  restart_term (parens {d} {m} {e = y} {i} {j} p x q) n e = let a = behind ts m i n e in rw e (parens (moved ts m k.OpenParen i n e p) (subst (λ z. IsExpr ts d true y z j) a x) q)
+      let a = following ts m i n e in rw e (object (moved ts m k.OpenBrace i n e p) (subst (λ x. NextIsNotWord ts true for_word x) a w) (subst (λ x. IsNewlines ts x j) a l) xs)
+  restart_term (for_tuple {d} {m} {x} {i} {j} p y c v f) n e = let a = following ts m i n e in rw e (for_tuple (moved ts m k.OpenBracket i n e p) (subst (λ z. IsIntro ts d x z j) a y) c v f)
+  restart_term (for_object {d} {m} {x} {i} {j} p y c v f w s o) n e = let a = following ts m i n e in rw e (for_object (moved ts m k.OpenBrace i n e p) (subst (λ z. IsIntro ts d x z j) a y) c v f w s o)
+  restart_term (quoted {d} {m} {ps} {i} {j} p xs q) n e = let a = following ts m i n e in rw (e, a) (quoted (moved ts m k.QuoteOpen i n e p) (subst (λ x. IsParts ts d m ps x j) a xs) q)
+  restart_term (heredoc {d} {m} {ps} {i} {j} p xs q) n e = let a = following ts m i n e in rw (e, a) (heredoc (moved ts m k.HereOpen i n e p) (subst (λ x. IsParts ts d m ps x j) a xs) q)
+  restart_term (parens {d} {m} {e = y} {i} {j} p x q) n e = let a = following ts m i n e in rw e (parens (moved ts m k.OpenParen i n e p) (subst (λ z. IsExpr ts d true y z j) a x) q)
 
   restart_unary : {d : ℕ} {m : Bool} {x : Expr} {i j : ℕ} → IsUnary ts d m x i j → (n : ℕ) → next_index ts m i ≡ next_index ts m n → IsUnary ts d m x n j
-  restart_unary (with_operator {d} {m} {t} {e = y} {i} {j} p o x) n e = rw e (with_operator (moved ts m t i n e p) o (subst (λ z. IsUnary ts d m y z j) (behind ts m i n e) x))
+  restart_unary (with_operator {d} {m} {t} {e = y} {i} {j} p o x) n e = rw e (with_operator (moved ts m t i n e p) o (subst (λ z. IsUnary ts d m y z j) (following ts m i n e) x))
   restart_unary (post {m} {i} p xs) n e = rw e (post (restart_term p n e) xs)
 
   restart_level : {d : ℕ} {m : Bool} {l : ℕ} {x : Expr} {i j : ℕ} → IsLevel ts d m l x i j → (n : ℕ) → next_index ts m i ≡ next_index ts m n → IsLevel ts d m l x n j

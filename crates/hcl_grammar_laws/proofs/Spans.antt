@@ -56,8 +56,8 @@ both p q = record { forth = omega arith; within = omega arith }
 pub ahead : {ts : List Token} {i j l : ℕ} → Takes ts i j → Spans ts j l → Takes ts i l
 ahead p q = record { forth = omega arith; within = omega arith }
 
-pub behind : {ts : List Token} {i j l : ℕ} → Spans ts i j → Takes ts j l → Takes ts i l
-behind p q = record { forth = omega arith; within = omega arith }
+pub following : {ts : List Token} {i j l : ℕ} → Spans ts i j → Takes ts j l → Takes ts i l
+following p q = record { forth = omega arith; within = omega arith }
 
 module _ {ts : List Token} where
   -- a step and what follows it
@@ -65,13 +65,13 @@ module _ {ts : List Token} where
   via m i t p q = both (loose (step ts m t i p)) q
 
   through : {j : ℕ} (m : Bool) (i : ℕ) (t : Kind) → NextIs ts m t i → Takes ts (after_next ts m i) j → Takes ts i j
-  through m i t p q = behind (loose (step ts m t i p)) q
+  through m i t p q = following (loose (step ts m t i p)) q
 
   via_word : {j : ℕ} (m : Bool) (w : List ℕ) (i : ℕ) → NextIsWord ts m w i → Spans ts (after_next ts m i) j → Spans ts i j
   via_word m w i p q = both (loose (step_word ts m w i p)) q
 
   through_word : {j : ℕ} (m : Bool) (w : List ℕ) (i : ℕ) → NextIsWord ts m w i → Takes ts (after_next ts m i) j → Takes ts i j
-  through_word m w i p q = behind (loose (step_word ts m w i p)) q
+  through_word m w i p q = following (loose (step_word ts m w i p)) q
 
   single : (m : Bool) (i : ℕ) (t : Kind) → NextIs ts m t i → Takes ts i (after_next ts m i)
   single m i t p = step ts m t i p
@@ -134,36 +134,36 @@ module _ {ts : List Token} where
     span_tail (legacy p) = single _ _ k.DotIndex p
     span_tail (attribute_splat p q) = through _ _ k.Dot p (single _ _ k.Star q)
     span_tail (full_splat p q c) = through _ _ k.OpenBracket p (through _ _ k.Star q (single _ _ k.CloseBracket c))
-    span_tail (index p e q) = through _ _ k.OpenBracket p (behind (span_expr e) (single _ _ k.CloseBracket q))
+    span_tail (index p e q) = through _ _ k.OpenBracket p (following (span_expr e) (single _ _ k.CloseBracket q))
 
     pub span_term : {d : ℕ} {m : Bool} {e : Term} {i j : ℕ} → IsTerm ts d m e i j → Takes ts i j
     span_term (number p) = single _ _ k.Number p
     span_term (identifier p q r) = single _ _ k.Identifier p
-    span_term (call p ns q xs) = through _ _ k.Identifier p (behind (span_names ns) (through _ _ k.OpenParen q (span_arguments xs)))
+    span_term (call p ns q xs) = through _ _ k.Identifier p (following (span_names ns) (through _ _ k.OpenParen q (span_arguments xs)))
     span_term (tuple p n xs) = through _ _ k.OpenBracket p (span_items xs)
-    span_term (object p n l xs) = through _ _ k.OpenBrace p (behind (span_lines l) (span_elems xs))
-    span_term (for_tuple p x c e f) = through _ _ k.OpenBracket p (behind (loose (span_intro x)) (through _ _ k.Colon c (behind (span_expr e) (span_filter f))))
+    span_term (object p n l xs) = through _ _ k.OpenBrace p (following (span_lines l) (span_elems xs))
+    span_term (for_tuple p x c e f) = through _ _ k.OpenBracket p (following (loose (span_intro x)) (through _ _ k.Colon c (following (span_expr e) (span_filter f))))
     span_term (for_object p x c e a v s f) =
-        through _ _ k.OpenBrace p (behind (loose (span_intro x)) (through _ _ k.Colon c (behind (span_expr e) (through _ _ k.FatArrow a (behind (span_expr v) (behind (span_dots s) (span_filter f)))))))
-    span_term (quoted p ps q) = through _ _ k.QuoteOpen p (behind (span_parts ps) (single _ _ k.QuoteClose q))
-    span_term (heredoc p ps q) = through _ _ k.HereOpen p (behind (span_parts ps) (single _ _ k.HereClose q))
-    span_term (parens p e q) = through _ _ k.OpenParen p (behind (span_expr e) (single _ _ k.CloseParen q))
+        through _ _ k.OpenBrace p (following (loose (span_intro x)) (through _ _ k.Colon c (following (span_expr e) (through _ _ k.FatArrow a (following (span_expr v) (following (span_dots s) (span_filter f)))))))
+    span_term (quoted p ps q) = through _ _ k.QuoteOpen p (following (span_parts ps) (single _ _ k.QuoteClose q))
+    span_term (heredoc p ps q) = through _ _ k.HereOpen p (following (span_parts ps) (single _ _ k.HereClose q))
+    span_term (parens p e q) = through _ _ k.OpenParen p (following (span_expr e) (single _ _ k.CloseParen q))
 
     pub span_arguments : {d : ℕ} {xs : List Expr} {s : Bool} {i j : ℕ} → IsArguments ts d xs s i j → Takes ts i j
     span_arguments (no_arguments p) = single _ _ k.CloseParen p
-    span_arguments (last_argument e p) = behind (span_expr e) (single _ _ k.CloseParen p)
-    span_arguments (spread_argument e q p) = behind (span_expr e) (through _ _ k.Ellipsis q (single _ _ k.CloseParen p))
-    span_arguments (argument e p xs) = behind (span_expr e) (through _ _ k.Comma p (span_arguments xs))
+    span_arguments (last_argument e p) = following (span_expr e) (single _ _ k.CloseParen p)
+    span_arguments (spread_argument e q p) = following (span_expr e) (through _ _ k.Ellipsis q (single _ _ k.CloseParen p))
+    span_arguments (argument e p xs) = following (span_expr e) (through _ _ k.Comma p (span_arguments xs))
 
     pub span_items : {d : ℕ} {xs : List Expr} {i j : ℕ} → IsItems ts d xs i j → Takes ts i j
     span_items (no_items p) = single _ _ k.CloseBracket p
-    span_items (last_item e p) = behind (span_expr e) (single _ _ k.CloseBracket p)
-    span_items (item e p xs) = behind (span_expr e) (through _ _ k.Comma p (span_items xs))
+    span_items (last_item e p) = following (span_expr e) (single _ _ k.CloseBracket p)
+    span_items (item e p xs) = following (span_expr e) (through _ _ k.Comma p (span_items xs))
 
     pub span_elems : {d : ℕ} {xs : List Elem} {i j : ℕ} → IsElems ts d xs i j → Takes ts i j
     span_elems (no_elems p) = single _ _ k.CloseBrace p
-    span_elems (last_elem e p) = behind (span_elem e) (single _ _ k.CloseBrace p)
-    span_elems (elems e p xs) = behind (span_elem e) (behind (loose (span_sep p)) (span_elems xs))
+    span_elems (last_elem e p) = following (span_elem e) (single _ _ k.CloseBrace p)
+    span_elems (elems e p xs) = following (span_elem e) (following (loose (span_sep p)) (span_elems xs))
 
     pub span_elem : {d : ℕ} {x : Elem} {i j : ℕ} → IsElem ts d x i j → Spans ts i j
     span_elem (by_equals a p b) = both (span_expr a) (via _ _ k.Equal p (span_expr b))
@@ -174,7 +174,7 @@ module _ {ts : List Token} where
 
     pub span_filter : {d : ℕ} {close : Kind} {o : Option Expr} {i j : ℕ} → IsFilter ts d close o i j → Takes ts i j
     span_filter (no_filter {close} p) = single _ _ close p
-    span_filter (filter {close} w e p) = through_word _ _ _ w (behind (span_expr e) (single _ _ close p))
+    span_filter (filter {close} w e p) = through_word _ _ _ w (following (span_expr e) (single _ _ close p))
 
     pub span_parts : {d : ℕ} {m : Bool} {xs : List Part} {i j : ℕ} → IsParts ts d m xs i j → Spans ts i j
     span_parts (no_parts {i}) = still ts i
@@ -183,13 +183,13 @@ module _ {ts : List Token} where
     pub span_part : {d : ℕ} {m : Bool} {x : Part} {i j : ℕ} → IsPart ts d m x i j → Takes ts i j
     span_part (quote_text p) = single _ _ k.QuoteLit p
     span_part (here_text p) = single _ _ k.HereLit p
-    span_part (interp p e q) = through _ _ k.InterpOpen p (behind (span_expr e) (single _ _ k.SeqClose q))
-    span_part (if_directive p w c q ps o) = through _ _ k.DirectiveOpen p (through_word _ _ _ w (behind (span_expr c) (through _ _ k.SeqClose q (behind (span_parts ps) (span_else o)))))
-    span_part (for_directive p x q ps e) = through _ _ k.DirectiveOpen p (behind (loose (span_intro x)) (through _ _ k.SeqClose q (behind (span_parts ps) (span_keyword e))))
+    span_part (interp p e q) = through _ _ k.InterpOpen p (following (span_expr e) (single _ _ k.SeqClose q))
+    span_part (if_directive p w c q ps o) = through _ _ k.DirectiveOpen p (through_word _ _ _ w (following (span_expr c) (through _ _ k.SeqClose q (following (span_parts ps) (span_else o)))))
+    span_part (for_directive p x q ps e) = through _ _ k.DirectiveOpen p (following (loose (span_intro x)) (through _ _ k.SeqClose q (following (span_parts ps) (span_keyword e))))
 
     pub span_else : {d : ℕ} {m : Bool} {o : Option Template} {i j : ℕ} → IsElse ts d m o i j → Takes ts i j
     span_else (no_else e) = span_keyword e
-    span_else (has_else q ps e) = behind (loose (span_keyword q)) (behind (span_parts ps) (span_keyword e))
+    span_else (has_else q ps e) = following (loose (span_keyword q)) (following (span_parts ps) (span_keyword e))
 
   pub span_labels : {ls : List Label} {i j : ℕ} → IsLabels ts ls i j → Spans ts i j
   span_labels (no_labels {i}) = still ts i

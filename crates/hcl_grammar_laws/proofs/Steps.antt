@@ -38,13 +38,13 @@ pub sees-yes : (ts : List Token) (m : Bool) (t : Kind) (i : ℕ) → NextIs ts m
 unfolding next_is
 sees-yes ts m t i h = ap (λ o. is_kind o t) h ∙ same-self t
 
-pub past-yes : (ts : List Token) (m : Bool) (t : Kind) (i : ℕ) → NextIs ts m t i → after_if_next ts m t i ≡ after_next ts m i
+pub if_next-yes : (ts : List Token) (m : Bool) (t : Kind) (i : ℕ) → NextIs ts m t i → after_if_next ts m t i ≡ after_next ts m i
 unfolding after_if_next
-past-yes ts m t i h = rw (sees-yes ts m t i h)
+if_next-yes ts m t i h = rw (sees-yes ts m t i h)
 
-pub past-no : (ts : List Token) (m : Bool) (t : Kind) (i : ℕ) → next_is ts m t i ≡ false → after_if_next ts m t i ≡ i
+pub if_next-no : (ts : List Token) (m : Bool) (t : Kind) (i : ℕ) → next_is ts m t i ≡ false → after_if_next ts m t i ≡ i
 unfolding after_if_next
-past-no ts m t i h = rw h
+if_next-no ts m t i h = rw h
 
 pub expect-yes : (ts : List Token) (m : Bool) (t : Kind) (i : ℕ) → NextIs ts m t i → expect ts m t i ≡ Ok (tt, after_next ts m i)
 unfolding expect

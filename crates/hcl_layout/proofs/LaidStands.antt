@@ -17,8 +17,8 @@ use Rattle.hcl_layout.specs.Gaps.Cells.{index_of_first, index_after_first, has_c
 use Rattle.hcl_layout.specs.Gaps.Inner.Stages.{greatest, cell_gaps_from_width, widths, with_cell_gaps}
 use Rattle.hcl_layout.specs.Gaps.Layout.{with_spacing, with_indent, format_line, format_lines, layout_body}
 use Rattle.hcl_layout.proofs.Lower.{LinesHaveAll}
-use Rattle.hcl_layout.proofs.Stands.{Stands, AllStand}
-use Rattle.hcl_layout.proofs.Begun.{last_of, AreBegun, lines_begun}
+use Rattle.hcl_layout.proofs.Stands.{IsAllowedAfter, AllAllowedAfter}
+use Rattle.hcl_layout.proofs.Begun.{last_of, LinesStartAfter, lines_start_after}
 use Rattle.hcl_layout.proofs.GapsLemmas.CellLaw.{aligned_is}
 
 spaces_whitespace : (n : ℕ) → list_all is_whitespace (spaces n) ≡ true
@@ -26,12 +26,12 @@ spaces_whitespace zero = refl
 spaces_whitespace (suc n) = spaces_whitespace n
 
 -- the token with another gap
-allowed_with : (k : Kind) (s : List ℕ) (p : Pair) (gap : List ℕ) → Stands k s p → list_all is_whitespace gap ≡ true → ((has_no_gap_after k || has_no_gap_before p.kind) ≡ true → gap ≡ []) → (gap ≡ [] → joins_with k s p.kind p.spelling ≡ false)
-    → Stands k s (record p { gap = gap })
-allowed_with k s p gap h blank none apart = record { whitespace = blank; none = none; apart = apart; literal = h.literal; shut = h.shut }
+allowed_with : (k : Kind) (s : List ℕ) (p : Pair) (gap : List ℕ) → IsAllowedAfter k s p → list_all is_whitespace gap ≡ true → ((has_no_gap_after k || has_no_gap_before p.kind) ≡ true → gap ≡ []) → (gap ≡ [] → joins_with k s p.kind p.spelling ≡ false)
+    → IsAllowedAfter k s (record p { gap = gap })
+allowed_with k s p gap h is_white none apart = record { whitespace = is_white; none = none; apart = apart; literal = h.literal; shut = h.shut }
 
 -- more tokens after tokens
-allowed_after : (k : Kind) (s : List ℕ) (ps old new : List Pair) → AllStand k s (ps ++ old) → ((t : List ℕ) → AllStand (last_of k ps) t old → AllStand (last_of k ps) t new) → AllStand k s (ps ++ new)
+allowed_after : (k : Kind) (s : List ℕ) (ps old new : List Pair) → AllAllowedAfter k s (ps ++ old) → ((t : List ℕ) → AllAllowedAfter (last_of k ps) t old → AllAllowedAfter (last_of k ps) t new) → AllAllowedAfter k s (ps ++ new)
 allowed_after k s [] old new h f = f s h
 allowed_after k s (p ∷ ps) old new h f = (h.0, allowed_after p.kind p.spelling ps old new h.1 f)
 
@@ -57,10 +57,10 @@ between_apart false with_spacing false h e = refl
 between_apart false true true h e = absurd (cc)
 between_apart false false true h e = absurd (cc)
 
-after_shut : (before : List Kind) (a b : Pair) → Stands a.kind a.spelling b → has_no_gap_after a.kind ≡ true → has_no_gap_before b.kind ≡ false → (is_spaced before a b || joins_with a.kind a.spelling b.kind b.spelling) ≡ false
+after_shut : (before : List Kind) (a b : Pair) → IsAllowedAfter a.kind a.spelling b → has_no_gap_after a.kind ≡ true → has_no_gap_before b.kind ≡ false → (is_spaced before a b || joins_with a.kind a.spelling b.kind b.spelling) ≡ false
 after_shut before a b h shut gap = rw (h.shut shut gap, shut_joins a.kind a.spelling b.kind b.spelling shut) refl
 
-between_is_allowed : (before : List Kind) (a b : Pair) → Stands a.kind a.spelling b → Stands a.kind a.spelling (record b { gap = gap_between before a b })
+between_is_allowed : (before : List Kind) (a b : Pair) → IsAllowedAfter a.kind a.spelling b → IsAllowedAfter a.kind a.spelling (record b { gap = gap_between before a b })
 between_is_allowed before a b h =
     let joins : Bool = joins_with a.kind a.spelling b.kind b.spelling in
     let some : Bool = is_spaced before a b || joins in
@@ -72,15 +72,15 @@ between_is_allowed before a b h =
     ])
     (between_apart (has_no_gap_before b.kind) (is_spaced before a b) joins (λ e. (h.literal e).0))
 
-spaced_stand : (before : List Kind) (a : Pair) (ps rest : List Pair) → AllStand a.kind a.spelling (ps ++ rest) → AllStand a.kind a.spelling (with_spacing before a ps ++ rest)
-spaced_stand before a [] rest h = h
-spaced_stand before a (b ∷ ps) rest h = (between_is_allowed before a b h.0, spaced_stand (prev_after a before) b ps rest h.1)
+spaced_allowed : (before : List Kind) (a : Pair) (ps rest : List Pair) → AllAllowedAfter a.kind a.spelling (ps ++ rest) → AllAllowedAfter a.kind a.spelling (with_spacing before a ps ++ rest)
+spaced_allowed before a [] rest h = h
+spaced_allowed before a (b ∷ ps) rest h = (between_is_allowed before a b h.0, spaced_allowed (prev_after a before) b ps rest h.1)
 
 indent_whitespace : (ends : Bool) (deep : ℕ) → list_all is_whitespace (if ends then [] else spaces (2 * deep)) ≡ true
 indent_whitespace true deep = refl
 indent_whitespace false deep = spaces_whitespace (2 * deep)
 
-first_is_allowed : (k : Kind) (s : List ℕ) (p : Pair) (deep : ℕ) → k ≡ LineEnd → Stands k s p → Stands k s (record p { gap = if is_line_end p.kind then [] else spaces (2 * deep) })
+first_is_allowed : (k : Kind) (s : List ℕ) (p : Pair) (deep : ℕ) → k ≡ LineEnd → IsAllowedAfter k s p → IsAllowedAfter k s (record p { gap = if is_line_end p.kind then [] else spaces (2 * deep) })
 first_is_allowed k s p deep e h =
     allowed_with k s p (if is_line_end p.kind then [] else spaces (2 * deep)) h
     (indent_whitespace (is_line_end p.kind) deep)
@@ -90,21 +90,21 @@ first_is_allowed k s p deep e h =
     ]))
     (λ _. ap (λ j. joins_with j s p.kind p.spelling) e)
 
-indented_stand : (k : Kind) (s : List ℕ) (deep : ℕ) (before : List Kind) (ps rest : List Pair) → k ≡ LineEnd → AllStand k s (ps ++ rest) → AllStand k s (with_indent deep before ps ++ rest)
-indented_stand k s deep before [] rest e h = h
-indented_stand k s deep before (p ∷ ps) rest e h = (first_is_allowed k s p deep e h.0, spaced_stand before p ps rest h.1)
+indented_allowed : (k : Kind) (s : List ℕ) (deep : ℕ) (before : List Kind) (ps rest : List Pair) → k ≡ LineEnd → AllAllowedAfter k s (ps ++ rest) → AllAllowedAfter k s (with_indent deep before ps ++ rest)
+indented_allowed k s deep before [] rest e h = h
+indented_allowed k s deep before (p ∷ ps) rest e h = (first_is_allowed k s p deep e h.0, spaced_allowed before p ps rest h.1)
 
-line_stand : (k : Kind) (s : List ℕ) (deep : ℕ) (before : List Kind) (frozen : Bool) (ps rest : List Pair) → (frozen ≡ false → k ≡ LineEnd) → AllStand k s (ps ++ rest)
-    → AllStand k s ((format_line deep before (record { frozen = frozen; pairs = ps })).pairs ++ rest)
-line_stand k s deep before true ps rest begins h = h
-line_stand k s deep before false ps rest begins h = indented_stand k s deep before ps rest (begins refl) h
+line_allowed : (k : Kind) (s : List ℕ) (deep : ℕ) (before : List Kind) (frozen : Bool) (ps rest : List Pair) → (frozen ≡ false → k ≡ LineEnd) → AllAllowedAfter k s (ps ++ rest)
+    → AllAllowedAfter k s ((format_line deep before (record { frozen = frozen; pairs = ps })).pairs ++ rest)
+line_allowed k s deep before true ps rest begins h = h
+line_allowed k s deep before false ps rest begins h = indented_allowed k s deep before ps rest (begins refl) h
 
-set_stand : (k : Kind) (s : List ℕ) (earlier : List Line) (before : List Kind) (lines : List Line) → AreBegun k lines → AllStand k s (pairs_in lines) → AllStand k s (pairs_in (format_lines earlier before lines))
-set_stand k s earlier before [] begun h = h
-set_stand k s earlier before (line ∷ lines) begun h =
+set_allowed : (k : Kind) (s : List ℕ) (earlier : List Line) (before : List Kind) (lines : List Line) → LinesStartAfter k lines → AllAllowedAfter k s (pairs_in lines) → AllAllowedAfter k s (pairs_in (format_lines earlier before lines))
+set_allowed k s earlier before [] begun h = h
+set_allowed k s earlier before (line ∷ lines) begun h =
     let more : List Pair = pairs_in (format_lines (earlier ++ line ∷ []) (prev_after_all line.pairs before) lines) in
-    line_stand k s (level earlier line) before line.frozen line.pairs more begun.0
-    (allowed_after k s line.pairs (pairs_in lines) more h (λ t. set_stand (last_of k line.pairs) t (earlier ++ line ∷ []) (prev_after_all line.pairs before) lines begun.1))
+    line_allowed k s (level earlier line) before line.frozen line.pairs more begun.0
+    (allowed_after k s line.pairs (pairs_in lines) more h (λ t. set_allowed (last_of k line.pairs) t (earlier ++ line ∷ []) (prev_after_all line.pairs before) lines begun.1))
 
 -- ---- cells
 
@@ -133,7 +133,7 @@ some_space : (r : ℕ) → 0 < r → spaces r ≡ [] → ⊥
 some_space zero h e = absurd (omega arith)
 some_space (suc r) h e = absurd (cc)
 
-moved_is_allowed : (k : Kind) (s : List ℕ) (p : Pair) (r : ℕ) → 0 < r → (has_no_gap_before p.kind ≡ false) × (is_line_end p.kind ≡ false) → Stands k s p → Stands k s (record p { gap = spaces r })
+moved_is_allowed : (k : Kind) (s : List ℕ) (p : Pair) (r : ℕ) → 0 < r → (has_no_gap_before p.kind ≡ false) × (is_line_end p.kind ≡ false) → IsAllowedAfter k s p → IsAllowedAfter k s (record p { gap = spaces r })
 moved_is_allowed k s p r some free h =
     allowed_with k s p (spaces r) h (spaces_whitespace r)
     (λ g. absurd (elim (or_cases (has_no_gap_after k) (has_no_gap_before p.kind) g) as (λ _. ⊥) [
@@ -142,15 +142,15 @@ moved_is_allowed k s p r some free h =
     ]))
     (λ e. absurd (some_space r some e))
 
-gap_stand : (k : Kind) (s : List ℕ) (n r : ℕ) (ps rest : List Pair) → 0 < r → IsFreeAt n ps → AllStand k s (ps ++ rest) → AllStand k s (with_gap n (spaces r) ps ++ rest)
-gap_stand k s n r [] rest some free h = h
-gap_stand k s zero r (p ∷ ps) rest some free h = (moved_is_allowed k s p r some free h.0, h.1)
-gap_stand k s (suc n) r (p ∷ ps) rest some free h = (h.0, gap_stand p.kind p.spelling n r ps rest some free h.1)
+gap_allowed : (k : Kind) (s : List ℕ) (n r : ℕ) (ps rest : List Pair) → 0 < r → IsFreeAt n ps → AllAllowedAfter k s (ps ++ rest) → AllAllowedAfter k s (with_gap n (spaces r) ps ++ rest)
+gap_allowed k s n r [] rest some free h = h
+gap_allowed k s zero r (p ∷ ps) rest some free h = (moved_is_allowed k s p r some free h.0, h.1)
+gap_allowed k s (suc n) r (p ∷ ps) rest some free h = (h.0, gap_allowed p.kind p.spelling n r ps rest some free h.1)
 
-cell_stand : (k : Kind) (s : List ℕ) (found count : Option ℕ) (line : Line) (rest : List Pair) → IsFree found line.pairs → AreSpaces (count ∷ []) → AllStand k s (line.pairs ++ rest) → AllStand k s ((with_cell_gap found count line).pairs ++ rest)
-cell_stand k s None count line rest free some h = h
-cell_stand k s (Some n) None line rest free some h = h
-cell_stand k s (Some n) (Some r) line rest free some h = gap_stand k s n r line.pairs rest some.0 free h
+cell_allowed : (k : Kind) (s : List ℕ) (found count : Option ℕ) (line : Line) (rest : List Pair) → IsFree found line.pairs → AreSpaces (count ∷ []) → AllAllowedAfter k s (line.pairs ++ rest) → AllAllowedAfter k s ((with_cell_gap found count line).pairs ++ rest)
+cell_allowed k s None count line rest free some h = h
+cell_allowed k s (Some n) None line rest free some h = h
+cell_allowed k s (Some n) (Some r) line rest free some h = gap_allowed k s n r line.pairs rest some.0 free h
 
 abbrev CellsFree : (Line → Option ℕ) → Type 0
 CellsFree cell = (line : Line) → IsFree (cell line) line.pairs
@@ -159,14 +159,14 @@ spaces_parts : (r : Option ℕ) (rs : List (Option ℕ)) → AreSpaces (r ∷ rs
 spaces_parts None rs h = (tt, h)
 spaces_parts (Some r) rs h = ((h.0, tt), h.1)
 
-moved_stand : (k : Kind) (s : List ℕ) (cell : Line → Option ℕ) (rs : List (Option ℕ)) (lines : List Line) → CellsFree cell → AreSpaces rs → AllStand k s (pairs_in lines) → AllStand k s (pairs_in (with_cell_gaps cell rs lines))
-moved_stand k s cell [] lines free some h = h
-moved_stand k s cell (r ∷ rs) [] free some h = h
-moved_stand k s cell (r ∷ rs) (line ∷ lines) free some h =
+moved_allowed : (k : Kind) (s : List ℕ) (cell : Line → Option ℕ) (rs : List (Option ℕ)) (lines : List Line) → CellsFree cell → AreSpaces rs → AllAllowedAfter k s (pairs_in lines) → AllAllowedAfter k s (pairs_in (with_cell_gaps cell rs lines))
+moved_allowed k s cell [] lines free some h = h
+moved_allowed k s cell (r ∷ rs) [] free some h = h
+moved_allowed k s cell (r ∷ rs) (line ∷ lines) free some h =
     let parts = spaces_parts r rs some in
     let more : List Pair = pairs_in (with_cell_gaps cell rs lines) in
-    cell_stand k s (cell line) r line more (free line) parts.0
-    (allowed_after k s line.pairs (pairs_in lines) more h (λ t. moved_stand (last_of k line.pairs) t cell rs lines free parts.1))
+    cell_allowed k s (cell line) r line more (free line) parts.0
+    (allowed_after k s line.pairs (pairs_in lines) more h (λ t. moved_allowed (last_of k line.pairs) t cell rs lines free parts.1))
 
 -- the cells begin with `=` and with line comments
 abbrev KindsFree : (Kind → Bool) → Type 0
@@ -211,18 +211,18 @@ assignments_free line =
 comments_free : CellsFree closing_comment
 comments_free line = if_free (has_cells line) (index_after_first (λ (p : Pair). is_line_comment p.kind) line.pairs) line.pairs (later_free is_line_comment line.pairs comment_free)
 
-aligned_stand : (k : Kind) (s : List ℕ) (cell : Line → Option ℕ) (lines : List Line) → CellsFree cell → AllStand k s (pairs_in lines) → AllStand k s (pairs_in (aligned cell lines))
-aligned_stand k s cell lines free h =
+aligned_allowed : (k : Kind) (s : List ℕ) (cell : Line → Option ℕ) (lines : List Line) → CellsFree cell → AllAllowedAfter k s (pairs_in lines) → AllAllowedAfter k s (pairs_in (aligned cell lines))
+aligned_allowed k s cell lines free h =
     let ws : List (Option ℕ) = widths cell lines in
-    subst (λ (ls : List Line). AllStand k s (pairs_in ls)) (sym (aligned_is cell lines))
-    (moved_stand k s cell (cell_gaps_from_width (greatest ws) ws) lines free (gaps_some (greatest ws) ws) h)
+    subst (λ (ls : List Line). AllAllowedAfter k s (pairs_in ls)) (sym (aligned_is cell lines))
+    (moved_allowed k s cell (cell_gaps_from_width (greatest ws) ws) lines free (gaps_some (greatest ws) ws) h)
 
 -- ---- all stages
 
-pub body_stand : LinesHaveAll → (s : List ℕ) (ps : List Pair) → AllStand LineEnd s ps → AllStand LineEnd s (layout_body ps)
-body_stand lines_have_all s ps h =
+pub body_allowed : LinesHaveAll → (s : List ℕ) (ps : List Pair) → AllAllowedAfter LineEnd s ps → AllAllowedAfter LineEnd s (layout_body ps)
+body_allowed lines_have_all s ps h =
     let lines : List Line = lines_of ps in
-    let old : AllStand LineEnd s (pairs_in lines) = subst (AllStand LineEnd s) (sym (lines_have_all ps)) h in
+    let old : AllAllowedAfter LineEnd s (pairs_in lines) = subst (AllAllowedAfter LineEnd s) (sym (lines_have_all ps)) h in
     let first : List Line = format_lines [] [] lines in
-    let set = set_stand LineEnd s [] [] lines (lines_begun ps) old in
-    aligned_stand LineEnd s closing_comment (aligned assignment first) comments_free (aligned_stand LineEnd s assignment first assignments_free set)
+    let set = set_allowed LineEnd s [] [] lines (lines_start_after ps) old in
+    aligned_allowed LineEnd s closing_comment (aligned assignment first) comments_free (aligned_allowed LineEnd s assignment first assignments_free set)

@@ -18,7 +18,7 @@ use Rattle.hcl_layout.proofs.LineEnds.{line_token}
 
 -- A token after another: its gap may be there, and, whatever the gap, what is before literal text
 -- joins with nothing and ends no line, and after what allows no gap is literal text or a line end.
-pub record Stands (k : Kind) (s : List ℕ) (p : Pair) : Type 0 where
+pub record IsAllowedAfter (k : Kind) (s : List ℕ) (p : Pair) : Type 0 where
   pub whitespace : list_all is_whitespace p.gap ≡ true
   pub none : (has_no_gap_after k || has_no_gap_before p.kind) ≡ true → p.gap ≡ []
   pub apart : p.gap ≡ [] → joins_with k s p.kind p.spelling ≡ false
@@ -26,17 +26,17 @@ pub record Stands (k : Kind) (s : List ℕ) (p : Pair) : Type 0 where
   pub shut : has_no_gap_after k ≡ true → has_no_gap_before p.kind ≡ false → is_line_end p.kind ≡ true
 
 -- each token after the one before it, the first after this one
-abbrev pub AllStand : Kind → List ℕ → List Pair → Type 0
-AllStand k s [] = Unit {0}
-AllStand k s (p ∷ ps) = Stands k s p × AllStand p.kind p.spelling ps
+abbrev pub AllAllowedAfter : Kind → List ℕ → List Pair → Type 0
+AllAllowedAfter k s [] = Unit {0}
+AllAllowedAfter k s (p ∷ ps) = IsAllowedAfter k s p × AllAllowedAfter p.kind p.spelling ps
 
-pub stand_gaps : (k : Kind) (s : List ℕ) (ps : List Pair) → AllStand k s ps → AreAllowedGaps (has_no_gap_after k) ps []
-stand_gaps k s [] h = (refl, λ _. refl)
-stand_gaps k s (p ∷ ps) h = (h.0.whitespace, h.0.none, stand_gaps p.kind p.spelling ps h.1)
+pub allowed_gaps : (k : Kind) (s : List ℕ) (ps : List Pair) → AllAllowedAfter k s ps → AreAllowedGaps (has_no_gap_after k) ps []
+allowed_gaps k s [] h = (refl, λ _. refl)
+allowed_gaps k s (p ∷ ps) h = (h.0.whitespace, h.0.none, allowed_gaps p.kind p.spelling ps h.1)
 
-pub stand_apart : (k : Kind) (s : List ℕ) (ps : List Pair) → AllStand k s ps → IsApart k s ps × AreApart ps
-stand_apart k s [] h = (tt, tt)
-stand_apart k s (p ∷ ps) h = (h.0.apart, stand_apart p.kind p.spelling ps h.1)
+pub allowed_apart : (k : Kind) (s : List ℕ) (ps : List Pair) → AllAllowedAfter k s ps → IsApart k s ps × AreApart ps
+allowed_apart k s [] h = (tt, tt)
+allowed_apart k s (p ∷ ps) h = (h.0.apart, allowed_apart p.kind p.spelling ps h.1)
 
 -- ---- of a cut
 
@@ -93,9 +93,9 @@ comment_ends (p ∷ ps) last h = λ gap. ap is_line_end h.1
 
 shut_ends : (mode : Mode) (k : Kind) (s : List ℕ) (modes left : List Mode) (ps : List Pair) (last : List ℕ) → Spells mode k s (following_text ps last) → AllowsNext k ps last
     → FollowsFrom modes ps last left → AreAllowedGaps (has_no_gap_after k) ps last → has_no_gap_after k ≡ true → NextEnds ps
-shut_ends mode LineComment s modes left ps last h behind f gaps e = comment_ends ps last behind
-shut_ends mode HereClose s modes left ps last h behind f gaps e = here_ends modes left ps last f gaps h.5
-shut_ends mode k s modes left ps last h behind f gaps e = absurd (false≢true e)
+shut_ends mode LineComment s modes left ps last h following f gaps e = comment_ends ps last following
+shut_ends mode HereClose s modes left ps last h following f gaps e = here_ends modes left ps last f gaps h.5
+shut_ends mode k s modes left ps last h following f gaps e = absurd (false≢true e)
 
 next_shut : (k : Kind) (p : Pair) (ps : List Pair) → (has_no_gap_after k ≡ true → NextEnds (p ∷ ps)) → has_no_gap_after k ≡ true → has_no_gap_before p.kind ≡ false → is_line_end p.kind ≡ true
 next_shut k p ps h e = h e
@@ -103,7 +103,7 @@ next_shut k p ps h e = h e
 pub tokens_are_allowed : (k : Kind) (s : List ℕ) (modes left : List Mode) (ps : List Pair) (last : List ℕ)
     → (is_literal (mode_of modes) ≡ true → ((j : Kind) (t : List ℕ) → joins_with k s j t ≡ false) × (is_line_end k ≡ false))
     → (has_no_gap_after k ≡ true → NextEnds ps)
-    → FollowsFrom modes ps last left → AreAllowedGaps (has_no_gap_after k) ps last → IsApart k s ps → AreApart ps → AllStand k s ps
+    → FollowsFrom modes ps last left → AreAllowedGaps (has_no_gap_after k) ps last → IsApart k s ps → AreApart ps → AllAllowedAfter k s ps
 tokens_are_allowed k s modes left [] last literal shut f gaps first apart = tt
 tokens_are_allowed k s modes left (p ∷ ps) last literal shut f gaps first apart = (
   record {
@@ -120,8 +120,8 @@ tokens_are_allowed k s modes left (p ∷ ps) last literal shut f gaps first apar
 )
 
 -- from the start of a text on, as after a line end
-pub front_is_allowed : (body : List Pair) (last : List ℕ) → FollowsFrom [] body last [] → AreAllowedGaps false body last → AreApart body → AllStand LineEnd [] body
-front_is_allowed body last f gaps apart =
+pub text_is_allowed : (body : List Pair) (last : List ℕ) → FollowsFrom [] body last [] → AreAllowedGaps false body last → AreApart body → AllAllowedAfter LineEnd [] body
+text_is_allowed body last f gaps apart =
     tokens_are_allowed LineEnd [] [] [] body last (λ h. absurd (false≢true h)) (λ h. absurd (false≢true h)) f gaps (first body) apart
   where
     first : (ps : List Pair) → IsApart LineEnd [] ps

@@ -98,19 +98,19 @@ allowed_after [] q qs modes last f = f.2.0
 allowed_after (p ∷ ps) q qs modes last f = allowed_after ps q qs (modes_after p.kind p.spelling modes) last f.4
 
 -- after one more token
-pub depth_more : (cut : TokenizedText) (from at i depth : ℕ) (kind : Kind) → IsLineStart cut from at → from ≤ i → i < length cut.pairs → Some kind ≡ kind_of cut.pairs i
-    → depth ≡ length (modes_after_pairs [] (slice_range cut.pairs from i)) → depth_after kind depth ≡ length (modes_after_pairs [] (slice_range cut.pairs from (i + 1)))
-depth_more cut from at i depth kind f le within is so_far =
-    let there = pair_there cut.pairs i within in
+pub depth_more : (tokenized : TokenizedText) (from at i depth : ℕ) (kind : Kind) → IsLineStart tokenized from at → from ≤ i → i < length tokenized.pairs → Some kind ≡ kind_of tokenized.pairs i
+    → depth ≡ length (modes_after_pairs [] (slice_range tokenized.pairs from i)) → depth_after kind depth ≡ length (modes_after_pairs [] (slice_range tokenized.pairs from (i + 1)))
+depth_more tokenized from at i depth kind f le within is so_far =
+    let there = pair_there tokenized.pairs i within in
     let p : Pair = there.0 in
-    let before : List Pair = slice_range cut.pairs from i in
-    let rest : List Pair = drop (suc i) cut.pairs in
-    let split : drop from cut.pairs ≡ before ++ p ∷ rest = drop_split cut.pairs from i le ∙ ap (λ (x : List Pair). before ++ x) (one_at cut.pairs i p there.1) in
-    let follow : FollowsFrom [] (before ++ p ∷ rest) cut.last [] = subst (λ (x : List Pair). FollowsFrom [] x cut.last []) split f.rest.follow in
+    let before : List Pair = slice_range tokenized.pairs from i in
+    let rest : List Pair = drop (suc i) tokenized.pairs in
+    let split : drop from tokenized.pairs ≡ before ++ p ∷ rest = drop_split tokenized.pairs from i le ∙ ap (λ (x : List Pair). before ++ x) (one_at tokenized.pairs i p there.1) in
+    let follow : FollowsFrom [] (before ++ p ∷ rest) tokenized.last [] = subst (λ (x : List Pair). FollowsFrom [] x tokenized.last []) split f.rest.follow in
     let modes : List Mode = modes_after_pairs [] before in
-    let one : length (modes_after p.kind p.spelling modes) ≡ depth_after p.kind (length modes) = depth_is p.kind p.spelling modes (allowed_after before p rest [] cut.last follow) (opened_after_pairs before [] tt) in
-    let more : modes_after_pairs [] (slice_range cut.pairs from (i + 1)) ≡ modes_after p.kind p.spelling modes = ap (modes_after_pairs []) (range_more cut.pairs from i p le there.1) ∙ modes_more before p [] in
-    ap₂ depth_after (sym (kind_is cut.pairs i p kind there.1 is)) so_far ∙ sym one ∙ ap length (sym more)
+    let one : length (modes_after p.kind p.spelling modes) ≡ depth_after p.kind (length modes) = depth_is p.kind p.spelling modes (allowed_after before p rest [] tokenized.last follow) (opened_after_pairs before [] tt) in
+    let more : modes_after_pairs [] (slice_range tokenized.pairs from (i + 1)) ≡ modes_after p.kind p.spelling modes = ap (modes_after_pairs []) (range_more tokenized.pairs from i p le there.1) ∙ modes_more before p [] in
+    ap₂ depth_after (sym (kind_is tokenized.pairs i p kind there.1 is)) so_far ∙ sym one ∙ ap length (sym more)
 
 -- where none is open
 pub none_open : (modes : List Mode) (depth : ℕ) → depth ≡ length modes → depth ≡ 0 → modes ≡ []

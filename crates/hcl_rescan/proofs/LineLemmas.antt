@@ -180,20 +180,20 @@ after_end kind s modes e = absurd (cc)
 
 -- a text whose first token is no byte order mark
 pub unmarked : (pairs : List Pair) (last : List ℕ) (kind : Kind) → Follows pairs last [] → Some kind ≡ kind_of pairs 0 → kind ≢ Mark → FollowsFrom [] pairs last []
-unmarked pairs last kind f e other = at_front f.prefix
+unmarked pairs last kind f e other = at_text_start f.prefix
   where
-    at_front : (pairs ≡ f.body) ⊎ (pairs ≡ mark ∷ f.body) → FollowsFrom [] pairs last []
-    at_front (inl same) = subst (λ (x : List Pair). FollowsFrom [] x last []) (sym same) f.follows
-    at_front (inr same) =
+    at_text_start : (pairs ≡ f.body) ⊎ (pairs ≡ mark ∷ f.body) → FollowsFrom [] pairs last []
+    at_text_start (inl same) = subst (λ (x : List Pair). FollowsFrom [] x last []) (sym same) f.follows
+    at_text_start (inr same) =
         let first : Some kind ≡ Some Mark = e ∙ ap (λ (x : List Pair). kind_of x 0) same in
         absurd (other (cc))
 
 -- the line that ends with this token, and what follows it
-pub next_line : (cut : TokenizedText) (from at i : ℕ) (p : Pair) → IsLineStart cut from at → from ≤ i → i < length cut.pairs → slice_get cut.pairs i ≡ Some p → p.kind ≡ LineEnd
-    → modes_after_pairs [] (slice_range cut.pairs from i) ≡ []
-    → IsLineStart cut (i + 1) (length (whole_text (take (i + 1) cut.pairs) [])) × IsLineRange cut.pairs from (i + 1)
-next_line cut from at i p f le within e end none =
-    let ps : List Pair = cut.pairs in
+pub next_line : (tokenized : TokenizedText) (from at i : ℕ) (p : Pair) → IsLineStart tokenized from at → from ≤ i → i < length tokenized.pairs → slice_get tokenized.pairs i ≡ Some p → p.kind ≡ LineEnd
+    → modes_after_pairs [] (slice_range tokenized.pairs from i) ≡ []
+    → IsLineStart tokenized (i + 1) (length (whole_text (take (i + 1) tokenized.pairs) [])) × IsLineRange tokenized.pairs from (i + 1)
+next_line tokenized from at i p f le within e end none =
+    let ps : List Pair = tokenized.pairs in
     let line : List Pair = slice_range ps from (i + 1) in
     let rest : List Pair = drop (i + 1) ps in
     let split : drop from ps ≡ line ++ rest = drop_split ps from (i + 1) (omega arith) in
@@ -201,16 +201,16 @@ next_line cut from at i p f le within e end none =
     let ended : EndsWithLineEnd line = subst EndsWithLineEnd (sym more) (ends_more (slice_range ps from i) p end) in
     let modes : modes_after_pairs [] line ≡ [] =
     ap (modes_after_pairs []) more ∙ modes_more (slice_range ps from i) p [] ∙ after_end p.kind p.spelling (modes_after_pairs [] (slice_range ps from i)) end ∙ none in
-    let follow : FollowsFrom [] (line ++ rest) cut.last [] = subst (λ (x : List Pair). FollowsFrom [] x cut.last []) split f.rest.follow in
+    let follow : FollowsFrom [] (line ++ rest) tokenized.last [] = subst (λ (x : List Pair). FollowsFrom [] x tokenized.last []) split f.rest.follow in
     let apart : AreApart (line ++ rest) = subst AreApart split f.rest.apart in (
       record {
         within = omega arith;
         place = refl;
-        rest = record { follow = follow_rest line rest [] cut.last modes follow; apart = apart_rest line rest apart };
+        rest = record { follow = follow_rest line rest [] tokenized.last modes follow; apart = apart_rest line rest apart };
       },
       record {
         ordered = omega arith;
-        lines = record { follow = follow_prefix line rest [] cut.last ended modes follow; ended = ended; apart = apart_prefix line rest apart };
+        lines = record { follow = follow_prefix line rest [] tokenized.last ended modes follow; ended = ended; apart = apart_prefix line rest apart };
       },
     )
 
@@ -275,11 +275,11 @@ pairs_again (p ∷ ps) text at rest e =
     let gap : slice_range text at start ≡ p.gap =
     sym (ap₂ (slice_range text) zero_at zero_more) ∙ range_at text [] p.gap (p.spelling ++ more) at e in
     let spelling : slice_range text start stop ≡ p.spelling = range_at text p.gap p.spelling more at e in
-    let behind : drop stop text ≡ more =
+    let following : drop stop text ≡ more =
     sym (drop-drop (length p.gap + length p.spelling) at text ∙ ap (λ n. drop n text) (omega arith))
     ∙ ap (drop (length p.gap + length p.spelling)) (e ∙ sym (append_assoc p.gap p.spelling more))
     ∙ drop_at (p.gap ++ p.spelling) more (length p.gap + length p.spelling) (length-append p.gap p.spelling) in
-    ap₂ (λ (x : Pair) (xs : List Pair). x ∷ xs) (same_pair p (slice_range text at start) (slice_range text start stop) gap spelling) (pairs_again ps text stop rest behind)
+    ap₂ (λ (x : Pair) (xs : List Pair). x ∷ xs) (same_pair p (slice_range text at start) (slice_range text start stop) gap spelling) (pairs_again ps text stop rest following)
 
 order_again : (ps : List Pair) (at : ℕ) → InOrder at (spans_from at ps) (at + length (whole_text ps []))
 order_again [] at = omega arith
@@ -299,14 +299,14 @@ pairs_both text [] ys from at a = ap (λ n. pairs_from text n ys) a
 pairs_both text (x ∷ xs) ys from at a = ap (λ (ps : List Pair). pair_at text from x ∷ ps) (pairs_both text xs ys x.stop at a.2)
 
 -- what pairs do to the new text, where they follow what is made of it
-record Grown (text : List ℕ) (tokens : List Span) (at : ℕ) (ps : List Pair) (rest : List ℕ) : Type 0 where
+record ExtendsText (text : List ℕ) (tokens : List Span) (at : ℕ) (ps : List Pair) (rest : List ℕ) : Type 0 where
   pairs : pairs_of text (tokens ++ spans_from at ps) ≡ pairs_of text tokens ++ ps
   text_is : text ≡ whole_text (pairs_of text (tokens ++ spans_from at ps)) rest
   order : InOrder 0 (tokens ++ spans_from at ps) (at + length (whole_text ps []))
   rest_is : drop (at + length (whole_text ps [])) text ≡ rest
   within : at + length (whole_text ps []) + length rest ≡ length text
 
-rescanned_after : (text : List ℕ) (tokens : List Span) (at : ℕ) (ps : List Pair) (rest : List ℕ) → IsRescannedTo text tokens at → drop at text ≡ whole_text ps rest → Grown text tokens at ps rest
+rescanned_after : (text : List ℕ) (tokens : List Span) (at : ℕ) (ps : List Pair) (rest : List ℕ) → IsRescannedTo text tokens at → drop at text ≡ whole_text ps rest → ExtendsText text tokens at ps rest
 rescanned_after text tokens at ps rest b e =
     let pairs : pairs_of text (tokens ++ spans_from at ps) ≡ pairs_of text tokens ++ ps =
     pairs_both text tokens (spans_from at ps) 0 at b.order ∙ ap (λ (x : List Pair). pairs_of text tokens ++ x) (pairs_again ps text at rest e) in
@@ -324,7 +324,7 @@ rescanned_after text tokens at ps rest b e =
 -- the text begun, with lines more
 pub rescanned_more : (text : List ℕ) (tokens : List Span) (at : ℕ) (ps : List Pair) (rest : List ℕ) → IsRescannedTo text tokens at → AreWholeLines ps → drop at text ≡ whole_text ps rest → IsRescannedTo text (tokens ++ spans_from at ps) (at + length (whole_text ps []))
 rescanned_more text tokens at ps rest b lines e =
-    let more : Grown text tokens at ps rest = rescanned_after text tokens at ps rest b e in
+    let more : ExtendsText text tokens at ps rest = rescanned_after text tokens at ps rest b e in
     record {
       within = omega (arith, more.within);
       lines = subst AreWholeLines (sym more.pairs) (lines_both (pairs_of text tokens) ps b.lines lines);
@@ -335,62 +335,62 @@ rescanned_more text tokens at ps rest b lines e =
 -- the text begun, with its last tokens
 pub rescanned_last : (text : List ℕ) (tokens : List Span) (at : ℕ) (ps : List Pair) (last : List ℕ) → length text ≤ MAX_TEXT → IsRescannedTo text tokens at → AreSelfContained ps last → list_all is_whitespace last ≡ true → drop at text ≡ whole_text ps last
     → IsRescanned text (tokens ++ spans_from at ps) (length text - length last)
-rescanned_last text tokens at ps last short b rest blank e =
+rescanned_last text tokens at ps last short b rest is_white e =
     let new : List Pair = pairs_of text (tokens ++ spans_from at ps) in
-    let more : Grown text tokens at ps last = rescanned_after text tokens at ps last b e in
+    let more : ExtendsText text tokens at ps last = rescanned_after text tokens at ps last b e in
     let end : at + length (whole_text ps []) ≡ length text - length last = omega (arith, more.within) in
     let is_last : drop (length text - length last) text ≡ last = ap (λ n. drop n text) (sym end) ∙ more.rest_is in
     let are : AreSelfContained new last = subst (λ (x : List Pair). AreSelfContained x last) (sym more.pairs) (last_both (pairs_of text tokens) ps last b.lines rest) in
-    let follows : Follows new last [] = record { body = new; prefix = inl refl; follows = are.follow; whitespace = blank } in
-    let cut : IsTokenization (whole_text new last) new last = writes_back new last follows are.apart (subst (λ (x : List ℕ). length x ≤ MAX_TEXT) more.text_is short) in
+    let follows : Follows new last [] = record { body = new; prefix = inl refl; follows = are.follow; whitespace = is_white } in
+    let tokenized : IsTokenization (whole_text new last) new last = writes_back new last follows are.apart (subst (λ (x : List ℕ). length x ≤ MAX_TEXT) more.text_is short) in
     record {
-      tokenization = subst (λ (x : List ℕ). IsTokenization text new x) (sym is_last) (subst (λ (x : List ℕ). IsTokenization x new last) (sym more.text_is) cut);
+      tokenization = subst (λ (x : List ℕ). IsTokenization text new x) (sym is_last) (subst (λ (x : List ℕ). IsTokenization x new last) (sym more.text_is) tokenized);
       order = subst (λ n. InOrder 0 (tokens ++ spans_from at ps) n) end more.order;
       within = omega arith;
     }
 
 -- ---- the bytes of a stretch
 
-pub record RangeText (cut : TokenizedText) (from at to end : ℕ) : Type 0 where
+pub record RangeText (tokenized : TokenizedText) (from at to end : ℕ) : Type 0 where
   pub ordered : at ≤ end
-  pub within : end ≤ length cut.text
-  pub bytes : slice_range cut.text at end ≡ whole_text (slice_range cut.pairs from to) []
+  pub within : end ≤ length tokenized.text
+  pub bytes : slice_range tokenized.text at end ≡ whole_text (slice_range tokenized.pairs from to) []
 
-pub range_text : (cut : TokenizedText) (from at to end : ℕ) → cut.text ≡ whole_text cut.pairs cut.last → IsLineStart cut from at → IsLineStart cut to end → from ≤ to → RangeText cut from at to end
-range_text cut from at to end whole f g le =
-    let ps : List Pair = cut.pairs in
+pub range_text : (tokenized : TokenizedText) (from at to end : ℕ) → tokenized.text ≡ whole_text tokenized.pairs tokenized.last → IsLineStart tokenized from at → IsLineStart tokenized to end → from ≤ to → RangeText tokenized from at to end
+range_text tokenized from at to end whole f g le =
+    let ps : List Pair = tokenized.pairs in
     let before : List ℕ = whole_text (take from ps) [] in
     let mid : List Pair = slice_range ps from to in
     let bytes : List ℕ = whole_text mid [] in
-    let rest : List ℕ = whole_text (drop to ps) cut.last in
-    let front : end ≡ at + length bytes = g.place ∙ ap (λ (x : List Pair). length (whole_text x [])) (take_range ps from to le) ∙ length_both (take from ps) mid ∙ omega (arith, f.place) in
-    let text_is : cut.text ≡ before ++ (bytes ++ rest) =
+    let rest : List ℕ = whole_text (drop to ps) tokenized.last in
+    let leading : end ≡ at + length bytes = g.place ∙ ap (λ (x : List Pair). length (whole_text x [])) (take_range ps from to le) ∙ length_both (take from ps) mid ∙ omega (arith, f.place) in
+    let text_is : tokenized.text ≡ before ++ (bytes ++ rest) =
     whole
-    ∙ ap (λ (x : List Pair). whole_text x cut.last) (sym (take-append-drop to ps) ∙ ap (λ (x : List Pair). x ++ drop to ps) (take_range ps from to le))
-    ∙ whole_both (take from ps ++ mid) (drop to ps) cut.last
+    ∙ ap (λ (x : List Pair). whole_text x tokenized.last) (sym (take-append-drop to ps) ∙ ap (λ (x : List Pair). x ++ drop to ps) (take_range ps from to le))
+    ∙ whole_both (take from ps ++ mid) (drop to ps) tokenized.last
     ∙ whole_both (take from ps) mid rest
     ∙ whole_rest (take from ps) (whole_text mid rest)
     ∙ ap (λ (x : List ℕ). before ++ x) (whole_rest mid rest) in
     let at_is : at ≡ length before = f.place in
-    let cut_at : slice_range (before ++ (bytes ++ rest)) (0 + length before) (0 + length before + length bytes) ≡ bytes = range_at (before ++ (bytes ++ rest)) before bytes rest 0 refl in
+    let split_at_length : slice_range (before ++ (bytes ++ rest)) (0 + length before) (0 + length before + length bytes) ≡ bytes = range_at (before ++ (bytes ++ rest)) before bytes rest 0 refl in
     record {
-      ordered = omega (arith, front);
-      within = omega (arith, front, at_is, ap length text_is, length-append before (bytes ++ rest), length-append bytes rest);
-      bytes = ap₂ (slice_range cut.text) at_end front_end ∙ ap (λ (x : List ℕ). slice_range x (0 + length before) (0 + length before + length bytes)) text_is ∙ cut_at;
+      ordered = omega (arith, leading);
+      within = omega (arith, leading, at_is, ap length text_is, length-append before (bytes ++ rest), length-append bytes rest);
+      bytes = ap₂ (slice_range tokenized.text) at_end prefix_end ∙ ap (λ (x : List ℕ). slice_range x (0 + length before) (0 + length before + length bytes)) text_is ∙ split_at_length;
     }
   where
-    at_end : at ≡ 0 + length (whole_text (take from cut.pairs) [])
+    at_end : at ≡ 0 + length (whole_text (take from tokenized.pairs) [])
     at_end = omega (arith, f.place)
 
-    front_end : end ≡ 0 + length (whole_text (take from cut.pairs) []) + length (whole_text (slice_range cut.pairs from to) [])
-    front_end = g.place ∙ ap (λ (x : List Pair). length (whole_text x [])) (take_range cut.pairs from to le) ∙ length_both (take from cut.pairs) (slice_range cut.pairs from to) ∙ omega arith
+    prefix_end : end ≡ 0 + length (whole_text (take from tokenized.pairs) []) + length (whole_text (slice_range tokenized.pairs from to) [])
+    prefix_end = g.place ∙ ap (λ (x : List Pair). length (whole_text x [])) (take_range tokenized.pairs from to le) ∙ length_both (take from tokenized.pairs) (slice_range tokenized.pairs from to) ∙ omega arith
 
 -- ---- where a pair begins
 
-pub place_in : (cut : TokenizedText) (i : ℕ) → cut.text ≡ whole_text cut.pairs cut.last → length (whole_text (take i cut.pairs) []) ≤ length cut.text
-place_in cut i whole =
-    let split : whole_text cut.pairs [] ≡ whole_text (take i cut.pairs ++ drop i cut.pairs) [] = ap (λ (x : List Pair). whole_text x []) (sym (take-append-drop i cut.pairs)) in
-    omega (arith, ap length whole, joining_rest cut.pairs cut.last, ap length split, length_both (take i cut.pairs) (drop i cut.pairs))
+pub place_in : (tokenized : TokenizedText) (i : ℕ) → tokenized.text ≡ whole_text tokenized.pairs tokenized.last → length (whole_text (take i tokenized.pairs) []) ≤ length tokenized.text
+place_in tokenized i whole =
+    let split : whole_text tokenized.pairs [] ≡ whole_text (take i tokenized.pairs ++ drop i tokenized.pairs) [] = ap (λ (x : List Pair). whole_text x []) (sym (take-append-drop i tokenized.pairs)) in
+    omega (arith, ap length whole, joining_rest tokenized.pairs tokenized.last, ap length split, length_both (take i tokenized.pairs) (drop i tokenized.pairs))
 
 -- ---- from token to token
 
@@ -400,42 +400,42 @@ kind_is ps i p kind e same =
     cc
 
 -- the line that ends with this token
-pub line_start_at_line_end : (cut : TokenizedText) (from at i : ℕ) (kind : Kind) (item : Item) → IsLineStart cut from at → from ≤ i → i < length cut.pairs → Some kind ≡ kind_of cut.pairs i → kind ≡ LineEnd → Some item ≡ item_of cut.pairs i
-    → modes_after_pairs [] (slice_range cut.pairs from i) ≡ [] → IsLineStart cut (i + 1) item.stop × IsLineRange cut.pairs from (i + 1) × (from < i + 1)
-line_start_at_line_end cut from at i kind item f le within is end is_item none =
-    let there = pair_there cut.pairs i within in
-    let line = next_line cut from at i there.0 f le within there.1 (kind_is cut.pairs i there.0 kind there.1 is ∙ end) none in
-    let next = (placed cut.pairs i there.0 item there.1 is_item).next in
-    (subst (IsLineStart cut (i + 1)) (sym next) line.0, line.1, omega arith)
+pub line_start_at_line_end : (tokenized : TokenizedText) (from at i : ℕ) (kind : Kind) (item : Item) → IsLineStart tokenized from at → from ≤ i → i < length tokenized.pairs → Some kind ≡ kind_of tokenized.pairs i → kind ≡ LineEnd → Some item ≡ item_of tokenized.pairs i
+    → modes_after_pairs [] (slice_range tokenized.pairs from i) ≡ [] → IsLineStart tokenized (i + 1) item.stop × IsLineRange tokenized.pairs from (i + 1) × (from < i + 1)
+line_start_at_line_end tokenized from at i kind item f le within is end is_item none =
+    let there = pair_there tokenized.pairs i within in
+    let line = next_line tokenized from at i there.0 f le within there.1 (kind_is tokenized.pairs i there.0 kind there.1 is ∙ end) none in
+    let next = (placed tokenized.pairs i there.0 item there.1 is_item).next in
+    (subst (IsLineStart tokenized (i + 1)) (sym next) line.0, line.1, omega arith)
 
 -- ---- lines taken over
 
 -- lines of the one text whose bytes are in the other, after what is made of it
-pub taken : (text : List ℕ) (tokens new : List Span) (at : ℕ) (cut : TokenizedText) (from front to end : ℕ) (bytes : List ℕ) → IsRescannedTo text tokens at → IsLineRange cut.pairs from to → RangeText cut from front to end
-    → bytes ≡ slice_range cut.text front end → drop at text ≡ bytes ++ drop (at + length bytes) text → new ≡ tokens ++ spans_from at (slice_range cut.pairs from to) → IsRescannedTo text new (at + length bytes)
-taken text tokens new at cut from front to end bytes b s t e stands is =
-    let lines : List Pair = slice_range cut.pairs from to in
+pub taken : (text : List ℕ) (tokens new : List Span) (at : ℕ) (tokenized : TokenizedText) (from leading to end : ℕ) (bytes : List ℕ) → IsRescannedTo text tokens at → IsLineRange tokenized.pairs from to → RangeText tokenized from leading to end
+    → bytes ≡ slice_range tokenized.text leading end → drop at text ≡ bytes ++ drop (at + length bytes) text → new ≡ tokens ++ spans_from at (slice_range tokenized.pairs from to) → IsRescannedTo text new (at + length bytes)
+taken text tokens new at tokenized from leading to end bytes b s t e drop_is_whole is =
+    let lines : List Pair = slice_range tokenized.pairs from to in
     let rest : List ℕ = drop (at + length bytes) text in
     let same : bytes ≡ whole_text lines [] = e ∙ t.bytes in
-    let whole : drop at text ≡ whole_text lines rest = stands ∙ ap (λ (x : List ℕ). x ++ rest) same ∙ sym (whole_rest lines rest) in
+    let whole : drop at text ≡ whole_text lines rest = drop_is_whole ∙ ap (λ (x : List ℕ). x ++ rest) same ∙ sym (whole_rest lines rest) in
     let size : length bytes ≡ length (whole_text lines []) = ap length same in
     let more : IsRescannedTo text (tokens ++ spans_from at lines) (at + length (whole_text lines [])) = rescanned_more text tokens at lines rest b s.lines whole in
     subst (λ (x : List Span). IsRescannedTo text x (at + length bytes)) (sym is) (subst (λ n. IsRescannedTo text (tokens ++ spans_from at lines) (at + n)) (sym size) more)
 
 -- and they fit there
-pub lines_fit : (text bytes : List ℕ) (at : ℕ) (cut : TokenizedText) (from front to end : ℕ) → RangeText cut from front to end → bytes ≡ slice_range cut.text front end
-    → drop at text ≡ bytes ++ drop (at + length bytes) text → at ≤ length text → length text ≤ MAX_TEXT → at + length (whole_text (slice_range cut.pairs from to) []) ≤ MAX_TEXT
-lines_fit text bytes at cut from front to end t e stands within short =
-    omega (arith, ap length (e ∙ t.bytes), ap length stands, length-append bytes (drop (at + length bytes) text), length-drop {A = ℕ} at text)
+pub lines_fit : (text bytes : List ℕ) (at : ℕ) (tokenized : TokenizedText) (from leading to end : ℕ) → RangeText tokenized from leading to end → bytes ≡ slice_range tokenized.text leading end
+    → drop at text ≡ bytes ++ drop (at + length bytes) text → at ≤ length text → length text ≤ MAX_TEXT → at + length (whole_text (slice_range tokenized.pairs from to) []) ≤ MAX_TEXT
+lines_fit text bytes at tokenized from leading to end t e drop_is_whole within short =
+    omega (arith, ap length (e ∙ t.bytes), ap length drop_is_whole, length-append bytes (drop (at + length bytes) text), length-drop {A = ℕ} at text)
 
 all_range : (ps : List Pair) → slice_range ps 0 (length ps) ≡ ps
 all_range ps = ap (λ n. take n ps) (omega arith) ∙ take_all (length ps) ps (omega arith)
 
 -- lines that were cut by themselves
-pub lines_scanned : (text piece : List ℕ) (tokens new : List Span) (at len : ℕ) (cut : TokenizedText) → IsRescannedTo text tokens at → at + len ≤ length text → piece ≡ slice_range text at (at + len) → IsTokenization piece cut.pairs cut.last → AreSelfContained cut.pairs cut.last
-    → EndsWithLineEnd cut.pairs → cut.last ≡ [] → new ≡ tokens ++ spans_from at (slice_range cut.pairs 0 (length cut.pairs)) → IsRescannedTo text new (at + len)
-lines_scanned text piece tokens new at len cut b within e c last ended none is =
-    let ps : List Pair = cut.pairs in
+pub lines_scanned : (text piece : List ℕ) (tokens new : List Span) (at len : ℕ) (tokenized : TokenizedText) → IsRescannedTo text tokens at → at + len ≤ length text → piece ≡ slice_range text at (at + len) → IsTokenization piece tokenized.pairs tokenized.last → AreSelfContained tokenized.pairs tokenized.last
+    → EndsWithLineEnd tokenized.pairs → tokenized.last ≡ [] → new ≡ tokens ++ spans_from at (slice_range tokenized.pairs 0 (length tokenized.pairs)) → IsRescannedTo text new (at + len)
+lines_scanned text piece tokens new at len tokenized b within e c last ended none is =
+    let ps : List Pair = tokenized.pairs in
     let rest : List ℕ = drop (at + len) text in
     let lines : AreWholeLines ps = record { follow = subst (λ (x : List ℕ). FollowsFrom [] ps x []) none last.follow; ended = ended; apart = last.apart } in
     let bytes : whole_text ps [] ≡ slice_range text at (at + len) = ap (whole_text ps) (sym none) ∙ sym c.tokenizes.text_is ∙ e in
@@ -447,48 +447,48 @@ lines_scanned text piece tokens new at len cut b within e c last ended none is =
     subst (λ (x : List Span). IsRescannedTo text x (at + len)) (sym same) (subst (λ n. IsRescannedTo text (tokens ++ spans_from at ps) (at + n)) size more)
 
 -- what is left, as it was in the text before
-pub record RestText (text : List ℕ) (at : ℕ) (cut : TokenizedText) (from : ℕ) : Type 0 where
-  pub text_is : drop at text ≡ whole_text (drop from cut.pairs) cut.last
-  pub pairs : slice_range cut.pairs from (length cut.pairs) ≡ drop from cut.pairs
-  pub fits : at + length (whole_text (slice_range cut.pairs from (length cut.pairs)) []) ≤ MAX_TEXT
-  pub last : length cut.last ≤ length text
+pub record RestText (text : List ℕ) (at : ℕ) (tokenized : TokenizedText) (from : ℕ) : Type 0 where
+  pub text_is : drop at text ≡ whole_text (drop from tokenized.pairs) tokenized.last
+  pub pairs : slice_range tokenized.pairs from (length tokenized.pairs) ≡ drop from tokenized.pairs
+  pub fits : at + length (whole_text (slice_range tokenized.pairs from (length tokenized.pairs)) []) ≤ MAX_TEXT
+  pub last : length tokenized.last ≤ length text
 
 to_end : (text : List ℕ) (at : ℕ) → slice_range text at (length text) ≡ drop at text
 to_end text at = take_all (length text - at) (drop at text) (omega (arith, length-drop {A = ℕ} at text))
 
-pub rest_text : (text : List ℕ) (at : ℕ) (cut : TokenizedText) (from front : ℕ) → cut.text ≡ whole_text cut.pairs cut.last → IsLineStart cut from front → at ≤ length text → length text ≤ MAX_TEXT
-    → slice_range text at (length text) ≡ slice_range cut.text front (length cut.text) → RestText text at cut from
-rest_text text at cut from front whole f within short same =
-    let ps : List Pair = cut.pairs in
-    let rest : List ℕ = whole_text (drop from ps) cut.last in
-    let all : cut.text ≡ whole_text (take from ps) [] ++ rest =
+pub rest_text : (text : List ℕ) (at : ℕ) (tokenized : TokenizedText) (from leading : ℕ) → tokenized.text ≡ whole_text tokenized.pairs tokenized.last → IsLineStart tokenized from leading → at ≤ length text → length text ≤ MAX_TEXT
+    → slice_range text at (length text) ≡ slice_range tokenized.text leading (length tokenized.text) → RestText text at tokenized from
+rest_text text at tokenized from leading whole f within short same =
+    let ps : List Pair = tokenized.pairs in
+    let rest : List ℕ = whole_text (drop from ps) tokenized.last in
+    let all : tokenized.text ≡ whole_text (take from ps) [] ++ rest =
     whole
-    ∙ ap (λ (x : List Pair). whole_text x cut.last) (sym (take-append-drop from ps))
-    ∙ whole_both (take from ps) (drop from ps) cut.last
+    ∙ ap (λ (x : List Pair). whole_text x tokenized.last) (sym (take-append-drop from ps))
+    ∙ whole_both (take from ps) (drop from ps) tokenized.last
     ∙ whole_rest (take from ps) rest in
-    let old : drop front cut.text ≡ rest = ap (drop front) all ∙ drop_at (whole_text (take from ps) []) rest front (sym f.place) in
-    let is : drop at text ≡ rest = sym (to_end text at) ∙ same ∙ to_end cut.text front ∙ old in
+    let old : drop leading tokenized.text ≡ rest = ap (drop leading) all ∙ drop_at (whole_text (take from ps) []) rest leading (sym f.place) in
+    let is : drop at text ≡ rest = sym (to_end text at) ∙ same ∙ to_end tokenized.text leading ∙ old in
     let pairs : slice_range ps from (length ps) ≡ drop from ps = take_all (length ps - from) (drop from ps) (omega (arith, length-drop {A = Pair} from ps)) in
     let size : length (whole_text (slice_range ps from (length ps)) []) ≡ length (whole_text (drop from ps) []) = ap (λ (x : List Pair). length (whole_text x [])) pairs in
     record {
       text_is = is;
       pairs = pairs;
-      fits = omega (arith, size, ap length is, joining_rest (drop from ps) cut.last, length-drop {A = ℕ} at text);
-      last = omega (arith, ap length is, joining_rest (drop from ps) cut.last, length-drop {A = ℕ} at text);
+      fits = omega (arith, size, ap length is, joining_rest (drop from ps) tokenized.last, length-drop {A = ℕ} at text);
+      last = omega (arith, ap length is, joining_rest (drop from ps) tokenized.last, length-drop {A = ℕ} at text);
     }
 
 -- so with the pieces that are compared
-pub same_rest : (text old other bytes mine : List ℕ) (at : ℕ) (cut : TokenizedText) (from front : ℕ) → cut.text ≡ whole_text cut.pairs cut.last → IsLineStart cut from front → at ≤ length text → length text ≤ MAX_TEXT
-    → old ≡ cut.text → other ≡ cut.text → bytes ≡ slice_range old front (length other) → mine ≡ slice_range text at (length text) → mine ≡ bytes → RestText text at cut from
-same_rest text old other bytes mine at cut from front whole f within short is again bytes_are mine_are same =
-    rest_text text at cut from front whole f within short
-    (sym mine_are ∙ same ∙ bytes_are ∙ ap₂ (λ (x y : List ℕ). slice_range x front (length y)) is again)
+pub same_rest : (text old other bytes mine : List ℕ) (at : ℕ) (tokenized : TokenizedText) (from leading : ℕ) → tokenized.text ≡ whole_text tokenized.pairs tokenized.last → IsLineStart tokenized from leading → at ≤ length text → length text ≤ MAX_TEXT
+    → old ≡ tokenized.text → other ≡ tokenized.text → bytes ≡ slice_range old leading (length other) → mine ≡ slice_range text at (length text) → mine ≡ bytes → RestText text at tokenized from
+same_rest text old other bytes mine at tokenized from leading whole f within short is again bytes_are mine_are same =
+    rest_text text at tokenized from leading whole f within short
+    (sym mine_are ∙ same ∙ bytes_are ∙ ap₂ (λ (x y : List ℕ). slice_range x leading (length y)) is again)
 
-pub rest_rescanned : (text : List ℕ) (tokens new : List Span) (at : ℕ) (cut : TokenizedText) (from front : ℕ) → length text ≤ MAX_TEXT → IsRescannedTo text tokens at → IsLineStart cut from front → list_all is_whitespace cut.last ≡ true → RestText text at cut from
-    → new ≡ tokens ++ spans_from at (slice_range cut.pairs from (length cut.pairs)) → IsRescanned text new (length text - length cut.last)
-rest_rescanned text tokens new at cut from front short b f blank rest is =
-    let same : new ≡ tokens ++ spans_from at (drop from cut.pairs) = is ∙ ap (λ (x : List Pair). tokens ++ spans_from at x) rest.pairs in
-    subst (λ (x : List Span). IsRescanned text x (length text - length cut.last)) (sym same) (rescanned_last text tokens at (drop from cut.pairs) cut.last short b f.rest blank rest.text_is)
+pub rest_rescanned : (text : List ℕ) (tokens new : List Span) (at : ℕ) (tokenized : TokenizedText) (from leading : ℕ) → length text ≤ MAX_TEXT → IsRescannedTo text tokens at → IsLineStart tokenized from leading → list_all is_whitespace tokenized.last ≡ true → RestText text at tokenized from
+    → new ≡ tokens ++ spans_from at (slice_range tokenized.pairs from (length tokenized.pairs)) → IsRescanned text new (length text - length tokenized.last)
+rest_rescanned text tokens new at tokenized from leading short b f is_white rest is =
+    let same : new ≡ tokens ++ spans_from at (drop from tokenized.pairs) = is ∙ ap (λ (x : List Pair). tokens ++ spans_from at x) rest.pairs in
+    subst (λ (x : List Span). IsRescanned text x (length text - length tokenized.last)) (sym same) (rescanned_last text tokens at (drop from tokenized.pairs) tokenized.last short b f.rest is_white rest.text_is)
 
 -- ---- tokens that don't join
 

@@ -116,49 +116,49 @@ all_movable from to x (p ∷ ps) filled fits =
 
 -- ---- the tokens of a stretch
 
-pub stretch_is : (cut : TokenizedText) (from at to : ℕ) (spans : List Span) → IsLineStart cut from at → spans ≡ spans_from 0 cut.pairs → slice_range spans from to ≡ spans_from (at + 0) (slice_range cut.pairs from to)
-stretch_is cut from at to spans f e =
-    let place : 0 + length (whole_text (take from cut.pairs) []) ≡ at + 0 = omega (arith, f.place) in
+pub stretch_is : (tokenized : TokenizedText) (from at to : ℕ) (spans : List Span) → IsLineStart tokenized from at → spans ≡ spans_from 0 tokenized.pairs → slice_range spans from to ≡ spans_from (at + 0) (slice_range tokenized.pairs from to)
+stretch_is tokenized from at to spans f e =
+    let place : 0 + length (whole_text (take from tokenized.pairs) []) ≡ at + 0 = omega (arith, f.place) in
     ap (λ (l : List Span). slice_range l from to) e
-    ∙ ap (take (to - from)) (drop_tokens cut.pairs from 0 ∙ ap (λ n. spans_from n (drop from cut.pairs)) place)
-    ∙ take_tokens (drop from cut.pairs) (to - from) (at + 0)
+    ∙ ap (take (to - from)) (drop_tokens tokenized.pairs from 0 ∙ ap (λ n. spans_from n (drop from tokenized.pairs)) place)
+    ∙ take_tokens (drop from tokenized.pairs) (to - from) (at + 0)
 
-pub stretch_moved : (cut : TokenizedText) (from at to there : ℕ) (spans : List Span) → IsLineStart cut from at → spans ≡ spans_from 0 cut.pairs
-    → moved_spans at there (slice_range spans from to) ≡ spans_from there (slice_range cut.pairs from to)
-stretch_moved cut from at to there spans f e =
+pub stretch_moved : (tokenized : TokenizedText) (from at to there : ℕ) (spans : List Span) → IsLineStart tokenized from at → spans ≡ spans_from 0 tokenized.pairs
+    → moved_spans at there (slice_range spans from to) ≡ spans_from there (slice_range tokenized.pairs from to)
+stretch_moved tokenized from at to there spans f e =
     let same : there + 0 ≡ there = omega arith in
-    ap (moved_spans at there) (stretch_is cut from at to spans f e)
-    ∙ shift_tokens at there 0 (slice_range cut.pairs from to)
-    ∙ ap (λ n. spans_from n (slice_range cut.pairs from to)) same
+    ap (moved_spans at there) (stretch_is tokenized from at to spans f e)
+    ∙ shift_tokens at there 0 (slice_range tokenized.pairs from to)
+    ∙ ap (λ n. spans_from n (slice_range tokenized.pairs from to)) same
 
-pub stretch_movable : (cut : TokenizedText) (from at to there : ℕ) (spans : List Span) → IsLineStart cut from at → spans ≡ spans_from 0 cut.pairs → from ≤ to
-    → there + length (whole_text (slice_range cut.pairs from to) []) ≤ MAX_TEXT → AreMovable at there (slice_range spans from to)
-stretch_movable cut from at to there spans f e le fits =
-    let ps : List Pair = slice_range cut.pairs from to in
-    let split : drop from cut.pairs ≡ ps ++ drop to cut.pairs = drop_split cut.pairs from to le in
-    let filled = all_filled ps (drop to cut.pairs) [] cut.last tt (subst (λ (x : List Pair). FollowsFrom [] x cut.last []) split f.rest.follow) in
-    subst (AreMovable at there) (sym (stretch_is cut from at to spans f e)) (all_movable at there 0 ps filled (omega arith))
+pub stretch_movable : (tokenized : TokenizedText) (from at to there : ℕ) (spans : List Span) → IsLineStart tokenized from at → spans ≡ spans_from 0 tokenized.pairs → from ≤ to
+    → there + length (whole_text (slice_range tokenized.pairs from to) []) ≤ MAX_TEXT → AreMovable at there (slice_range spans from to)
+stretch_movable tokenized from at to there spans f e le fits =
+    let ps : List Pair = slice_range tokenized.pairs from to in
+    let split : drop from tokenized.pairs ≡ ps ++ drop to tokenized.pairs = drop_split tokenized.pairs from to le in
+    let filled = all_filled ps (drop to tokenized.pairs) [] tokenized.last tt (subst (λ (x : List Pair). FollowsFrom [] x tokenized.last []) split f.rest.follow) in
+    subst (AreMovable at there) (sym (stretch_is tokenized from at to spans f e)) (all_movable at there 0 ps filled (omega arith))
 
 -- where a line begins
-pub start_short : (cut : TokenizedText) (from at : ℕ) → IsTokenization cut.text cut.pairs cut.last → IsLineStart cut from at → at ≤ MAX_TEXT
-start_short cut from at c f = omega (arith, f.place, place_in cut from c.tokenizes.text_is, c.short)
+pub start_short : (tokenized : TokenizedText) (from at : ℕ) → IsTokenization tokenized.text tokenized.pairs tokenized.last → IsLineStart tokenized from at → at ≤ MAX_TEXT
+start_short tokenized from at c f = omega (arith, f.place, place_in tokenized from c.tokenizes.text_is, c.short)
 
 pub spans_length : (at : ℕ) (ps : List Pair) → length (spans_from at ps) ≡ length ps
 spans_length at [] = refl
 spans_length at (p ∷ ps) = ap suc (spans_length (at + length p.gap + length p.spelling) ps)
 
 -- what follows others
-pub behind_is : (first more : List Span) → slice_range (first ++ more) (length first) (length (first ++ more)) ≡ more
-behind_is [] more = take_all (length more - 0) more (omega arith)
-behind_is (x ∷ first) more =
+pub range_after_prefix : (first more : List Span) → slice_range (first ++ more) (length first) (length (first ++ more)) ≡ more
+range_after_prefix [] more = take_all (length more - 0) more (omega arith)
+range_after_prefix (x ∷ first) more =
     let width : suc (length (first ++ more)) - suc (length first) ≡ length (first ++ more) - length first = omega arith in
-    ap (λ n. take n (drop (length first) (first ++ more))) width ∙ behind_is first more
+    ap (λ n. take n (drop (length first) (first ++ more))) width ∙ range_after_prefix first more
 
-pub behind_at : (items first more : List Span) (begin len : ℕ) → items ≡ first ++ more → begin ≡ length first → len ≡ length items → slice_range items begin len ≡ more
-behind_at items first more begin len e b l =
+pub range_after_prefix_at : (items first more : List Span) (begin len : ℕ) → items ≡ first ++ more → begin ≡ length first → len ≡ length items → slice_range items begin len ≡ more
+range_after_prefix_at items first more begin len e b l =
     ap (λ (x : List Span). slice_range x begin len) e
     ∙ ap₂ (λ i n. slice_range (first ++ more) i n) b (l ∙ ap length e)
-    ∙ behind_is first more
+    ∙ range_after_prefix first more
 
 pub moved_length : (from to : ℕ) (tokens : List Span) → length (moved_spans from to tokens) ≡ length tokens
 moved_length from to [] = refl
@@ -168,7 +168,7 @@ moved_length from to (x ∷ tokens) = ap suc (moved_length from to tokens)
 pub written : (items first more new : List Span) (begin : ℕ) → items ≡ first ++ more → begin ≡ length first → length new ≡ length more
     → take begin items ++ (new ++ drop (length new) (drop begin items)) ≡ first ++ new
 written items first more new begin e b same =
-    let front : take begin items ≡ first = ap₂ (λ n (x : List Span). take n x) b e ∙ take_at first more (length first) refl in
+    let leading : take begin items ≡ first = ap₂ (λ n (x : List Span). take n x) b e ∙ take_at first more (length first) refl in
     let back : drop begin items ≡ more = ap₂ (λ n (x : List Span). drop n x) b e ∙ drop_at first more (length first) refl in
     let rest : drop (length new) (drop begin items) ≡ [] = ap (drop (length new)) back ∙ drop_all (length new) more (omega arith) in
-    ap₂ (λ (x y : List Span). x ++ (new ++ y)) front rest ∙ ap (λ (x : List Span). first ++ x) (append-nil new)
+    ap₂ (λ (x y : List Span). x ++ (new ++ y)) leading rest ∙ ap (λ (x : List Span). first ++ x) (append-nil new)

@@ -198,18 +198,18 @@ no_opening (Braces ∷ modes) h st none = absurd (omega (arith, some_open modes 
 no_opening (Quoted ∷ modes) h st none = absurd (cc)
 no_opening (Heredoc name at_line_start ∷ modes) h st none = absurd (cc)
 
-pub none_open_at : (cut : TokenizedText) (from at i : ℕ) (kind : Kind) (spans : List Span) → IsLineStart cut from at → spans ≡ spans_from 0 cut.pairs → from ≤ i → i < length cut.pairs → Some kind ≡ kind_of cut.pairs i → kind ≡ LineEnd
-    → opened (slice_range spans from i) ≡ closed (slice_range spans from i) → modes_after_pairs [] (slice_range cut.pairs from i) ≡ []
-none_open_at cut from at i kind spans f e le within is end same =
-    let there = pair_there cut.pairs i within in
+pub none_open_at : (tokenized : TokenizedText) (from at i : ℕ) (kind : Kind) (spans : List Span) → IsLineStart tokenized from at → spans ≡ spans_from 0 tokenized.pairs → from ≤ i → i < length tokenized.pairs → Some kind ≡ kind_of tokenized.pairs i → kind ≡ LineEnd
+    → opened (slice_range spans from i) ≡ closed (slice_range spans from i) → modes_after_pairs [] (slice_range tokenized.pairs from i) ≡ []
+none_open_at tokenized from at i kind spans f e le within is end same =
+    let there = pair_there tokenized.pairs i within in
     let p : Pair = there.0 in
-    let before : List Pair = slice_range cut.pairs from i in
-    let rest : List Pair = drop (suc i) cut.pairs in
-    let split : drop from cut.pairs ≡ before ++ p ∷ rest = drop_split cut.pairs from i le ∙ ap (λ (x : List Pair). before ++ x) (one_at cut.pairs i p there.1) in
-    let follow : FollowsFrom [] (before ++ p ∷ rest) cut.last [] = subst (λ (x : List Pair). FollowsFrom [] x cut.last []) split f.rest.follow in
-    let tokens : slice_range spans from i ≡ spans_from (at + 0) before = stretch_is cut from at i spans f e in
+    let before : List Pair = slice_range tokenized.pairs from i in
+    let rest : List Pair = drop (suc i) tokenized.pairs in
+    let split : drop from tokenized.pairs ≡ before ++ p ∷ rest = drop_split tokenized.pairs from i le ∙ ap (λ (x : List Pair). before ++ x) (one_at tokenized.pairs i p there.1) in
+    let follow : FollowsFrom [] (before ++ p ∷ rest) tokenized.last [] = subst (λ (x : List Pair). FollowsFrom [] x tokenized.last []) split f.rest.follow in
+    let tokens : slice_range spans from i ≡ spans_from (at + 0) before = stretch_is tokenized from at i spans f e in
     let balance : opened (spans_from (at + 0) before) ≡ closed (spans_from (at + 0) before) = subst (λ (x : List Span). opened x ≡ closed x) tokens same in
-    let count = sequences_after before (p ∷ rest) (at + 0) [] cut.last tt follow in
+    let count = sequences_after before (p ∷ rest) (at + 0) [] tokenized.last tt follow in
     let none : sequences (modes_after_pairs [] before) ≡ 0 = omega (arith, count, balance) in
-    let allowed = subst (λ k. is_allowed_in (mode_of (modes_after_pairs [] before)) k ≡ true) (kind_is cut.pairs i p kind there.1 is ∙ end) (allowed_after before p rest [] cut.last follow) in
+    let allowed = subst (λ k. is_allowed_in (mode_of (modes_after_pairs [] before)) k ≡ true) (kind_is tokenized.pairs i p kind there.1 is ∙ end) (allowed_after before p rest [] tokenized.last follow) in
     no_opening (modes_after_pairs [] before) (nested_after_pairs before [] tt) allowed none

@@ -48,22 +48,22 @@ NextToken Holds [] = Unit {0}
 NextToken Holds (q ∷ qs) = q.gap ≡ [] → Holds q.kind q.spelling
 
 -- 0 represents the end of a text
-abbrev PassesBlanks : (ℕ → Bool) → Type 0
-PassesBlanks p = (p 0 ≡ true) × (p 32 ≡ true) × (p 9 ≡ true)
+abbrev SkipsWhitespace : (ℕ → Bool) → Type 0
+SkipsWhitespace p = (p 0 ≡ true) × (p 32 ≡ true) × (p 9 ≡ true)
 
-whitespace_passes : (p : ℕ → Bool) → PassesBlanks p → (b : ℕ) → is_whitespace b ≡ true → p b ≡ true
-whitespace_passes p h b blank = elim (or_cases (b == 32) (b == 9) blank) [ inl e ↦ ap p (eqb-true b 32 e) ∙ h.1 | inr e ↦ ap p (eqb-true b 9 e) ∙ h.2 ]
+whitespace_passes : (p : ℕ → Bool) → SkipsWhitespace p → (b : ℕ) → is_whitespace b ≡ true → p b ≡ true
+whitespace_passes p h b is_white = elim (or_cases (b == 32) (b == 9) is_white) [ inl e ↦ ap p (eqb-true b 32 e) ∙ h.1 | inr e ↦ ap p (eqb-true b 9 e) ∙ h.2 ]
 
-whitespace_pass : (p : ℕ → Bool) → PassesBlanks p → (t : List ℕ) → list_all is_whitespace t ≡ true → p (slice_index t 0) ≡ true
+whitespace_pass : (p : ℕ → Bool) → SkipsWhitespace p → (t : List ℕ) → list_all is_whitespace t ≡ true → p (slice_index t 0) ≡ true
 whitespace_pass p h [] all = h.0
 whitespace_pass p h (b ∷ t) all = whitespace_passes p h b (and_parts (is_whitespace b) (list_all is_whitespace t) all).0
 
-gap_passes : (p : ℕ → Bool) → PassesBlanks p → (gap t : List ℕ) → list_all is_whitespace gap ≡ true → (gap ≡ [] → p (slice_index t 0) ≡ true) → p (slice_index (gap ++ t) 0) ≡ true
+gap_passes : (p : ℕ → Bool) → SkipsWhitespace p → (gap t : List ℕ) → list_all is_whitespace gap ≡ true → (gap ≡ [] → p (slice_index t 0) ≡ true) → p (slice_index (gap ++ t) 0) ≡ true
 gap_passes p h [] t all none = none refl
 gap_passes p h (b ∷ gap) t all none = whitespace_passes p h b (and_parts (is_whitespace b) (list_all is_whitespace gap) all).0
 
 -- the byte after a token: a blank, the end of the text, or the first byte of the next token
-byte_after : (p : ℕ → Bool) (mode : Mode) → is_literal mode ≡ false → PassesBlanks p → (ps : List Pair) (last : List ℕ) → Rest mode ps last
+byte_after : (p : ℕ → Bool) (mode : Mode) → is_literal mode ≡ false → SkipsWhitespace p → (ps : List Pair) (last : List ℕ) → Rest mode ps last
     → NextToken (λ kind s. HeadIs kind (slice_index s 0) → p (slice_index s 0) ≡ true) ps → p (slice_index (whole_text ps last) 0) ≡ true
 byte_after p mode plain h [] last rest next = whitespace_pass p h last rest.0
 byte_after p mode plain h (q ∷ qs) last rest next =
@@ -89,13 +89,13 @@ next_of Holds kind s (q ∷ qs) apart each = λ e. each q.kind q.spelling (apart
 
 module _ (mode : Mode) (plain : is_literal mode ≡ false) (kind : Kind) (s : List ℕ) (ps : List Pair) (last : List ℕ) (apart : IsApart kind s ps) (rest : Rest mode ps last) where
   -- where tokens that begin with the byte join
-  no_byte : (x : ℕ) → PassesBlanks (is_not x) → ((k : Kind) (t : List ℕ) → joins_with kind s k t ≡ false → starts_with x t ≡ false) → IsNot x (whole_text ps last)
+  no_byte : (x : ℕ) → SkipsWhitespace (is_not x) → ((k : Kind) (t : List ℕ) → joins_with kind s k t ≡ false → starts_with x t ≡ false) → IsNot x (whole_text ps last)
   no_byte x h each =
       not_at x (whole_text ps last)
       (byte_after (is_not x) mode plain h ps last rest (next_of _ kind s ps apart (λ k t j _. begins_other x t h.0 (each k t j))))
 
   -- where tokens that begin with such a byte join
-  no_such : (p : ℕ → Bool) → PassesBlanks p → ((k : Kind) (t : List ℕ) → joins_with kind s k t ≡ false → HeadIs k (slice_index t 0) → p (slice_index t 0) ≡ true) → p (slice_index (whole_text ps last) 0) ≡ true
+  no_such : (p : ℕ → Bool) → SkipsWhitespace p → ((k : Kind) (t : List ℕ) → joins_with kind s k t ≡ false → HeadIs k (slice_index t 0) → p (slice_index t 0) ≡ true) → p (slice_index (whole_text ps last) 0) ≡ true
   no_such p h each = byte_after p mode plain h ps last rest (next_of _ kind s ps apart each)
 
 text_is : (P : Type 0) → true ≡ false → P
@@ -328,30 +328,30 @@ split_dot t h =
 
 ordinary_ends : (mode : Mode) → is_literal mode ≡ false → (kind : Kind) (s : List ℕ) (ps : List Pair) (last : List ℕ)
     → AllowsNext kind ps last → IsApart kind s ps → Rest mode ps last → NextEnds mode ps last → is_allowed_in mode kind ≡ true → Ends mode kind s (whole_text ps last)
-ordinary_ends mode plain LineComment s ps last behind apart rest ends st = comment_after mode ps last behind rest
-ordinary_ends mode plain Identifier s ps last behind apart rest ends st =
+ordinary_ends mode plain LineComment s ps last following apart rest ends st = comment_after mode ps last following rest
+ordinary_ends mode plain Identifier s ps last following apart rest ends st =
     no_word (whole_text ps last) (no_such mode plain Identifier s ps last apart rest stops_word (refl, refl, refl) (λ k t j h. head_passes stops_word k (slice_index t 0) h (word_next k j)))
-ordinary_ends mode plain Number s ps last behind apart rest ends st =
+ordinary_ends mode plain Number s ps last following apart rest ends st =
     let both = split_number (slice_index (whole_text ps last) 0) (no_such mode plain Number s ps last apart rest stops_number (refl, refl, refl) (number_next s)) in
     (both.0, both.1, fraction_after mode plain s ps last apart rest ends)
-ordinary_ends mode plain DotIndex s ps last behind apart rest ends st =
+ordinary_ends mode plain DotIndex s ps last following apart rest ends st =
     not-true (is_ascii_digit (slice_index (whole_text ps last) 0)) (no_such mode plain DotIndex s ps last apart rest no_digit (refl, refl, refl) (λ k t j h. head_passes no_digit k (slice_index t 0) h (index_next k j)))
-ordinary_ends mode plain Less s ps last behind apart rest ends st =
+ordinary_ends mode plain Less s ps last following apart rest ends st =
     (no_byte mode plain Less s ps last apart rest 61 (refl, refl, refl) (less_equal s), less_after mode plain s ps last apart rest)
-ordinary_ends mode plain Greater s ps last behind apart rest ends st = no_byte mode plain Greater s ps last apart rest 61 (refl, refl, refl) (λ k t j. j)
-ordinary_ends mode plain Bang s ps last behind apart rest ends st = no_byte mode plain Bang s ps last apart rest 61 (refl, refl, refl) (λ k t j. j)
-ordinary_ends mode plain Equal s ps last behind apart rest ends st = (
+ordinary_ends mode plain Greater s ps last following apart rest ends st = no_byte mode plain Greater s ps last apart rest 61 (refl, refl, refl) (λ k t j. j)
+ordinary_ends mode plain Bang s ps last following apart rest ends st = no_byte mode plain Bang s ps last apart rest 61 (refl, refl, refl) (λ k t j. j)
+ordinary_ends mode plain Equal s ps last following apart rest ends st = (
   no_byte mode plain Equal s ps last apart rest 61 (refl, refl, refl) (λ k t j. (or_parts (starts_with 61 t) (starts_with 62 t) j).0),
   no_byte mode plain Equal s ps last apart rest 62 (refl, refl, refl) (λ k t j. (or_parts (starts_with 61 t) (starts_with 62 t) j).1),
 )
-ordinary_ends mode plain Colon s ps last behind apart rest ends st = no_byte mode plain Colon s ps last apart rest 58 (refl, refl, refl) (λ k t j. j)
-ordinary_ends mode plain Dot s ps last behind apart rest ends st =
+ordinary_ends mode plain Colon s ps last following apart rest ends st = no_byte mode plain Colon s ps last apart rest 58 (refl, refl, refl) (λ k t j. j)
+ordinary_ends mode plain Dot s ps last following apart rest ends st =
     split_dot (whole_text ps last) (no_such mode plain Dot s ps last apart rest stops_dot (refl, refl, refl) (λ k t j h. head_passes stops_dot k (slice_index t 0) h (dot_next k j)))
-ordinary_ends mode plain InterpOpen s ps last behind apart rest ends st = absurd (both_ways _ plain st)
-ordinary_ends mode plain DirectiveOpen s ps last behind apart rest ends st = absurd (both_ways _ plain st)
-ordinary_ends mode plain QuoteLit s ps last behind apart rest ends st = absurd (not_quoted mode plain st)
-ordinary_ends mode plain HereLit s ps last behind apart rest ends st = absurd (not_heredoc mode plain st)
-ordinary_ends mode plain kind s ps last behind apart rest ends st = tt
+ordinary_ends mode plain InterpOpen s ps last following apart rest ends st = absurd (both_ways _ plain st)
+ordinary_ends mode plain DirectiveOpen s ps last following apart rest ends st = absurd (both_ways _ plain st)
+ordinary_ends mode plain QuoteLit s ps last following apart rest ends st = absurd (not_quoted mode plain st)
+ordinary_ends mode plain HereLit s ps last following apart rest ends st = absurd (not_heredoc mode plain st)
+ordinary_ends mode plain kind s ps last following apart rest ends st = tt
 
 -- what follows a token, by the modes after it
 abbrev EndsHere : List Mode → Kind → List ℕ → List Pair → List ℕ → Type 0
@@ -360,48 +360,48 @@ EndsHere modes kind s ps last =
     → Rest (mode_of (modes_after kind s modes)) ps last → NextEnds (mode_of (modes_after kind s modes)) ps last → Ends (mode_of modes) kind s (whole_text ps last)
 
 quoted_after : (ps : List Pair) (last : List ℕ) → AllowsNext QuoteLit ps last → Rest Quoted ps last → quote_unit false (whole_text ps last) ≡ 0
-quoted_after [] last behind rest = absurd (false≢true (sym rest.1))
-quoted_after (q ∷ qs) last behind rest =
+quoted_after [] last following rest = absurd (false≢true (sym rest.1))
+quoted_after (q ∷ qs) last following rest =
     let none : q.gap ≡ [] = rest.0.1 refl in
-    rw none (quote_next q.kind q.spelling (whole_text qs last) behind rest.1.0 rest.1.1)
+    rw none (quote_next q.kind q.spelling (whole_text qs last) following rest.1.0 rest.1.1)
 
 quoted_ends : (ms : List Mode) (kind : Kind) (s : List ℕ) (ps : List Pair) (last : List ℕ) → EndsHere (Quoted ∷ ms) kind s ps last
-quoted_ends ms InterpOpen s ps last m lexeme behind apart rest ends = interp_after s ps last lexeme.1 apart rest
-quoted_ends ms DirectiveOpen s ps last m lexeme behind apart rest ends = directive_after s ps last lexeme.1 apart rest
-quoted_ends ms QuoteLit s ps last m lexeme behind apart rest ends = quoted_after ps last behind rest
-quoted_ends ms QuoteClose s ps last m lexeme behind apart rest ends = tt
-quoted_ends ms kind s ps last m lexeme behind apart rest ends = absurd (false≢true lexeme.0)
+quoted_ends ms InterpOpen s ps last m lexeme following apart rest ends = interp_after s ps last lexeme.1 apart rest
+quoted_ends ms DirectiveOpen s ps last m lexeme following apart rest ends = directive_after s ps last lexeme.1 apart rest
+quoted_ends ms QuoteLit s ps last m lexeme following apart rest ends = quoted_after ps last following rest
+quoted_ends ms QuoteClose s ps last m lexeme following apart rest ends = tt
+quoted_ends ms kind s ps last m lexeme following apart rest ends = absurd (false≢true lexeme.0)
 
 heredoc_after : (name : List ℕ) (at_line_start : Bool) (ps : List Pair) (last : List ℕ) → IsIdentifier name → AllowsNext HereLit ps last → Rest (Heredoc name at_line_start) ps last → heredoc_unit name at_line_start (whole_text ps last) ≡ 0
-heredoc_after name at_line_start [] last ident behind rest = absurd (false≢true (sym rest.1))
-heredoc_after name at_line_start (q ∷ qs) last ident behind rest =
+heredoc_after name at_line_start [] last ident following rest = absurd (false≢true (sym rest.1))
+heredoc_after name at_line_start (q ∷ qs) last ident following rest =
     let none : q.gap ≡ [] = rest.0.1 refl in
-    rw none (heredoc_next name at_line_start q.kind q.spelling (whole_text qs last) ident behind rest.1)
+    rw none (heredoc_next name at_line_start q.kind q.spelling (whole_text qs last) ident following rest.1)
 
 heredoc_ends : (name : List ℕ) (at_line_start : Bool) (ms : List Mode) (kind : Kind) (s : List ℕ) (ps : List Pair) (last : List ℕ) → EndsHere (Heredoc name at_line_start ∷ ms) kind s ps last
-heredoc_ends name at_line_start ms InterpOpen s ps last m lexeme behind apart rest ends = interp_after s ps last lexeme.1 apart rest
-heredoc_ends name at_line_start ms DirectiveOpen s ps last m lexeme behind apart rest ends = directive_after s ps last lexeme.1 apart rest
-heredoc_ends name at_line_start ms HereLit s ps last m lexeme behind apart rest ends = heredoc_after name (is_line_start_after at_line_start s) ps last m.0 behind rest
-heredoc_ends name at_line_start ms HereClose s ps last m lexeme behind apart rest ends = tt
-heredoc_ends name at_line_start ms kind s ps last m lexeme behind apart rest ends = absurd (false≢true lexeme.0)
+heredoc_ends name at_line_start ms InterpOpen s ps last m lexeme following apart rest ends = interp_after s ps last lexeme.1 apart rest
+heredoc_ends name at_line_start ms DirectiveOpen s ps last m lexeme following apart rest ends = directive_after s ps last lexeme.1 apart rest
+heredoc_ends name at_line_start ms HereLit s ps last m lexeme following apart rest ends = heredoc_after name (is_line_start_after at_line_start s) ps last m.0 following rest
+heredoc_ends name at_line_start ms HereClose s ps last m lexeme following apart rest ends = tt
+heredoc_ends name at_line_start ms kind s ps last m lexeme following apart rest ends = absurd (false≢true lexeme.0)
 
 -- of the kinds that something can go on with, those outside of literal text leave the modes as they are
 ordinary_heredoc : (modes : List Mode) → is_literal (mode_of modes) ≡ false → (kind : Kind) (s : List ℕ) (ps : List Pair) (last : List ℕ) → EndsHere modes kind s ps last
-ordinary_heredoc modes plain LineComment s ps last m lexeme behind apart rest ends = ordinary_ends (mode_of modes) plain LineComment s ps last behind apart rest ends lexeme.0
-ordinary_heredoc modes plain Identifier s ps last m lexeme behind apart rest ends = ordinary_ends (mode_of modes) plain Identifier s ps last behind apart rest ends lexeme.0
-ordinary_heredoc modes plain Number s ps last m lexeme behind apart rest ends = ordinary_ends (mode_of modes) plain Number s ps last behind apart rest ends lexeme.0
-ordinary_heredoc modes plain DotIndex s ps last m lexeme behind apart rest ends = ordinary_ends (mode_of modes) plain DotIndex s ps last behind apart rest ends lexeme.0
-ordinary_heredoc modes plain Less s ps last m lexeme behind apart rest ends = ordinary_ends (mode_of modes) plain Less s ps last behind apart rest ends lexeme.0
-ordinary_heredoc modes plain Greater s ps last m lexeme behind apart rest ends = ordinary_ends (mode_of modes) plain Greater s ps last behind apart rest ends lexeme.0
-ordinary_heredoc modes plain Bang s ps last m lexeme behind apart rest ends = ordinary_ends (mode_of modes) plain Bang s ps last behind apart rest ends lexeme.0
-ordinary_heredoc modes plain Equal s ps last m lexeme behind apart rest ends = ordinary_ends (mode_of modes) plain Equal s ps last behind apart rest ends lexeme.0
-ordinary_heredoc modes plain Colon s ps last m lexeme behind apart rest ends = ordinary_ends (mode_of modes) plain Colon s ps last behind apart rest ends lexeme.0
-ordinary_heredoc modes plain Dot s ps last m lexeme behind apart rest ends = ordinary_ends (mode_of modes) plain Dot s ps last behind apart rest ends lexeme.0
-ordinary_heredoc modes plain InterpOpen s ps last m lexeme behind apart rest ends = absurd (both_ways _ plain lexeme.0)
-ordinary_heredoc modes plain DirectiveOpen s ps last m lexeme behind apart rest ends = absurd (both_ways _ plain lexeme.0)
-ordinary_heredoc modes plain QuoteLit s ps last m lexeme behind apart rest ends = absurd (not_quoted (mode_of modes) plain lexeme.0)
-ordinary_heredoc modes plain HereLit s ps last m lexeme behind apart rest ends = absurd (not_heredoc (mode_of modes) plain lexeme.0)
-ordinary_heredoc modes plain kind s ps last m lexeme behind apart rest ends = tt
+ordinary_heredoc modes plain LineComment s ps last m lexeme following apart rest ends = ordinary_ends (mode_of modes) plain LineComment s ps last following apart rest ends lexeme.0
+ordinary_heredoc modes plain Identifier s ps last m lexeme following apart rest ends = ordinary_ends (mode_of modes) plain Identifier s ps last following apart rest ends lexeme.0
+ordinary_heredoc modes plain Number s ps last m lexeme following apart rest ends = ordinary_ends (mode_of modes) plain Number s ps last following apart rest ends lexeme.0
+ordinary_heredoc modes plain DotIndex s ps last m lexeme following apart rest ends = ordinary_ends (mode_of modes) plain DotIndex s ps last following apart rest ends lexeme.0
+ordinary_heredoc modes plain Less s ps last m lexeme following apart rest ends = ordinary_ends (mode_of modes) plain Less s ps last following apart rest ends lexeme.0
+ordinary_heredoc modes plain Greater s ps last m lexeme following apart rest ends = ordinary_ends (mode_of modes) plain Greater s ps last following apart rest ends lexeme.0
+ordinary_heredoc modes plain Bang s ps last m lexeme following apart rest ends = ordinary_ends (mode_of modes) plain Bang s ps last following apart rest ends lexeme.0
+ordinary_heredoc modes plain Equal s ps last m lexeme following apart rest ends = ordinary_ends (mode_of modes) plain Equal s ps last following apart rest ends lexeme.0
+ordinary_heredoc modes plain Colon s ps last m lexeme following apart rest ends = ordinary_ends (mode_of modes) plain Colon s ps last following apart rest ends lexeme.0
+ordinary_heredoc modes plain Dot s ps last m lexeme following apart rest ends = ordinary_ends (mode_of modes) plain Dot s ps last following apart rest ends lexeme.0
+ordinary_heredoc modes plain InterpOpen s ps last m lexeme following apart rest ends = absurd (both_ways _ plain lexeme.0)
+ordinary_heredoc modes plain DirectiveOpen s ps last m lexeme following apart rest ends = absurd (both_ways _ plain lexeme.0)
+ordinary_heredoc modes plain QuoteLit s ps last m lexeme following apart rest ends = absurd (not_quoted (mode_of modes) plain lexeme.0)
+ordinary_heredoc modes plain HereLit s ps last m lexeme following apart rest ends = absurd (not_heredoc (mode_of modes) plain lexeme.0)
+ordinary_heredoc modes plain kind s ps last m lexeme following apart rest ends = tt
 
 pub ends_here : (modes : List Mode) (kind : Kind) (s : List ℕ) (ps : List Pair) (last : List ℕ) → EndsHere modes kind s ps last
 ends_here [] kind s ps last = ordinary_heredoc [] refl kind s ps last

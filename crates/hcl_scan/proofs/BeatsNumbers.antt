@@ -105,8 +105,8 @@ fraction_tail digits x rest decimal is =
           let letter : is_exponent_letter (slice_index (x ++ rest) 0) ≡ true = ap is_exponent_letter (head_of x rest some) ∙ letter_head x is some in
           let stop : decimal_length (x ++ rest) ≡ 0 = no_digits (x ++ rest) (letter_no_digit (slice_index (x ++ rest) 0) letter) in
           let width : fraction_length t ≡ n = first ∙ omega (arith, count, stop) in
-          let behind : drop n t ≡ x ++ rest = drop_at (46 ∷ digits) (x ++ rest) n refl in
-          let value : tail_length t ≡ n + exponent_length (x ++ rest) = tail_of t n width ∙ ap (λ (y : List ℕ). n + exponent_length y) behind in
+          let following : drop n t ≡ x ++ rest = drop_at (46 ∷ digits) (x ++ rest) n refl in
+          let value : tail_length t ≡ n + exponent_length (x ++ rest) = tail_of t n width ∙ ap (λ (y : List ℕ). n + exponent_length y) following in
           omega (arith, value, size, exponent_le x rest is)
     ]
 
@@ -145,7 +145,7 @@ number_le whole f x rest decimal fraction exponent =
           let n : ℕ = length whole in
           let stop : decimal_length (tail ++ rest) ≡ 0 = no_digits (tail ++ rest) (ap is_ascii_digit (head_of tail rest some) ∙ tail_head f x fraction exponent some) in
           let width : decimal_length t ≡ n = omega (arith, count, stop) in
-          let behind : drop n t ≡ tail ++ rest = ap (drop n) split ∙ drop_at whole (tail ++ rest) n refl in
-          let value : number_length t ≡ n + tail_length (tail ++ rest) = number_of t n width ∙ ap (λ (y : List ℕ). n + tail_length y) behind in
+          let following : drop n t ≡ tail ++ rest = ap (drop n) split ∙ drop_at whole (tail ++ rest) n refl in
+          let value : number_length t ≡ n + tail_length (tail ++ rest) = number_of t n width ∙ ap (λ (y : List ℕ). n + tail_length y) following in
           omega (arith, value, size, tail_le f x rest fraction exponent)
     ]

@@ -74,8 +74,8 @@ module _ (rest : List ℕ) (no_digit : is_ascii_digit (slice_index rest 0) ≡ f
       let count : decimal_length body ≡ length digits = digits_exact digits (x ++ rest) decimal stop in
       let size : length (digits ++ x) ≡ length digits + length x = length-append digits x in
       let width : fraction_length t ≡ n = first ∙ omega (arith, count) in
-      let behind : drop n t ≡ x ++ rest = drop_at (46 ∷ digits) (x ++ rest) n refl in
-      let value : tail_length t ≡ n + exponent_length (x ++ rest) = tail_of t n width ∙ ap (λ (y : List ℕ). n + exponent_length y) behind in
+      let following : drop n t ≡ x ++ rest = drop_at (46 ∷ digits) (x ++ rest) n refl in
+      let value : tail_length t ≡ n + exponent_length (x ++ rest) = tail_of t n width ∙ ap (λ (y : List ℕ). n + exponent_length y) following in
       value ∙ omega (arith, size, exponent_exact x is)
     where
       after_digits : (y : List ℕ) → IsExponent y → is_ascii_digit (slice_index (y ++ rest) 0) ≡ false
@@ -105,13 +105,13 @@ number_exact whole f x rest decimal fraction exponent ends =
     let t : List ℕ = (whole ++ tail) ++ rest in
     let n : ℕ = length whole in
     let split : t ≡ whole ++ (tail ++ rest) = append_assoc whole tail rest in
-    let stop : is_ascii_digit (slice_index (tail ++ rest) 0) ≡ false = behind_whole tail refl in
+    let stop : is_ascii_digit (slice_index (tail ++ rest) 0) ≡ false = byte_after_whole tail refl in
     let width : decimal_length t ≡ n = ap decimal_length split ∙ digits_exact whole (tail ++ rest) decimal stop in
-    let behind : drop n t ≡ tail ++ rest = ap (drop n) split ∙ drop_at whole (tail ++ rest) n refl in
-    let value : number_length t ≡ n + tail_length (tail ++ rest) = number_of t n width ∙ ap (λ (y : List ℕ). n + tail_length y) behind in
+    let following : drop n t ≡ tail ++ rest = ap (drop n) split ∙ drop_at whole (tail ++ rest) n refl in
+    let value : number_length t ≡ n + tail_length (tail ++ rest) = number_of t n width ∙ ap (λ (y : List ℕ). n + tail_length y) following in
     let none : tail ≡ [] → fraction_length rest ≡ 0 = λ e. ends.2 (ap (λ (y : List ℕ). is_digits (whole ++ y)) e ∙ ap is_digits (append-nil whole) ∙ digits_alone whole (all_digits whole decimal)) in
     value ∙ omega (arith, tail_exact rest ends.0 ends.1 f x fraction exponent none, length-append whole tail)
   where
-    behind_whole : (y : List ℕ) → f ++ x ≡ y → is_ascii_digit (slice_index (y ++ rest) 0) ≡ false
-    behind_whole [] e = ends.0
-    behind_whole (b ∷ y) e = ap (λ (z : List ℕ). is_ascii_digit (slice_index z 0)) (sym e) ∙ tail_head f x fraction exponent (omega (arith, ap length e))
+    byte_after_whole : (y : List ℕ) → f ++ x ≡ y → is_ascii_digit (slice_index (y ++ rest) 0) ≡ false
+    byte_after_whole [] e = ends.0
+    byte_after_whole (b ∷ y) e = ap (λ (z : List ℕ). is_ascii_digit (slice_index z 0)) (sym e) ∙ tail_head f x fraction exponent (omega (arith, ap length e))

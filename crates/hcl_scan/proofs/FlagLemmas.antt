@@ -60,8 +60,8 @@ module _ (v : List ℕ) (long : length v ≡ 16) where
         get_or-swz_l_below w8 16 table 0 highs i (omega (arith, length-highs)) (omega (arith, is, small)) ∙ ap (λ k. get_or table k 0) (omega (arith, is))
 
 -- a byte of 256 and more, which there is none of, has no flag
-none_past : (low high : List ℕ) (b : ℕ) → length high ≡ 16 → 256 ≤ b → flags_of low high b ≡ 0
-none_past low high b size past =
+none_from_256 : (low high : List ℕ) (b : ℕ) → length high ≡ 16 → 256 ≤ b → flags_of low high b ≡ 0
+none_from_256 low high b size past =
     ap (bit_and (slice_index low (bit_and b 15))) (get_or_past high (b / 16) 0 (omega arith)) ∙ and_zero_r (slice_index low (bit_and b 15))
 
 abbrev pub has_flags : List ℕ → List ℕ → ℕ → Bool
@@ -72,7 +72,7 @@ unfolding agree_below
 id_flags b =
     elim (cases_lt b 256) [
       | inl lt ↦ agree_at (has_flags ID_LOW ID_HIGH) is_ascii_id_continue 256 refl b lt
-      | inr past ↦ ap (λ x. not (x == 0)) (none_past ID_LOW ID_HIGH b refl past) ∙ no_letter b past
+      | inr past ↦ ap (λ x. not (x == 0)) (none_from_256 ID_LOW ID_HIGH b refl past) ∙ no_letter b past
     ]
   where
     no_letter : (b : ℕ) → 256 ≤ b → false ≡ is_ascii_id_continue b
@@ -83,7 +83,7 @@ passing : (low high : List ℕ) (passes : ℕ → Bool) → length high ≡ 16 �
 passing low high passes size agree b has =
     elim (cases_lt b 256) [
       | inl lt ↦ sym (agree_at (has_flags low high) passes 256 agree b lt) ∙ has
-      | inr past ↦ not_both (has_flags low high b) (passes b) (ap (λ x. not (x == 0)) (none_past low high b size past)) has
+      | inr past ↦ not_both (has_flags low high b) (passes b) (ap (λ x. not (x == 0)) (none_from_256 low high b size past)) has
     ]
   where
     not_both : (x y : Bool) → x ≡ false → x ≡ true → y ≡ true
@@ -130,10 +130,10 @@ quoted_unlisted = unlisted QUOTED_STOPS is_ordinary_quoted refl ordinary
 -- ---- spaces
 
 pub spaces_before : (text : List ℕ) (at n : ℕ) → at + 16 ≤ length text → n ≡ prefix_len (λ x. not (not (x == 32))) (chunk at 16 text) → (k : ℕ) → at ≤ k → k < at + n → slice_index text k ≡ 32
-spaces_before text at n room count k from to =
+spaces_before text at n limit_in_capacity count k from to =
     let test : ℕ → Bool = λ x. not (not (x == 32)) in
     let i : ℕ = k - at in
-    let long = length-chunk at 16 text room in
+    let long = length-chunk at 16 text limit_in_capacity in
     let most = prefix_len-le-length test (chunk at 16 text) in
     let within : i < 16 = omega (arith, count, long, most) in
     let passes = prefix_len_passes test (chunk at 16 text) i 0 (omega (arith, count)) in

@@ -50,7 +50,7 @@ spells_alike mode Slash s r r' m st a (e, h) = (e, ap (λ b. b == 42 || b == 47)
 spells_alike mode QuoteLit s r r' m st a (filled, run) = (filled, quote_same r r' s a run)
 spells_alike (Heredoc name at_line_start) HereLit s r r' m st a (filled, run) = (filled, heredoc_alike name at_line_start s r r' m a.0 a.1 run)
 spells_alike mode HereLit s r r' m st a h = absurd (false≢true st)
-spells_alike mode HereClose s r r' m st a (before, behind, e, all, all', ends) = (before, behind, e, all, all', a ends)
+spells_alike mode HereClose s r r' m st a (before, following, e, all, all', ends) = (before, following, e, all, all', a ends)
 spells_alike mode kind s r r' m st a h = h
 
 -- ---- the token after it
@@ -83,20 +83,20 @@ quoted_alike kind t more other st e = absurd (false≢true st)
 
 -- in a heredoc
 close_head : (name t rest : List ℕ) → IsIdentifier name → IsClosingLine name t rest → (0 < length t) × (is_sigil (slice_index t 0) ≡ false)
-close_head name t rest ident ([], behind, e, all, all', ends) =
+close_head name t rest ident ([], following, e, all, all', ends) =
     let word = identifier_some name ident in
-    let first = front name behind word.0 in
+    let first = leading name following word.0 in
     rw e (first.0, ap is_sigil first.1 ∙ word_no_sigil (slice_index name 0) word.1)
   where
-    front : (xs ys : List ℕ) → 0 < length xs → (0 < length (xs ++ ys)) × (slice_index (xs ++ ys) 0 ≡ slice_index xs 0)
-    front [] ys h = absurd (omega arith)
-    front (x ∷ xs) ys h = (omega arith, refl)
-close_head name t rest ident (b ∷ before, behind, e, all, all', ends) =
-    let blank : is_whitespace b ≡ true = (and_parts (is_whitespace b) (list_all is_whitespace before) all).0 in
-    rw e (omega arith, blank_no_sigil b blank)
+    leading : (xs ys : List ℕ) → 0 < length xs → (0 < length (xs ++ ys)) × (slice_index (xs ++ ys) 0 ≡ slice_index xs 0)
+    leading [] ys h = absurd (omega arith)
+    leading (x ∷ xs) ys h = (omega arith, refl)
+close_head name t rest ident (b ∷ before, following, e, all, all', ends) =
+    let is_white : is_whitespace b ≡ true = (and_parts (is_whitespace b) (list_all is_whitespace before) all).0 in
+    rw e (omega arith, whitespace_no_sigil b is_white)
   where
-    blank_no_sigil : (c : ℕ) → is_whitespace c ≡ true → is_sigil c ≡ false
-    blank_no_sigil c h = grind (arith, nat_tests)
+    whitespace_no_sigil : (c : ℕ) → is_whitespace c ≡ true → is_sigil c ≡ false
+    whitespace_no_sigil c h = grind (arith, nat_tests)
 
 head_alike : (t more : List ℕ) → 0 < length t → is_sigil (slice_index t 0) ≡ false → IsAlike t (t ++ more)
 head_alike [] more some h = absurd (omega arith)
@@ -162,50 +162,50 @@ comment_far mode (q ∷ qs) last (none, line) rest = rw none (line_alike q.kind 
 
 slash_far : (mode : Mode) → HasMarker mode → (ps : List Pair) (last : List ℕ) → Rest mode ps last → slice_index (following_text ps last) 0 ≡ slice_index (whole_text ps last) 0
 slash_far mode m [] last rest = refl
-slash_far mode m (q ∷ qs) last rest = behind_gap q.gap
+slash_far mode m (q ∷ qs) last rest = byte_after_gap q.gap
   where
     more : List ℕ
     more = whole_text qs last
 
-    front : (t : List ℕ) → 0 < length t → slice_index t 0 ≡ slice_index (t ++ more) 0
-    front [] some = absurd (omega arith)
-    front (b ∷ t) some = refl
+    leading : (t : List ℕ) → 0 < length t → slice_index t 0 ≡ slice_index (t ++ more) 0
+    leading [] some = absurd (omega arith)
+    leading (b ∷ t) some = refl
 
-    behind_gap : (gap : List ℕ) → slice_index (gap ++ q.spelling) 0 ≡ slice_index (gap ++ (q.spelling ++ more)) 0
-    behind_gap [] = front q.spelling (lexeme_filled mode q.kind q.spelling (whole_text qs last) m rest.1)
-    behind_gap (b ∷ gap) = refl
+    byte_after_gap : (gap : List ℕ) → slice_index (gap ++ q.spelling) 0 ≡ slice_index (gap ++ (q.spelling ++ more)) 0
+    byte_after_gap [] = leading q.spelling (lexeme_filled mode q.kind q.spelling (whole_text qs last) m rest.1)
+    byte_after_gap (b ∷ gap) = refl
 
 quoted_far : (ps : List Pair) (last : List ℕ) → AllowsNext QuoteLit ps last → Rest Quoted ps last → IsAlike (following_text ps last) (whole_text ps last)
-quoted_far [] last behind rest = always_alike last
-quoted_far (q ∷ qs) last behind rest =
+quoted_far [] last following rest = always_alike last
+quoted_far (q ∷ qs) last following rest =
     let none : q.gap ≡ [] = rest.0.1 refl in
-    rw none (quoted_alike q.kind q.spelling (whole_text qs last) behind rest.1.0 rest.1.1)
+    rw none (quoted_alike q.kind q.spelling (whole_text qs last) following rest.1.0 rest.1.1)
 
 heredoc_far : (name : List ℕ) (at_line_start : Bool) (ps : List Pair) (last : List ℕ) → IsIdentifier name → AllowsNext HereLit ps last → Rest (Heredoc name at_line_start) ps last
     → IsAlike (following_text ps last) (whole_text ps last) × (BothOpen (following_text ps last) (whole_text ps last) ⊎ (at_line_start ≡ true))
-heredoc_far name at_line_start [] last ident behind rest = absurd (false≢true (sym rest.1))
-heredoc_far name at_line_start (q ∷ qs) last ident behind rest =
+heredoc_far name at_line_start [] last ident following rest = absurd (false≢true (sym rest.1))
+heredoc_far name at_line_start (q ∷ qs) last ident following rest =
     let none : q.gap ≡ [] = rest.0.1 refl in
-    rw none (heredoc_next name at_line_start q.kind q.spelling (whole_text qs last) ident behind rest.1)
+    rw none (heredoc_next name at_line_start q.kind q.spelling (whole_text qs last) ident following rest.1)
 
 close_far : (mode : Mode) → HasMarker mode → (ps : List Pair) (last : List ℕ) → Rest mode ps last → is_at_line_end_or_eof (following_text ps last) ≡ true → is_at_line_end_or_eof (whole_text ps last) ≡ true
 close_far mode m [] last rest h = h
-close_far mode m (q ∷ qs) last rest h = behind_gap q.gap h
+close_far mode m (q ∷ qs) last rest h = byte_after_gap q.gap h
   where
-    front : (t : List ℕ) → 0 < length t → is_at_line_end_or_eof t ≡ true → is_at_line_end_or_eof (t ++ whole_text qs last) ≡ true
-    front [] some k = absurd (omega arith)
-    front (b ∷ t) some k = ends_more b t (whole_text qs last) k
+    leading : (t : List ℕ) → 0 < length t → is_at_line_end_or_eof t ≡ true → is_at_line_end_or_eof (t ++ whole_text qs last) ≡ true
+    leading [] some k = absurd (omega arith)
+    leading (b ∷ t) some k = ends_more b t (whole_text qs last) k
 
-    behind_gap : (gap : List ℕ) → is_at_line_end_or_eof (gap ++ q.spelling) ≡ true → is_at_line_end_or_eof (gap ++ (q.spelling ++ whole_text qs last)) ≡ true
-    behind_gap [] k = front q.spelling (lexeme_filled mode q.kind q.spelling (whole_text qs last) m rest.1) k
-    behind_gap (b ∷ gap) k = ap (λ (x : List ℕ). is_at_line_end_or_eof (b ∷ x)) (sym (append_assoc gap q.spelling (whole_text qs last))) ∙ ends_more b (gap ++ q.spelling) (whole_text qs last) k
+    byte_after_gap : (gap : List ℕ) → is_at_line_end_or_eof (gap ++ q.spelling) ≡ true → is_at_line_end_or_eof (gap ++ (q.spelling ++ whole_text qs last)) ≡ true
+    byte_after_gap [] k = leading q.spelling (lexeme_filled mode q.kind q.spelling (whole_text qs last) m rest.1) k
+    byte_after_gap (b ∷ gap) k = ap (λ (x : List ℕ). is_at_line_end_or_eof (b ∷ x)) (sym (append_assoc gap q.spelling (whole_text qs last))) ∙ ends_more b (gap ++ q.spelling) (whole_text qs last) k
 
 -- a token of this kind, and what may follow it
-abbrev pub Stands : List Mode → Kind → List ℕ → List Pair → List ℕ → Type 0
-Stands modes kind s ps last =
+abbrev pub HasFollowing : List Mode → Kind → List ℕ → List Pair → List ℕ → Type 0
+HasFollowing modes kind s ps last =
     HaveMarkers modes × (is_allowed_in (mode_of modes) kind ≡ true) × AllowsNext kind ps last × HasMarker (mode_of (modes_after kind s modes)) × Rest (mode_of (modes_after kind s modes)) ps last
 
-pub far : (modes : List Mode) (kind : Kind) (s : List ℕ) (ps : List Pair) (last : List ℕ) → Stands modes kind s ps last → Alike (mode_of modes) kind s (following_text ps last) (whole_text ps last)
+pub far : (modes : List Mode) (kind : Kind) (s : List ℕ) (ps : List Pair) (last : List ℕ) → HasFollowing modes kind s ps last → Alike (mode_of modes) kind s (following_text ps last) (whole_text ps last)
 far modes LineComment s ps last h = comment_far (mode_of modes) ps last h.2 h.4
 far modes Slash s ps last h = slash_far (mode_of modes) h.3 ps last h.4
 far (Quoted ∷ ms) QuoteLit s ps last h = quoted_far ps last h.2 h.4

@@ -127,8 +127,8 @@ named_exact : (before : ℕ) (name end rest : List ℕ) → IsIdentifier name �
     → open_with_marker before (name ++ (end ++ rest)) (identifier (name ++ (end ++ rest))) ≡ Some (HereOpen, before + length name + length end)
 named_exact before name end rest ident line =
     let found = identifier_exact name (end ++ rest) ident (line_end_no_word end rest line) in
-    let behind : drop (length name) (name ++ (end ++ rest)) ≡ end ++ rest = drop_at name (end ++ rest) (length name) refl in
-    rw (found, behind, line_end_found end rest line, line_end_some end line) refl
+    let following : drop (length name) (name ++ (end ++ rest)) ≡ end ++ rest = drop_at name (end ++ rest) (length name) refl in
+    rw (found, following, line_end_found end rest line, line_end_some end line) refl
   where
     line_end_some : (end : List ℕ) → IsLineEnd end → (length end == 0) ≡ false
     line_end_some end (inl e) = rw e refl

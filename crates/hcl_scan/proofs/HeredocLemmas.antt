@@ -89,22 +89,22 @@ ends_ascii (b ∷ t) h = grind (arith, nat_tests)
 -- a closing line is found, with its length
 pub close_found : (name s rest : List ℕ) → IsIdentifier name → IsClosingLine name s rest
     → (is_closing_line name (s ++ rest) ≡ true) × (closing_line_length name (s ++ rest) ≡ length s)
-close_found name s rest ident (before, behind, e, all, all', ends) =
+close_found name s rest ident (before, following, e, all, all', ends) =
     let word = identifier_some name ident in
     let first : is_whitespace (slice_index name 0) ≡ false = word_no_whitespace (slice_index name 0) word.1 in
     let t : List ℕ = s ++ rest in
-    let tail : List ℕ = behind ++ rest in
+    let tail : List ℕ = following ++ rest in
     let split : t ≡ before ++ (name ++ tail) =
-    ap (λ (x : List ℕ). x ++ rest) e ∙ append_assoc before (name ++ behind) rest ∙ ap (λ (x : List ℕ). before ++ x) (append_assoc name behind rest) in
+    ap (λ (x : List ℕ). x ++ rest) e ∙ append_assoc before (name ++ following) rest ∙ ap (λ (x : List ℕ). before ++ x) (append_assoc name following rest) in
     let width : prefix_len is_whitespace t ≡ length before =
     ap (prefix_len is_whitespace) split ∙ prefix_adds is_whitespace before (name ++ tail) all ∙ omega (arith, prefix_none is_whitespace name tail word.0 first) in
     let middle : drop (prefix_len is_whitespace t) t ≡ name ++ tail = ap₂ drop width split ∙ drop_at before (name ++ tail) (length before) refl in
     let last : after_marker name t ≡ tail = ap (drop (length name)) middle ∙ drop_at name tail (length name) refl in
-    let width' : prefix_len is_whitespace tail ≡ length behind = prefix_adds is_whitespace behind rest all' ∙ omega (arith, ends_no_whitespace rest ends) in
+    let width' : prefix_len is_whitespace tail ≡ length following = prefix_adds is_whitespace following rest all' ∙ omega (arith, ends_no_whitespace rest ends) in
     let finish : drop (prefix_len is_whitespace (after_marker name t)) (after_marker name t) ≡ rest =
-    ap₂ drop (ap (prefix_len is_whitespace) last ∙ width') last ∙ drop_at behind rest (length behind) refl in (
+    ap₂ drop (ap (prefix_len is_whitespace) last ∙ width') last ∙ drop_at following rest (length following) refl in (
       both_true (ap (is_prefix_of name) middle ∙ begins_marker name tail) (ap is_at_line_end_or_eof finish ∙ ends),
-      omega (arith, width, ap (prefix_len is_whitespace) last, width', ap length e, length-append before (name ++ behind), length-append name behind),
+      omega (arith, width, ap (prefix_len is_whitespace) last, width', ap length e, length-append before (name ++ following), length-append name following),
     )
 
 -- what is found is a closing line
@@ -124,19 +124,19 @@ close_split name t h =
     let m : ℕ = prefix_len is_whitespace tail in
     let both = and_parts (is_prefix_of name middle) (is_at_line_end_or_eof (drop m tail)) h in
     let before : List ℕ = take n t in
-    let behind : List ℕ = take m tail in
+    let following : List ℕ = take m tail in
     let rest : List ℕ = drop m tail in
     let outer : t ≡ before ++ middle = sym (take-append-drop n t) in
     let inner : middle ≡ name ++ tail = marker_at name middle both.0 in
-    let last : tail ≡ behind ++ rest = sym (take-append-drop m tail) in
-    let whole : t ≡ (before ++ (name ++ behind)) ++ rest =
-    outer ∙ ap (λ (x : List ℕ). before ++ x) (inner ∙ ap (λ (x : List ℕ). name ++ x) last ∙ sym (append_assoc name behind rest)) ∙ sym (append_assoc before (name ++ behind) rest) in
+    let last : tail ≡ following ++ rest = sym (take-append-drop m tail) in
+    let whole : t ≡ (before ++ (name ++ following)) ++ rest =
+    outer ∙ ap (λ (x : List ℕ). before ++ x) (inner ∙ ap (λ (x : List ℕ). name ++ x) last ∙ sym (append_assoc name following rest)) ∙ sym (append_assoc before (name ++ following) rest) in
     record {
-      spelling = before ++ (name ++ behind);
+      spelling = before ++ (name ++ following);
       rest = rest;
       text_is = whole;
-      len = length-append before (name ++ behind) ∙ omega (arith, length-append name behind, length-take-le n t (prefix_len-le-length is_whitespace t), length-take-le m tail (prefix_len-le-length is_whitespace tail));
-      close = (before, behind, refl, prefix_all is_whitespace t, prefix_all is_whitespace tail, both.1);
+      len = length-append before (name ++ following) ∙ omega (arith, length-append name following, length-take-le n t (prefix_len-le-length is_whitespace t), length-take-le m tail (prefix_len-le-length is_whitespace tail));
+      close = (before, following, refl, prefix_all is_whitespace t, prefix_all is_whitespace tail, both.1);
       ends = both.1;
     }
 
@@ -160,7 +160,7 @@ pub closing_no_opening : (name t : List ℕ) → IsIdentifier name → is_closin
 closing_no_opening name t ident h =
     let word = identifier_some name ident in
     elim (closing_prefix name t word.0 h) [
-      | inl blank ↦ (let b : ℕ = slice_index t 0 in grind (arith, nat_tests))
+      | inl is_white ↦ (let b : ℕ = slice_index t 0 in grind (arith, nat_tests))
       | inr same ↦ ap is_sigil same ∙ word_no_sigil (slice_index name 0) word.1
     ]
 
@@ -196,11 +196,11 @@ heredoc_stops name at_line_start (b ∷ rest) h =
 pub utf8_closing : (name s rest : List ℕ) → IsIdentifier name → IsUtf8 (s ++ rest) → is_closing_line name rest ≡ true → IsUtf8 rest
 utf8_closing name s rest ident u h =
     elim (closing_prefix name rest (identifier_some name ident).0 h) [
-      | inl blank ↦ (let b : ℕ = slice_index rest 0 in utf8_rest s rest u (grind (arith, nat_tests)))
+      | inl is_white ↦ (let b : ℕ = slice_index rest 0 in utf8_rest s rest u (grind (arith, nat_tests)))
       | inr same ↦
           let at : slice_index (s ++ rest) (length s) ≡ slice_index rest 0 = ap (slice_index (s ++ rest)) (omega arith) ∙ get_or-append-add s rest 0 0 in
           let size : length (s ++ rest) ≡ length s + length rest = length-append s rest in
           let first = (IsCharBoundary-start name ident.0).1 (identifier_some name ident).0 in
-          let cut : IsCharBoundary (s ++ rest) (length s) = (omega arith, λ _ k. omega (arith, first (omega arith))) in
-          subst IsUtf8 (drop_at s rest (length s) refl) (IsUtf8-drop (s ++ rest) (length s) u cut)
+          let char_boundary : IsCharBoundary (s ++ rest) (length s) = (omega arith, λ _ k. omega (arith, first (omega arith))) in
+          subst IsUtf8 (drop_at s rest (length s) refl) (IsUtf8-drop (s ++ rest) (length s) u char_boundary)
     ]

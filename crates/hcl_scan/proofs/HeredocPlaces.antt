@@ -9,7 +9,7 @@ use Rattle.hcl_scan.specs.Closing.{is_closing_line, heredoc_unit}
 use Rattle.hcl_scan.specs.Inner.LexemeStarts.{LexedToken, is_word_start, identifier}
 use Rattle.hcl_scan.specs.Inner.HeredocToken.{heredoc_start_length, is_at_heredoc_start}
 use Rattle.hcl_scan.specs.Inner.RunLength.{run_length}
-use Rattle.hcl_scan.proofs.TextLemmas.{first_1, first_2, utf8_past}
+use Rattle.hcl_scan.proofs.TextLemmas.{first_1, first_2, utf8_tail}
 use Rattle.hcl_scan.proofs.HeredocLemmas.{identifier_some}
 use Rattle.hcl_scan.proofs.HeredocSound.{WordSplit, Words, words}
 
@@ -76,19 +76,19 @@ identifier_fits text at kind n u within e =
     omega (arith, fits_at (drop at text) (identifier (drop at text)) (words (drop at text) u) kind n e, size)
 
 -- after `<<` or `<<-` the text is UTF-8
-pub utf8_past_intro : (text : List ℕ) (at n : ℕ) → is_at_heredoc_start (drop at text) ≡ true → n ≡ heredoc_start_length (drop at text) → IsUtf8 (drop at text) → IsUtf8 (drop (at + n) text)
-utf8_past_intro text at n h e u =
+pub utf8_after_intro : (text : List ℕ) (at n : ℕ) → is_at_heredoc_start (drop at text) ≡ true → n ≡ heredoc_start_length (drop at text) → IsUtf8 (drop at text) → IsUtf8 (drop (at + n) text)
+utf8_after_intro text at n h e u =
     let t : List ℕ = drop at text in
     let both = and_parts (slice_index t 0 == 60) (slice_index t 1 == 60) h in
-    let front : t ≡ 60 ∷ 60 ∷ drop 2 t = first_2 t 60 60 (eqb-true (slice_index t 0) 60 both.0) (eqb-true (slice_index t 1) 60 both.1) (omega arith) (omega arith) in
-    let u2 : IsUtf8 (drop 2 t) = utf8_past 60 (drop 2 t) (omega arith) (utf8_past 60 (60 ∷ drop 2 t) (omega arith) (subst IsUtf8 front u)) in
-    let behind : IsUtf8 (drop (heredoc_start_length t) t) = cond_both (slice_index t 2 == 45) 3 2 (λ k. IsUtf8 (drop k t))
+    let leading : t ≡ 60 ∷ 60 ∷ drop 2 t = first_2 t 60 60 (eqb-true (slice_index t 0) 60 both.0) (eqb-true (slice_index t 1) 60 both.1) (omega arith) (omega arith) in
+    let u2 : IsUtf8 (drop 2 t) = utf8_tail 60 (drop 2 t) (omega arith) (utf8_tail 60 (60 ∷ drop 2 t) (omega arith) (subst IsUtf8 leading u)) in
+    let following : IsUtf8 (drop (heredoc_start_length t) t) = cond_both (slice_index t 2 == 45) 3 2 (λ k. IsUtf8 (drop k t))
     (λ k.
     let third : slice_index (drop 2 t) 0 ≡ 45 = get_or-drop 2 t 0 0 ∙ eqb-true (slice_index t 2) 45 k in
     let more : drop 2 t ≡ 45 ∷ drop 3 t = first_1 (drop 2 t) 45 third (omega arith) ∙ ap (λ (x : List ℕ). 45 ∷ x) (drop-drop 1 2 t) in
-    utf8_past 45 (drop 3 t) (omega arith) (subst IsUtf8 more u2))
+    utf8_tail 45 (drop 3 t) (omega arith) (subst IsUtf8 more u2))
     (λ _. u2) in
-    subst IsUtf8 (drop-drop (heredoc_start_length t) at text ∙ ap (λ k. drop (at + k) text) (sym e)) behind
+    subst IsUtf8 (drop-drop (heredoc_start_length t) at text ∙ ap (λ k. drop (at + k) text) (sym e)) following
 
 -- ---- the text of a heredoc
 

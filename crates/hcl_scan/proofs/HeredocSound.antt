@@ -18,7 +18,7 @@ use Rattle.hcl_scan.specs.Inner.LexemeStarts.{LexedToken, identifier_of, identif
 use Rattle.hcl_scan.specs.Inner.HeredocToken.{line_end_length, open_with_marker, here_open, closing_line_length, heredoc_token}
 use Rattle.hcl_scan.proofs.Found.{IsFound, Sound}
 use Rattle.hcl_scan.proofs.Pieces.{ContinueSplit, continue_split, scalars_parts}
-use Rattle.hcl_scan.proofs.TextLemmas.{first_1, first_2, utf8_past, utf8_rest}
+use Rattle.hcl_scan.proofs.TextLemmas.{first_1, first_2, utf8_tail, utf8_rest}
 use Rattle.hcl_scan.proofs.RunLemmas.{RunSplit, run-split}
 use Rattle.hcl_scan.proofs.UnitLemmas.{heredoc_unit_fits}
 use Rattle.hcl_scan.proofs.HeredocLemmas.{CloseSplit, close_split, identifier_some, heredoc_stops, utf8_closing, ends_ascii}
@@ -42,7 +42,7 @@ module _ (mode : Mode) (literal : is_literal mode ≡ true) (t : List ℕ) (u : 
         len = refl;
         lexeme = lexeme (a ∷ 123 ∷ 126 ∷ []) (inr refl);
         some = omega arith;
-        utf8 = utf8_past 126 (drop 3 t) (omega arith) (utf8_past 123 (126 ∷ drop 3 t) (omega arith) (utf8_past a (123 ∷ 126 ∷ drop 3 t) ascii (subst IsUtf8 whole u)));
+        utf8 = utf8_tail 126 (drop 3 t) (omega arith) (utf8_tail 123 (126 ∷ drop 3 t) (omega arith) (utf8_tail a (123 ∷ 126 ∷ drop 3 t) ascii (subst IsUtf8 whole u)));
       })
       (λ _. record {
         spelling = a ∷ 123 ∷ [];
@@ -51,7 +51,7 @@ module _ (mode : Mode) (literal : is_literal mode ≡ true) (t : List ℕ) (u : 
         len = refl;
         lexeme = lexeme (a ∷ 123 ∷ []) (inl refl);
         some = omega arith;
-        utf8 = utf8_past 123 (drop 2 t) (omega arith) (utf8_past a (123 ∷ drop 2 t) ascii (subst IsUtf8 e u));
+        utf8 = utf8_tail 123 (drop 2 t) (omega arith) (utf8_tail a (123 ∷ drop 2 t) ascii (subst IsUtf8 e u));
       })
 
   pub opening_sound : is_at_opening t ≡ true → IsFound mode t (opening t).0 (opening t).1
@@ -126,7 +126,7 @@ line_end_split t =
       text_is = e;
       len = refl;
       is = inl refl;
-      utf8 = λ u. utf8_past 10 (drop 1 t) (omega arith) (subst IsUtf8 e u);
+      utf8 = λ u. utf8_tail 10 (drop 1 t) (omega arith) (subst IsUtf8 e u);
     })
     (λ h. cond_both (slice_index t 0 == 13 && slice_index t 1 == 10) 2 0 (λ n. (n == 0) ≡ false → LineEndSplit t n)
     (λ k _. let both = and_parts (slice_index t 0 == 13) (slice_index t 1 == 10) k in
@@ -137,7 +137,7 @@ line_end_split t =
       text_is = e;
       len = refl;
       is = inr refl;
-      utf8 = λ u. utf8_past 10 (drop 2 t) (omega arith) (utf8_past 13 (10 ∷ drop 2 t) (omega arith) (subst IsUtf8 e u));
+      utf8 = λ u. utf8_tail 10 (drop 2 t) (omega arith) (utf8_tail 13 (10 ∷ drop 2 t) (omega arith) (subst IsUtf8 e u));
     })
     (λ _ z. absurd (cc)))
 
@@ -184,14 +184,14 @@ module _ (mode : Mode) (plain : is_literal mode ≡ false) (t : List ℕ) (u : I
   named_sound dash more None is e words = tt
   named_sound dash more (Some f) is e words =
       let w : WordSplit more f.1 = words.0 in
-      let behind : drop f.1 more ≡ w.rest = ap₂ drop (sym w.len) w.text_is ∙ drop_at w.name w.rest (length w.name) refl in
+      let following : drop f.1 more ≡ w.rest = ap₂ drop (sym w.len) w.text_is ∙ drop_at w.name w.rest (length w.name) refl in
       let before : ℕ = 2 + length dash + f.1 in
       cond_both (line_end_length (drop f.1 more) == 0) None _ (λ g. Sound mode t g)
       (λ _. tt)
       (λ h.
       let l : LineEndSplit (drop f.1 more) (line_end_length (drop f.1 more)) = line_end_split (drop f.1 more) h in
       let s : List ℕ = codes "<<" ++ (dash ++ (w.name ++ l.end)) in
-      let inner : more ≡ (w.name ++ l.end) ++ l.rest = w.text_is ∙ ap (λ (x : List ℕ). w.name ++ x) (sym behind ∙ l.text_is) ∙ sym (append_assoc w.name l.end l.rest) in
+      let inner : more ≡ (w.name ++ l.end) ++ l.rest = w.text_is ∙ ap (λ (x : List ℕ). w.name ++ x) (sym following ∙ l.text_is) ∙ sym (append_assoc w.name l.end l.rest) in
       record {
         spelling = s;
         rest = l.rest;
@@ -199,7 +199,7 @@ module _ (mode : Mode) (plain : is_literal mode ≡ false) (t : List ℕ) (u : I
         len = omega (arith, length-append dash (w.name ++ l.end), length-append w.name l.end, w.len, l.len);
         lexeme = (ap not plain, (dash, w.name, l.end, refl, is, w.is, l.is));
         some = omega arith;
-        utf8 = l.utf8 (subst IsUtf8 (sym behind) w.utf8);
+        utf8 = l.utf8 (subst IsUtf8 (sym following) w.utf8);
       })
 
   pub here_open_sound : Sound mode t (here_open t)
@@ -208,12 +208,12 @@ module _ (mode : Mode) (plain : is_literal mode ≡ false) (t : List ℕ) (u : I
       (λ h.
       let both = and_parts (slice_index t 0 == 60) (slice_index t 1 == 60) h in
       let e : t ≡ 60 ∷ 60 ∷ drop 2 t = first_2 t 60 60 (eqb-true (slice_index t 0) 60 both.0) (eqb-true (slice_index t 1) 60 both.1) (omega arith) (omega arith) in
-      let u2 : IsUtf8 (drop 2 t) = utf8_past 60 (drop 2 t) (omega arith) (utf8_past 60 (60 ∷ drop 2 t) (omega arith) (subst IsUtf8 e u)) in
+      let u2 : IsUtf8 (drop 2 t) = utf8_tail 60 (drop 2 t) (omega arith) (utf8_tail 60 (60 ∷ drop 2 t) (omega arith) (subst IsUtf8 e u)) in
       cond_both (slice_index t 2 == 45) 3 2 (λ n. Sound mode t (open_with_marker n (drop n t) (identifier (drop n t))))
       (λ k.
       let third : slice_index (drop 2 t) 0 ≡ 45 = get_or-drop 2 t 0 0 ∙ eqb-true (slice_index t 2) 45 k in
       let more : drop 2 t ≡ 45 ∷ drop 3 t = first_1 (drop 2 t) 45 third (omega arith) ∙ ap (λ (x : List ℕ). 45 ∷ x) (drop-drop 1 2 t) in
-      let u3 : IsUtf8 (drop 3 t) = utf8_past 45 (drop 3 t) (omega arith) (subst IsUtf8 more u2) in
+      let u3 : IsUtf8 (drop 3 t) = utf8_tail 45 (drop 3 t) (omega arith) (subst IsUtf8 more u2) in
       named_sound (45 ∷ []) (drop 3 t) (identifier (drop 3 t)) (inr refl) (e ∙ ap (λ (x : List ℕ). 60 ∷ 60 ∷ x) more) (words (drop 3 t) u3))
       (λ _. named_sound [] (drop 2 t) (identifier (drop 2 t)) (inl refl) e (words (drop 2 t) u2)))
       (λ _. tt)

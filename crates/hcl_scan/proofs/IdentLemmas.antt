@@ -60,24 +60,24 @@ id_continue_at text at u h on =
     rw (continues_same (slice_index text at) ascii, on) at (id_continue_length_ascii text at u h ascii)
 
 -- the run goes on by n bytes
-abbrev pub GoesOn : List ℕ → ℕ → ℕ → Type 0
-GoesOn text at n =
+abbrev pub RunContinues : List ℕ → ℕ → ℕ → Type 0
+RunContinues text at n =
     (n + id_continue_length (chars (drop (at + n) text)) ≡ id_continue_length (chars (drop at text))) × IsUtf8 (drop (at + n) text)
 
-id_continue_more : (text : List ℕ) (at n m : ℕ) → m ≡ n + 1 → at + n < length text → is_ascii_id_continue (slice_index text (at + n)) ≡ true → GoesOn text at n → GoesOn text at m
+id_continue_more : (text : List ℕ) (at n m : ℕ) → m ≡ n + 1 → at + n < length text → is_ascii_id_continue (slice_index text (at + n)) ≡ true → RunContinues text at n → RunContinues text at m
 id_continue_more text at n m next h on so_far =
     let step = id_continue_at text (at + n) so_far.1 h on in
     let place : at + n + 1 ≡ at + m = omega arith in
     let rest = ap (λ k. id_continue_length (chars (drop k text))) place in
     (omega (arith, so_far.0, step.0, rest), subst (λ k. IsUtf8 (drop k text)) place step.1)
 
-pub goes_on : (text : List ℕ) (at n : ℕ) → IsUtf8 (drop at text) → at + n ≤ length text → ((k : ℕ) → at ≤ k → k < at + n → is_ascii_id_continue (slice_index text k) ≡ true) → GoesOn text at n
-goes_on text at zero u h on =
+pub run_continues : (text : List ℕ) (at n : ℕ) → IsUtf8 (drop at text) → at + n ≤ length text → ((k : ℕ) → at ≤ k → k < at + n → is_ascii_id_continue (slice_index text k) ≡ true) → RunContinues text at n
+run_continues text at zero u h on =
     let place : at ≡ at + 0 = omega arith in
     let same = ap (λ k. id_continue_length (chars (drop k text))) (sym place) in
     (omega (arith, same), subst (λ k. IsUtf8 (drop k text)) place u)
-goes_on text at (suc n) u h on =
-    id_continue_more text at n (suc n) (omega arith) (omega arith) (on (at + n) (omega arith) (omega arith)) (goes_on text at n u (omega arith) (λ k from to. on k from (omega arith)))
+run_continues text at (suc n) u h on =
+    id_continue_more text at n (suc n) (omega arith) (omega arith) (on (at + n) (omega arith) (omega arith)) (run_continues text at n u (omega arith) (λ k from to. on k from (omega arith)))
 
 -- the run ends
 pub continue_none : (text : List ℕ) (at : ℕ) → IsUtf8 (drop at text) → slice_index text at < 128 → is_ascii_id_continue (slice_index text at) ≡ false

@@ -62,7 +62,7 @@ whitespace_found b h = elim (or_cases (b == 32) (b == 9) h) [ inl e ↦ inl (eqb
 
 pub token_no_whitespace : (mode : Mode) (t : List ℕ) (f : Kind × ℕ) → is_literal mode ≡ false → token mode t ≡ Some f → is_whitespace (slice_index t 0) ≡ false
 token_no_whitespace mode t f plain is =
-    false_from_ne_true _ (λ blank. let none = whitespace_none mode t (slice_index t 0) plain refl (whitespace_found (slice_index t 0) blank) in absurd (cc))
+    false_from_ne_true _ (λ is_white. let none = whitespace_none mode t (slice_index t 0) plain refl (whitespace_found (slice_index t 0) is_white) in absurd (cc))
 
 -- a gap is as long as the blanks before a text that begins with none
 pub gap_is : (mode : Mode) (gap rest : List ℕ) → IsGap mode gap → (is_literal mode ≡ false → is_whitespace (slice_index rest 0) ≡ false) → length gap ≡ gap_length mode (gap ++ rest)

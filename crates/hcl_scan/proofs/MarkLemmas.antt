@@ -17,14 +17,14 @@ use Rattle.hcl_scan.proofs.HeredocLemmas.{marker_at}
 abbrev mark : Pair
 mark = record { gap = []; kind = Mark; spelling = byte_order_mark }
 
-behind : (b : Bool) (text : List ℕ) (body : List Pair) (rest : List ℕ)
+following : (b : Bool) (text : List ℕ) (body : List Pair) (rest : List ℕ)
     → text ≡ whole_text ((if b then record { gap = []; kind = Mark; spelling = byte_order_mark } ∷ [] else []) ++ body) rest → whole_text body rest ≡ drop (if b then 3 else 0) text
-behind true text body rest e = sym (ap (drop 3) e)
-behind false text body rest e = sym e
+following true text body rest e = sym (ap (drop 3) e)
+following false text body rest e = sym e
 
 -- after the mark come the other pairs
 pub after_mark_prefix : (text : List ℕ) (pairs : List Pair) (rest : List ℕ) (left : List Mode) (c : TokenizesPrefix text pairs rest left) → whole_text c.body rest ≡ drop (mark_length text) text
-after_mark_prefix text pairs rest left c = behind (is_prefix_of byte_order_mark text) text c.body rest (c.text_is ∙ ap (λ (x : List Pair). whole_text x rest) c.prefix)
+after_mark_prefix text pairs rest left c = following (is_prefix_of byte_order_mark text) text c.body rest (c.text_is ∙ ap (λ (x : List Pair). whole_text x rest) c.prefix)
 
 pub mark_prefix_bytes : (text : List ℕ) → (is_prefix_of byte_order_mark text ≡ true) → text ≡ 239 ∷ 187 ∷ 191 ∷ drop 3 text
 mark_prefix_bytes text h = marker_at byte_order_mark text h
@@ -50,25 +50,25 @@ started text u =
           let spelling : slice_range text 0 3 ≡ byte_order_mark = ap (λ (x : List ℕ). slice_range x 0 3) whole in
           let pairs : pairs_of text tokens ≡ mark ∷ [] = ap (λ (x : List ℕ). record { gap = []; kind = Mark; spelling = x } ∷ []) spelling in
           let utf8 : IsUtf8 (drop 3 text) = rw h at (mark_prefix_utf8 text u) in
-          let front : mark_prefix text ≡ mark ∷ [] = rw h refl in
+          let leading : mark_prefix text ≡ mark ∷ [] = rw h refl in
           rw h (record {
             within = omega (arith, ap length whole);
             utf8 = utf8;
             tokenizes = record {
               text_is = whole ∙ ap (λ (x : List Pair). whole_text x (drop 3 text)) (sym pairs);
               body = [];
-              prefix = pairs ∙ sym (ap (λ (x : List Pair). x ++ []) front);
+              prefix = pairs ∙ sym (ap (λ (x : List Pair). x ++ []) leading);
               tokenizes = refl;
             };
             places = ap (opening_places_after_pairs 0 [] []) (sym pairs);
             order = (omega arith, omega arith, refl);
           })
       | false ↦ λ h.
-          let front : mark_prefix text ≡ [] = rw h refl in
+          let leading : mark_prefix text ≡ [] = rw h refl in
           rw h (record {
             within = omega arith;
             utf8 = u;
-            tokenizes = record { text_is = refl; body = []; prefix = sym (ap (λ (x : List Pair). x ++ []) front); tokenizes = refl };
+            tokenizes = record { text_is = refl; body = []; prefix = sym (ap (λ (x : List Pair). x ++ []) leading); tokenizes = refl };
             places = refl;
             order = refl;
           })

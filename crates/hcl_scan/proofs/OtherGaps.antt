@@ -86,11 +86,11 @@ FirstOf mode [] last = (list_all is_whitespace last ≡ true) × (is_literal mod
 FirstOf mode (p ∷ ps) last = IsGap mode p.gap × IsLexeme mode p.kind p.spelling (following_text ps last)
 
 first_of_list : (modes : List Mode) (ps : List Pair) (last : List ℕ) → list_all is_whitespace last ≡ true → FollowsFrom modes ps last [] → FirstOf (mode_of modes) ps last
-first_of_list modes [] last blank f = (blank, rw f refl)
-first_of_list modes (p ∷ ps) last blank f = (f.0, f.2)
+first_of_list modes [] last is_white f = (is_white, rw f refl)
+first_of_list modes (p ∷ ps) last is_white f = (f.0, f.2)
 
 no_line : (b : ℕ) (t : List ℕ) → is_whitespace b ≡ true → is_at_line_end_or_eof (b ∷ t) ≡ true → ⊥
-no_line b t blank h = both_ways _ (whitespace_no_line b blank) (line_byte b t h)
+no_line b t is_white h = both_ways _ (whitespace_no_line b is_white) (line_byte b t h)
 
 -- after a closing line there is no gap
 close_none : (mode : Mode) (ps : List Pair) (last : List ℕ) → FirstOf mode ps last → is_at_line_end_or_eof (following_text ps last) ≡ true → NoGap ps last
@@ -162,21 +162,21 @@ slash_after mode plain s must_be_empty (q ∷ qs) (p ∷ ps) other last same fir
 
 respelt : (modes : List Mode) (kind : Kind) (s : List ℕ) (qs ps : List Pair) (other last : List ℕ) → is_allowed_in (mode_of modes) kind ≡ true → AllowsNext kind ps last → FirstOf (mode_of (modes_after kind s modes)) ps last
     → NextSame qs ps → AreAllowedGaps (has_no_gap_after kind) qs other → IsApart kind s qs → Spells (mode_of modes) kind s (following_text ps last) → Spells (mode_of modes) kind s (following_text qs other)
-respelt modes LineComment s qs ps other last st behind first same gaps apart h =
-    subst (Spells (mode_of modes) LineComment s) (same_following_text qs ps other last same (shut_none qs other gaps) (line_none ps last behind)) h
-respelt modes InlineComment s qs ps other last st behind first same gaps apart (body, e, run) = (body, e, inline_same (following_text ps last) (following_text qs other) body run)
-respelt modes Slash s qs ps other last st behind first same gaps apart (e, h) =
+respelt modes LineComment s qs ps other last st following first same gaps apart h =
+    subst (Spells (mode_of modes) LineComment s) (same_following_text qs ps other last same (shut_none qs other gaps) (line_none ps last following)) h
+respelt modes InlineComment s qs ps other last st following first same gaps apart (body, e, run) = (body, e, inline_same (following_text ps last) (following_text qs other) body run)
+respelt modes Slash s qs ps other last st following first same gaps apart (e, h) =
     (e, not-true _ (slash_after (mode_of modes) (not-true (is_literal (mode_of modes)) st) s false qs ps other last same first gaps apart))
-respelt (Quoted ∷ ms) QuoteLit s qs ps other last st behind first same gaps apart h =
+respelt (Quoted ∷ ms) QuoteLit s qs ps other last st following first same gaps apart h =
     subst (Spells Quoted QuoteLit s) (same_following_text qs ps other last same (literal_shut Quoted refl false qs ps other last same first gaps) (literal_none Quoted refl ps last first)) h
-respelt modes QuoteLit s qs ps other last st behind first same gaps apart h = absurd (false≢true st)
-respelt (Heredoc name at_line_start ∷ ms) HereLit s qs ps other last st behind first same gaps apart h =
+respelt modes QuoteLit s qs ps other last st following first same gaps apart h = absurd (false≢true st)
+respelt (Heredoc name at_line_start ∷ ms) HereLit s qs ps other last st following first same gaps apart h =
     let mode : Mode = mode_of (modes_after HereLit s (Heredoc name at_line_start ∷ ms)) in
     subst (Spells (Heredoc name at_line_start) HereLit s) (same_following_text qs ps other last same (literal_shut mode refl false qs ps other last same first gaps) (literal_none mode refl ps last first)) h
-respelt modes HereLit s qs ps other last st behind first same gaps apart h = absurd (false≢true st)
-respelt modes HereClose s qs ps other last st behind first same gaps apart h =
+respelt modes HereLit s qs ps other last st following first same gaps apart h = absurd (false≢true st)
+respelt modes HereClose s qs ps other last st following first same gaps apart h =
     subst (Spells (mode_of modes) HereClose s) (same_following_text qs ps other last same (shut_none qs other gaps) (close_none (mode_of (modes_after HereClose s modes)) ps last first h.5)) h
-respelt modes kind s qs ps other last st behind first same gaps apart h = h
+respelt modes kind s qs ps other last st following first same gaps apart h = h
 
 line_start_after_same : (qs ps : List Pair) (other last : List ℕ) → NextSame qs ps → AreAllowedGaps true qs other → LineEndsHere ps last → LineEndsHere qs other
 line_start_after_same [] ps other last same gaps h = gaps.1 refl
@@ -202,21 +202,21 @@ Step modes gap kind s qs other =
     IsGap (mode_of modes) gap × IsUtf8 s × IsLexeme (mode_of modes) kind s (following_text qs other) × AllowsNext kind qs other × FollowsFrom (modes_after kind s modes) qs other []
 
 regap : (ps qs : List Pair) (modes : List Mode) (last other : List ℕ) (must_be_empty : Bool) → tokens_of qs ≡ tokens_of ps → list_all is_whitespace last ≡ true → FollowsFrom modes ps last [] → AreAllowedGaps must_be_empty qs other → AreApart qs → FollowsFrom modes qs other []
-regap [] [] modes last other must_be_empty e blank f gaps apart = f
-regap [] (q ∷ qs) modes last other must_be_empty e blank f gaps apart = absurd (cc)
-regap (p ∷ ps) [] modes last other must_be_empty e blank f gaps apart = absurd (cc)
-regap (p ∷ ps) (q ∷ qs) modes last other must_be_empty e blank f gaps apart =
+regap [] [] modes last other must_be_empty e is_white f gaps apart = f
+regap [] (q ∷ qs) modes last other must_be_empty e is_white f gaps apart = absurd (cc)
+regap (p ∷ ps) [] modes last other must_be_empty e is_white f gaps apart = absurd (cc)
+regap (p ∷ ps) (q ∷ qs) modes last other must_be_empty e is_white f gaps apart =
     let same = same_head q p qs ps e in
     let mode : Mode = mode_of modes in
-    let behind : List Mode = modes_after p.kind p.spelling modes in
-    let first : FirstOf (mode_of behind) ps last = first_of_list behind ps last blank f.4 in
+    let following : List Mode = modes_after p.kind p.spelling modes in
+    let first : FirstOf (mode_of following) ps last = first_of_list following ps last is_white f.4 in
     let next : NextSame qs ps = next_same qs ps same.tails in
     let more : AreAllowedGaps (has_no_gap_after p.kind) qs other = subst (λ k. AreAllowedGaps (has_no_gap_after k) qs other) same.kinds gaps.2 in
     let parted : IsApart p.kind p.spelling qs = subst (λ k. IsApart k p.spelling qs) same.kinds (subst (λ (x : List ℕ). IsApart q.kind x qs) same.spellings apart.0) in
     let gap : IsGap mode q.gap = (gaps.0, λ literal. gaps.1 (or_right must_be_empty (has_no_gap_before q.kind) (ap has_no_gap_before same.kinds ∙ literal_no_gap mode p.kind f.2.0 literal))) in
     let lexeme : IsLexeme mode p.kind p.spelling (following_text qs other) = (f.2.0, respelt modes p.kind p.spelling qs ps other last f.2.0 f.3 first next more parted f.2.1) in
     let step : Step modes q.gap p.kind p.spelling qs other =
-    (gap, f.1, lexeme, allows_next_same p.kind qs ps other last next more f.3, regap ps qs behind last other (has_no_gap_after p.kind) same.tails blank f.4 more apart.1) in
+    (gap, f.1, lexeme, allows_next_same p.kind qs ps other last next more f.3, regap ps qs following last other (has_no_gap_after p.kind) same.tails is_white f.4 more apart.1) in
     subst (λ k. Step modes q.gap k q.spelling qs other) (sym same.kinds) (subst (λ (x : List ℕ). Step modes q.gap p.kind x qs other) (sym same.spellings) step)
 
 last_whitespace : (must_be_empty : Bool) (qs : List Pair) (other : List ℕ) → AreAllowedGaps must_be_empty qs other → list_all is_whitespace other ≡ true
@@ -224,17 +224,17 @@ last_whitespace must_be_empty [] other gaps = gaps.0
 last_whitespace must_be_empty (q ∷ qs) other gaps = last_whitespace (has_no_gap_after q.kind) qs other gaps.2
 
 pub other_gaps : (pairs others : List Pair) (last other : List ℕ) → Follows pairs last [] → tokens_of others ≡ tokens_of pairs → AreAllowedGaps false others other → AreApart others → Follows others other []
-other_gaps pairs others last other f e gaps apart = at_front others f.prefix e gaps apart
+other_gaps pairs others last other f e gaps apart = at_text_start others f.prefix e gaps apart
   where
-    at_front : (qs : List Pair) → (pairs ≡ f.body) ⊎ (pairs ≡ mark ∷ f.body) → tokens_of qs ≡ tokens_of pairs → AreAllowedGaps false qs other → AreApart qs → Follows qs other []
-    at_front qs (inl k) same g a = record {
+    at_text_start : (qs : List Pair) → (pairs ≡ f.body) ⊎ (pairs ≡ mark ∷ f.body) → tokens_of qs ≡ tokens_of pairs → AreAllowedGaps false qs other → AreApart qs → Follows qs other []
+    at_text_start qs (inl k) same g a = record {
       body = qs;
       prefix = inl refl;
       follows = regap f.body qs [] last other false (same ∙ ap tokens_of k) f.whitespace f.follows g a;
       whitespace = last_whitespace false qs other g;
     }
-    at_front [] (inr k) same g a = let none : tokens_of [] ≡ tokens_of (mark ∷ f.body) = same ∙ ap tokens_of k in absurd (cc)
-    at_front (q ∷ qs) (inr k) same g a =
+    at_text_start [] (inr k) same g a = let none : tokens_of [] ≡ tokens_of (mark ∷ f.body) = same ∙ ap tokens_of k in absurd (cc)
+    at_text_start (q ∷ qs) (inr k) same g a =
         let head = same_head q mark qs f.body (same ∙ ap tokens_of k) in
         record {
           body = qs;
@@ -265,26 +265,26 @@ no_gap_literal mode kind st h = absurd (false≢true h)
 
 -- after a token that allows no gap after it there is none
 shuts_none : (modes : List Mode) (kind : Kind) (s : List ℕ) (ps : List Pair) (last : List ℕ) → Spells (mode_of modes) kind s (following_text ps last) → AllowsNext kind ps last → FirstOf (mode_of (modes_after kind s modes)) ps last → has_no_gap_after kind ≡ true → NoGap ps last
-shuts_none modes LineComment s ps last spells behind first h = line_none ps last behind
-shuts_none modes HereClose s ps last spells behind first h = close_none (mode_of (modes_after HereClose s modes)) ps last first spells.5
-shuts_none modes kind s ps last spells behind first h = absurd (false≢true h)
+shuts_none modes LineComment s ps last spells following first h = line_none ps last following
+shuts_none modes HereClose s ps last spells following first h = close_none (mode_of (modes_after HereClose s modes)) ps last first spells.5
+shuts_none modes kind s ps last spells following first h = absurd (false≢true h)
 
 gaps_from : (ps : List Pair) (modes : List Mode) (last : List ℕ) (must_be_empty : Bool) → list_all is_whitespace last ≡ true → FollowsFrom modes ps last [] → (must_be_empty ≡ true → NoGap ps last) → AreAllowedGaps must_be_empty ps last
-gaps_from [] modes last must_be_empty blank f none = (blank, none)
-gaps_from (p ∷ ps) modes last must_be_empty blank f none =
-    let behind : List Mode = modes_after p.kind p.spelling modes in
-    let first : FirstOf (mode_of behind) ps last = first_of_list behind ps last blank f.4 in (
+gaps_from [] modes last must_be_empty is_white f none = (is_white, none)
+gaps_from (p ∷ ps) modes last must_be_empty is_white f none =
+    let following : List Mode = modes_after p.kind p.spelling modes in
+    let first : FirstOf (mode_of following) ps last = first_of_list following ps last is_white f.4 in (
       f.0.0,
       λ h. elim (or_cases must_be_empty (has_no_gap_before p.kind) h) [
         | inl k ↦ none k
         | inr k ↦ f.0.1 (no_gap_literal (mode_of modes) p.kind f.2.0 k)
       ],
-      gaps_from ps behind last (has_no_gap_after p.kind) blank f.4 (shuts_none modes p.kind p.spelling ps last f.2.1 f.3 first),
+      gaps_from ps following last (has_no_gap_after p.kind) is_white f.4 (shuts_none modes p.kind p.spelling ps last f.2.1 f.3 first),
     )
 
 pub gaps_of : (pairs : List Pair) (last : List ℕ) → Follows pairs last [] → AreAllowedGaps false pairs last
-gaps_of pairs last f = at_front f.prefix
+gaps_of pairs last f = at_text_start f.prefix
   where
-    at_front : (pairs ≡ f.body) ⊎ (pairs ≡ mark ∷ f.body) → AreAllowedGaps false pairs last
-    at_front (inl e) = subst (λ (x : List Pair). AreAllowedGaps false x last) (sym e) (gaps_from f.body [] last false f.whitespace f.follows (λ h. absurd (false≢true h)))
-    at_front (inr e) = subst (λ (x : List Pair). AreAllowedGaps false x last) (sym e) (refl, λ _. refl, gaps_from f.body [] last false f.whitespace f.follows (λ h. absurd (false≢true h)))
+    at_text_start : (pairs ≡ f.body) ⊎ (pairs ≡ mark ∷ f.body) → AreAllowedGaps false pairs last
+    at_text_start (inl e) = subst (λ (x : List Pair). AreAllowedGaps false x last) (sym e) (gaps_from f.body [] last false f.whitespace f.follows (λ h. absurd (false≢true h)))
+    at_text_start (inr e) = subst (λ (x : List Pair). AreAllowedGaps false x last) (sym e) (refl, λ _. refl, gaps_from f.body [] last false f.whitespace f.follows (λ h. absurd (false≢true h)))

@@ -11,7 +11,7 @@ use Rattle.std.specs.Str.{all_scalars}
 use Rattle.hcl_scan.specs.Characters.{is_id_continue}
 use Rattle.hcl_scan.specs.Lexeme.{is_decimal, IsFraction, IsSign, IsExponent}
 use Rattle.hcl_scan.specs.Inner.NextToken.{id_continue_length, decimal_length, fraction_length, is_sign, is_exponent_letter, exponent_length}
-use Rattle.hcl_scan.proofs.TextLemmas.{first_1, utf8_past}
+use Rattle.hcl_scan.proofs.TextLemmas.{first_1, utf8_tail}
 
 -- ---- digits
 
@@ -30,15 +30,15 @@ pub record Split (Is : List ℕ → Type 0) (n : ℕ) (t : List ℕ) : Type 0 wh
   pub text_is : t ≡ prefix ++ rest
   pub len : length prefix ≡ n
   pub is : Is prefix
-  pub behind : rest ≡ drop n t
+  pub following : rest ≡ drop n t
   pub utf8 : IsUtf8 t → IsUtf8 rest
 
-pub utf8_past_digits : (s rest : List ℕ) → list_all is_ascii_digit s ≡ true → IsUtf8 (s ++ rest) → IsUtf8 rest
-utf8_past_digits [] rest all u = u
-utf8_past_digits (d ∷ ds) rest all u =
+pub utf8_after_digits : (s rest : List ℕ) → list_all is_ascii_digit s ≡ true → IsUtf8 (s ++ rest) → IsUtf8 rest
+utf8_after_digits [] rest all u = u
+utf8_after_digits (d ∷ ds) rest all u =
     let both = and_parts (is_ascii_digit d) (list_all is_ascii_digit ds) all in
     let ascii : d < 128 = grind (arith, nat_tests) in
-    utf8_past_digits ds rest both.1 (utf8_past d (ds ++ rest) ascii u)
+    utf8_after_digits ds rest both.1 (utf8_tail d (ds ++ rest) ascii u)
 
 pub decimal_from : (s : List ℕ) → 0 < length s → list_all is_ascii_digit s ≡ true → IsTrue (is_decimal s)
 decimal_from [] some all = absurd (omega arith)
@@ -61,8 +61,8 @@ decimal_split t digit =
       text_is = whole;
       len = size;
       is = decimal_from (take n t) (omega (arith, size, some)) all;
-      behind = refl;
-      utf8 = λ u. utf8_past_digits (take n t) (drop n t) all (subst IsUtf8 whole u);
+      following = refl;
+      utf8 = λ u. utf8_after_digits (take n t) (drop n t) all (subst IsUtf8 whole u);
     }
 
 -- ---- characters of a word
@@ -102,7 +102,7 @@ scalars_parts (x ∷ xs) ys h =
 
 -- a piece of no bytes
 none_split : (Is : List ℕ → Type 0) (t : List ℕ) → Is [] → Split Is 0 t
-none_split Is t is = record { prefix = []; rest = t; text_is = refl; len = refl; is = is; behind = refl; utf8 = λ u. u }
+none_split Is t is = record { prefix = []; rest = t; text_is = refl; len = refl; is = is; following = refl; utf8 = λ u. u }
 
 -- one ASCII byte more before a piece
 after_1 : (Is More : List ℕ → Type 0) (t : List ℕ) (x n : ℕ) → t ≡ x ∷ drop 1 t → x < 128 → Split Is n (drop 1 t) → ((s : List ℕ) → Is s → More (x ∷ s)) → Split More (1 + n) t
@@ -112,8 +112,8 @@ after_1 Is More t x n e h s more = record {
   text_is = e ∙ ap (λ (y : List ℕ). x ∷ y) s.text_is;
   len = omega (arith, s.len);
   is = more s.prefix s.is;
-  behind = s.behind ∙ drop-drop n 1 t ∙ ap (λ k. drop k t) (omega arith);
-  utf8 = λ u. s.utf8 (utf8_past x (drop 1 t) h (subst IsUtf8 e u));
+  following = s.following ∙ drop-drop n 1 t ∙ ap (λ k. drop k t) (omega arith);
+  utf8 = λ u. s.utf8 (utf8_tail x (drop 1 t) h (subst IsUtf8 e u));
 }
 
 at_drop : (t : List ℕ) → slice_index (drop 1 t) 0 ≡ slice_index t 1

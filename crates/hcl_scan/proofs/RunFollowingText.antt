@@ -219,9 +219,9 @@ closing_own name w z none h =
     let marker : is_prefix_of name (skip (w ++ z)) ≡ is_prefix_of name (skip w) = ap (is_prefix_of name) first.0 ∙ at.0 in
     elim (is_prefix_of name (skip w)) as (λ x. is_prefix_of name (skip w) ≡ x → is_closing_line name (w ++ z) ≡ is_closing_line name w) [
       | true ↦ λ e.
-          let behind = at.1 e in
-          let whole : after_marker name (w ++ z) ≡ after_marker name w ++ z = ap (drop (length name)) first.0 ∙ behind.0 in
-          let last = skip_own (after_marker name w) z behind.1 in
+          let following = at.1 e in
+          let whole : after_marker name (w ++ z) ≡ after_marker name w ++ z = ap (drop (length name)) first.0 ∙ following.0 in
+          let last = skip_own (after_marker name w) z following.1 in
           ap₂ (λ x y. x && y) marker (ap is_at_line_end_or_eof (ap skip whole ∙ last.0) ∙ ends_own (skip (after_marker name w)) z last.1)
       | false ↦ λ e. rw (marker, e) refl
     ] refl

@@ -97,9 +97,9 @@ module _ (unit : UnitLength) where
         let within : suc n ≤ length t = omega (arith, fits at_line_start t) in
         let u : List ℕ = take (suc n) t in
         let more : List ℕ = drop (suc n) t in
-        let behind : Bool = is_line_start_after at_line_start u in
+        let following : Bool = is_line_start_after at_line_start u in
         let shorter : length more ≤ fuel = simp length-drop (omega arith) in
-        let s : RunSplit behind more = rec behind more shorter in
+        let s : RunSplit following more = rec following more shorter in
         let size : length u ≡ suc n = length-take-le (suc n) t within in
         let whole : u ++ (concat s.run.0 ++ s.rest) ≡ t =
         ap (λ (x : List ℕ). u ++ (x ++ s.rest)) (sym s.run.1) ∙ ap (λ (x : List ℕ). u ++ x) (sym s.text_is) ∙ take-append-drop (suc n) t in

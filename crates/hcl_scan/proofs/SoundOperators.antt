@@ -7,7 +7,7 @@ use Rattle.hcl_scan.specs.Modes.{Mode, is_literal}
 use Rattle.hcl_scan.specs.Lexeme.{IsLexeme}
 use Rattle.hcl_scan.specs.Inner.NextToken.{LexedToken, single, compound, is_compound, operator}
 use Rattle.hcl_scan.proofs.Found.{IsFound, Sound}
-use Rattle.hcl_scan.proofs.TextLemmas.{first_1, first_2, first_3, utf8_past}
+use Rattle.hcl_scan.proofs.TextLemmas.{first_1, first_2, first_3, utf8_tail}
 
 -- a spelling of one, two or three ASCII bytes
 module _ (mode : Mode) (t : List ℕ) (u : IsUtf8 t) where
@@ -19,7 +19,7 @@ module _ (mode : Mode) (t : List ℕ) (u : IsUtf8 t) where
     len = refl;
     lexeme = lexeme;
     some = omega arith;
-    utf8 = utf8_past x (drop 1 t) h (subst IsUtf8 e u);
+    utf8 = utf8_tail x (drop 1 t) h (subst IsUtf8 e u);
   }
 
   pub fixed_2 : (kind : Kind) (x y : ℕ) → t ≡ x ∷ y ∷ drop 2 t → x < 128 → y < 128 → IsLexeme mode kind (x ∷ y ∷ []) (drop 2 t) → IsFound mode t kind 2
@@ -30,7 +30,7 @@ module _ (mode : Mode) (t : List ℕ) (u : IsUtf8 t) where
     len = refl;
     lexeme = lexeme;
     some = omega arith;
-    utf8 = utf8_past y (drop 2 t) k (utf8_past x (y ∷ drop 2 t) h (subst IsUtf8 e u));
+    utf8 = utf8_tail y (drop 2 t) k (utf8_tail x (y ∷ drop 2 t) h (subst IsUtf8 e u));
   }
 
   pub fixed_3 : (kind : Kind) (x y z : ℕ) → t ≡ x ∷ y ∷ z ∷ drop 3 t → x < 128 → y < 128 → z < 128 → IsLexeme mode kind (x ∷ y ∷ z ∷ []) (drop 3 t) → IsFound mode t kind 3
@@ -41,7 +41,7 @@ module _ (mode : Mode) (t : List ℕ) (u : IsUtf8 t) where
     len = refl;
     lexeme = lexeme;
     some = omega arith;
-    utf8 = utf8_past z (drop 3 t) l (utf8_past y (z ∷ drop 3 t) k (utf8_past x (y ∷ z ∷ drop 3 t) h (subst IsUtf8 e u)));
+    utf8 = utf8_tail z (drop 3 t) l (utf8_tail y (z ∷ drop 3 t) k (utf8_tail x (y ∷ z ∷ drop 3 t) h (subst IsUtf8 e u)));
   }
 
   pub at_1 : (x : ℕ) → (slice_index t 0 == x) ≡ true → 0 < x → t ≡ x ∷ drop 1 t

@@ -15,7 +15,7 @@ use Rattle.hcl_scan.specs.Inner.NextToken.{identifier_of, identifier, decimal_le
 use Rattle.hcl_scan.proofs.Found.{IsFound, Sound}
 use Rattle.hcl_scan.proofs.Pieces.{Split, decimal_split, fraction_split, exponent_split, decimal_some, ContinueSplit, continue_split, scalars_parts}
 use Rattle.hcl_scan.proofs.RunLemmas.{RunSplit, run-split}
-use Rattle.hcl_scan.proofs.TextLemmas.{first_2, utf8_past, utf8_rest}
+use Rattle.hcl_scan.proofs.TextLemmas.{first_2, utf8_tail, utf8_rest}
 use Rattle.hcl_scan.proofs.UnitLemmas.{byte_unit_fits, comment_stops, inline_stops}
 
 module _ (mode : Mode) (t : List ℕ) (u : IsUtf8 t) (plain : is_literal mode ≡ false) where
@@ -51,7 +51,7 @@ module _ (mode : Mode) (t : List ℕ) (u : IsUtf8 t) (plain : is_literal mode �
       let closing : s.rest ≡ 42 ∷ 47 ∷ rest = first_2 s.rest 42 47 stop.0 stop.1 (omega arith) (omega arith) in
       let inner : body ≡ s.prefix ++ (42 ∷ 47 ∷ rest) = s.text_is ∙ ap (λ (x : List ℕ). s.prefix ++ x) closing in
       let assoc : s.prefix ++ (42 ∷ 47 ∷ rest) ≡ (s.prefix ++ (42 ∷ 47 ∷ [])) ++ rest = sym (append_assoc s.prefix (42 ∷ 47 ∷ []) rest) in
-      let u_body : IsUtf8 body = utf8_past 42 body (omega arith) (utf8_past 47 (42 ∷ body) (omega arith) (subst IsUtf8 e u)) in
+      let u_body : IsUtf8 body = utf8_tail 42 body (omega arith) (utf8_tail 47 (42 ∷ body) (omega arith) (subst IsUtf8 e u)) in
       let u_rest : IsUtf8 (42 ∷ 47 ∷ rest) = subst IsUtf8 closing (utf8_rest s.prefix s.rest (subst IsUtf8 s.text_is u_body) (omega (arith, stop.0))) in
       record {
         spelling = 47 ∷ 42 ∷ (s.prefix ++ (42 ∷ 47 ∷ []));
@@ -60,7 +60,7 @@ module _ (mode : Mode) (t : List ℕ) (u : IsUtf8 t) (plain : is_literal mode �
         len = omega (arith, length-append s.prefix (42 ∷ 47 ∷ []), s.len);
         lexeme = (outside, (s.prefix, refl, subst (λ (x : List ℕ). IsRun inline_unit false s.prefix x) closing s.run));
         some = omega arith;
-        utf8 = utf8_past 47 rest (omega arith) (utf8_past 42 (47 ∷ rest) (omega arith) u_rest);
+        utf8 = utf8_tail 47 rest (omega arith) (utf8_tail 42 (47 ∷ rest) (omega arith) u_rest);
       })
       (λ _. tt)
 
@@ -72,9 +72,9 @@ module _ (mode : Mode) (t : List ℕ) (u : IsUtf8 t) (plain : is_literal mode �
       let q : List ℕ = drop (fraction_length r) r in
       let e : Split IsExponent (exponent_length q) q = exponent_split q in
       let tail : r ≡ (f.prefix ++ e.prefix) ++ e.rest =
-      f.text_is ∙ ap (λ (x : List ℕ). f.prefix ++ x) (f.behind ∙ e.text_is) ∙ sym (append_assoc f.prefix e.prefix e.rest) in
+      f.text_is ∙ ap (λ (x : List ℕ). f.prefix ++ x) (f.following ∙ e.text_is) ∙ sym (append_assoc f.prefix e.prefix e.rest) in
       let inner : t ≡ (whole.prefix ++ (f.prefix ++ e.prefix)) ++ e.rest =
-      whole.text_is ∙ ap (λ (x : List ℕ). whole.prefix ++ x) (whole.behind ∙ tail) ∙ sym (append_assoc whole.prefix (f.prefix ++ e.prefix) e.rest) in
+      whole.text_is ∙ ap (λ (x : List ℕ). whole.prefix ++ x) (whole.following ∙ tail) ∙ sym (append_assoc whole.prefix (f.prefix ++ e.prefix) e.rest) in
       record {
         spelling = whole.prefix ++ (f.prefix ++ e.prefix);
         rest = e.rest;
@@ -82,7 +82,7 @@ module _ (mode : Mode) (t : List ℕ) (u : IsUtf8 t) (plain : is_literal mode �
         len = length-append whole.prefix (f.prefix ++ e.prefix) ∙ omega (arith, length-append f.prefix e.prefix, whole.len, f.len, e.len);
         lexeme = (outside, (whole.prefix, f.prefix, e.prefix, refl, whole.is, f.is, e.is));
         some = omega (arith, decimal_some t digit);
-        utf8 = e.utf8 (subst IsUtf8 f.behind (f.utf8 (subst IsUtf8 whole.behind (whole.utf8 u))));
+        utf8 = e.utf8 (subst IsUtf8 f.following (f.utf8 (subst IsUtf8 whole.following (whole.utf8 u))));
       }
 
   pub index_sound : t ≡ 46 ∷ drop 1 t → is_ascii_digit (slice_index t 1) ≡ true → IsFound mode t DotIndex (1 + decimal_length (drop 1 t))
@@ -95,7 +95,7 @@ module _ (mode : Mode) (t : List ℕ) (u : IsUtf8 t) (plain : is_literal mode �
         len = omega (arith, s.len);
         lexeme = (outside, (s.prefix, refl, s.is));
         some = omega arith;
-        utf8 = s.utf8 (utf8_past 46 (drop 1 t) (omega arith) (subst IsUtf8 e u));
+        utf8 = s.utf8 (utf8_tail 46 (drop 1 t) (omega arith) (subst IsUtf8 e u));
       }
 
   identifier_sound_at : (cs : List ℕ) → encode_utf8_all cs ≡ t → all_scalars cs ≡ true → Sound mode t (identifier_of cs)

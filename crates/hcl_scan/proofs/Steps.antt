@@ -26,7 +26,7 @@ use Rattle.hcl_scan.proofs.OpeningPlaces.{template_place}
 use Rattle.hcl_scan.proofs.Sound.{sound}
 use Rattle.hcl_scan.proofs.Beats.{beats}
 use Rattle.hcl_scan.proofs.Longest.{found_longest, none_found, token_no_whitespace, gap_is}
-use Rattle.hcl_scan.proofs.Unique.{split_same, pair_of, utf8_past_whitespace}
+use Rattle.hcl_scan.proofs.Unique.{split_same, pair_of, utf8_after_whitespace}
 use Rattle.hcl_scan.proofs.PairLemmas.{joining_more, joining_rest, tokenizes_more, markers_after_pairs, places_push, order-push, pairs-push}
 
 -- the markers of the modes that are left
@@ -58,13 +58,13 @@ gap_at text mode at start within u e =
     let width : start - at ≡ gap_length mode t = omega arith in
     let rest : drop start text ≡ drop (start - at) t = sym (drop-drop (start - at) at text ∙ ap (λ n. drop n text) (omega arith)) in
     let split : t ≡ take (start - at) t ++ drop start text = sym (ap (λ (x : List ℕ). take (start - at) t ++ x) rest ∙ take-append-drop (start - at) t) in
-    let blank : IsGap mode (take (start - at) t) = subst (λ n. IsGap mode (take n t)) (sym width) g.1 in
+    let is_white : IsGap mode (take (start - at) t) = subst (λ n. IsGap mode (take n t)) (sym width) g.1 in
     record {
       within = omega (arith, g.0, length-drop {A = ℕ} at text);
       after_at = omega arith;
       split = split;
-      whitespace = blank;
-      utf8 = utf8_past_whitespace (take (start - at) t) (drop start text) blank.0 (subst IsUtf8 split u);
+      whitespace = is_white;
+      utf8 = utf8_after_whitespace (take (start - at) t) (drop start text) is_white.0 (subst IsUtf8 split u);
     }
 
 -- the cut goes on by a token
@@ -102,7 +102,7 @@ one_more text tokens at modes places start kind len c start_is found =
     let text_is : text ≡ whole_text pairs (gap ++ (s ++ more)) = c.tokenizes.text_is ∙ ap (whole_text pairs) both in
     let place : length (whole_text pairs gap) ≡ start =
     omega (arith, ap length text_is, joining_rest pairs (gap ++ (s ++ more)), joining_rest pairs gap, length-append gap (s ++ more), length-append s more, short, ap length split, length-drop {A = ℕ} start text, within) in
-    let cuts : TokenizesFrom [] (body ++ pair ∷ []) more (modes_after kind s modes) =
+    let tokens_so_split : TokenizesFrom [] (body ++ pair ∷ []) more (modes_after kind s modes) =
     tokenizes_more body [] modes gap s more kind (subst (λ (x : List ℕ). TokenizesFrom [] body x modes) both c.tokenizes.tokenizes) g.whitespace longest in
     let openings : opening_places_after kind start modes places ≡ opening_places_after_pairs 0 [] [] (pairs ++ pair ∷ []) =
     ap (opening_places_after kind start modes) c.places ∙ sym (places_push text pairs (drop at text) modes start gap s kind c.tokenizes place) in (
@@ -114,7 +114,7 @@ one_more text tokens at modes places start kind len c start_is found =
           text_is = text_is ∙ sym (joining_more pairs gap s more kind) ∙ ap (λ (x : List Pair). whole_text x more) (sym pushed);
           body = body ++ pair ∷ [];
           prefix = pushed ∙ ap (λ (x : List Pair). x ++ pair ∷ []) c.tokenizes.prefix ∙ append_assoc (mark_prefix text) body (pair ∷ []);
-          tokenizes = cuts;
+          tokenizes = tokens_so_split;
         };
         places = openings ∙ ap (opening_places_after_pairs 0 [] []) (sym pushed);
         order = order-push tokens 0 at item c.order g.after_at (omega arith);
@@ -157,8 +157,8 @@ prefix_then_not p (b ∷ t) h =
     ] refl
 
 -- after the blanks there is no blank
-past_gap : (mode : Mode) (t : List ℕ) → is_literal mode ≡ false → is_whitespace (slice_index (drop (gap_length mode t) t) 0) ≡ false
-past_gap mode t plain = rw plain (prefix_then_not is_whitespace t refl)
+no_gap_after_gap : (mode : Mode) (t : List ℕ) → is_literal mode ≡ false → is_whitespace (slice_index (drop (gap_length mode t) t) 0) ≡ false
+no_gap_after_gap mode t plain = rw plain (prefix_then_not is_whitespace t refl)
 
 -- the text is cut to its end
 pub finished : (text : List ℕ) (tokens : List Span) (at start : ℕ) (places : List ℕ) → length text ≤ MAX_TEXT → IsUtf8 text → IsTokenizedTo text tokens at [] places
@@ -196,12 +196,12 @@ stopped text tokens at start modes places c start_is none unfinished =
       rest = rest;
       left = modes;
       tokenizes = record { text_is = text_is; body = c.tokenizes.body; prefix = c.tokenizes.prefix; tokenizes = subst (λ (x : List ℕ). TokenizesFrom [] c.tokenizes.body x modes) g.split c.tokenizes.tokenizes };
-      ends = λ gap' s more kind blank lexeme same.
-          let width' : length gap' ≡ gap_length mode (gap' ++ (s ++ more)) = gap_is mode gap' (s ++ more) blank (lexeme_no_whitespace mode kind s more m lexeme) in
+      ends = λ gap' s more kind is_white lexeme same.
+          let width' : length gap' ≡ gap_length mode (gap' ++ (s ++ more)) = gap_is mode gap' (s ++ more) is_white (lexeme_no_whitespace mode kind s more m lexeme) in
           let size : length gap ≡ length gap' = width ∙ ap (gap_length mode) (g.split ∙ same) ∙ sym width' in
           none_found mode rest m none kind s more lexeme (sym (split_same gap rest gap' (s ++ more) size same).1);
       whitespace = g.whitespace;
-      past = λ plain. subst (λ (x : List ℕ). is_whitespace (slice_index x 0) ≡ false) (drop-drop (gap_length mode t) at text ∙ ap (λ n. drop n text) (sym start_is)) (past_gap mode t plain);
+      past = λ plain. subst (λ (x : List ℕ). is_whitespace (slice_index x 0) ≡ false) (drop-drop (gap_length mode t) at text ∙ ap (λ n. drop n text) (sym start_is)) (no_gap_after_gap mode t plain);
       unfinished = λ e z. unfinished e (omega (arith, ap length z, length-drop {A = ℕ} start text, g.within));
       fault_is =
           ap (λ n. fault_at mode (innermost_place modes places) n rest) (sym place)

@@ -29,10 +29,10 @@ use Rattle.hcl_scan.proofs.HeredocLemmas.{unit_begins as here_unit_begins}
 use Rattle.hcl_scan.proofs.Beats.{unit_begins as quote_unit_begins}
 use Rattle.hcl_scan.proofs.Heads.{heads, HeadIs, begins_so, one_passes}
 use Rattle.hcl_scan.proofs.Longest.{longest_found}
-use Rattle.hcl_scan.proofs.Unique.{utf8_past_whitespace, utf8_past_token, same_found}
+use Rattle.hcl_scan.proofs.Unique.{utf8_after_whitespace, utf8_after_token, same_found}
 use Rattle.hcl_scan.proofs.MarkLemmas.{after_mark_prefix, mark_prefix_utf8}
 use Rattle.hcl_scan.proofs.Apart.{Rest}
-use Rattle.hcl_scan.proofs.FollowingText.{BothOpen, Alike, Stands, spells_alike, filled_some, far}
+use Rattle.hcl_scan.proofs.FollowingText.{BothOpen, Alike, HasFollowing, spells_alike, filled_some, far}
 use Rattle.hcl_scan.proofs.RunFollowingText.{alike_back}
 
 -- ---- runs that are as long as can be
@@ -221,7 +221,7 @@ swap_heredoc : (r r' : List ℕ) (line : Type 0) → BothOpen r r' ⊎ line → 
 swap_heredoc r r' line (inl both) = inl (swap_open r r' both)
 swap_heredoc r r' line (inr h) = inr h
 
-near : (modes : List Mode) (kind : Kind) (s : List ℕ) (ps : List Pair) (last : List ℕ) → Stands modes kind s ps last → AreNested modes → Alike (mode_of modes) kind s (whole_text ps last) (following_text ps last)
+near : (modes : List Mode) (kind : Kind) (s : List ℕ) (ps : List Pair) (last : List ℕ) → HasFollowing modes kind s ps last → AreNested modes → Alike (mode_of modes) kind s (whole_text ps last) (following_text ps last)
 near modes LineComment s ps last h nested = alike_back (following_text ps last) (whole_text ps last) (far modes LineComment s ps last h)
 near modes Slash s ps last h nested = sym (far modes Slash s ps last h)
 near (Quoted ∷ ms) QuoteLit s ps last h nested = alike_back (following_text ps last) (whole_text ps last) (far (Quoted ∷ ms) QuoteLit s ps last h)
@@ -240,40 +240,40 @@ utf8_prefix : (s rest : List ℕ) → IsUtf8 (s ++ rest) → IsUtf8 rest → IsU
 utf8_prefix s rest u u_rest = subst IsUtf8 (take_at s rest (length s) refl) (IsUtf8-take (s ++ rest) (length s) u (IsCharBoundary-at_seam (s ++ rest) s rest refl u_rest))
 
 rest_of : (modes : List Mode) (ps : List Pair) (last : List ℕ) → list_all is_whitespace last ≡ true → TokenizesFrom modes ps last [] → Rest (mode_of modes) ps last
-rest_of modes [] last blank c = (blank, rw c refl)
-rest_of modes (q ∷ qs) last blank c = (c.0, c.1.0)
+rest_of modes [] last is_white c = (is_white, rw c refl)
+rest_of modes (q ∷ qs) last is_white c = (c.0, c.1.0)
 
 follows_from : (ps : List Pair) (modes : List Mode) (last : List ℕ) → HaveMarkers modes → AreNested modes → IsUtf8 (whole_text ps last) → list_all is_whitespace last ≡ true → TokenizesFrom modes ps last [] → FollowsFrom modes ps last []
-follows_from [] modes last m nested u blank c = c
-follows_from (p ∷ ps) modes last m nested u blank c =
+follows_from [] modes last m nested u is_white c = c
+follows_from (p ∷ ps) modes last m nested u is_white c =
     let mode : Mode = mode_of modes in
     let more : List ℕ = whole_text ps last in
-    let behind : List Mode = modes_after p.kind p.spelling modes in
+    let following : List Mode = modes_after p.kind p.spelling modes in
     let marked : HasMarker mode = marker_of_mode modes m in
-    let u_token : IsUtf8 (p.spelling ++ more) = utf8_past_whitespace p.gap (p.spelling ++ more) c.0.0 u in
-    let u_more : IsUtf8 more = utf8_past_token mode p.kind p.spelling more marked u_token c.1 in
-    let m_behind : HaveMarkers behind = markers_after p.kind p.spelling more modes c.1.0.1 m in
-    let nested_behind : AreNested behind = nested_after p.kind p.spelling modes c.1.0.0 nested in
-    let rest : Rest (mode_of behind) ps last = rest_of behind ps last blank c.2 in
+    let u_token : IsUtf8 (p.spelling ++ more) = utf8_after_whitespace p.gap (p.spelling ++ more) c.0.0 u in
+    let u_more : IsUtf8 more = utf8_after_token mode p.kind p.spelling more marked u_token c.1 in
+    let m_following : HaveMarkers following = markers_after p.kind p.spelling more modes c.1.0.1 m in
+    let nested_following : AreNested following = nested_after p.kind p.spelling modes c.1.0.0 nested in
+    let rest : Rest (mode_of following) ps last = rest_of following ps last is_white c.2 in
     let is : token mode (p.spelling ++ more) ≡ Some (p.kind, length p.spelling) = longest_found mode p.kind p.spelling more marked u_token c.1 in
     let asks : AllowsNext p.kind ps last = allows_next_of modes p.kind p.spelling ps last is c.1.0 rest in
-    let stands : Stands modes p.kind p.spelling ps last = (m, c.1.0.0, asks, marker_of_mode behind m_behind, rest) in
+    let has_following : HasFollowing modes p.kind p.spelling ps last = (m, c.1.0.0, asks, marker_of_mode following m_following, rest) in
     let lexeme : IsLexeme mode p.kind p.spelling (following_text ps last) =
-    (c.1.0.0, spells_alike mode p.kind p.spelling more (following_text ps last) marked c.1.0.0 (near modes p.kind p.spelling ps last stands nested) c.1.0.1) in
-    (c.0, utf8_prefix p.spelling more u_token u_more, lexeme, asks, follows_from ps behind last m_behind nested_behind u_more blank c.2)
+    (c.1.0.0, spells_alike mode p.kind p.spelling more (following_text ps last) marked c.1.0.0 (near modes p.kind p.spelling ps last has_following nested) c.1.0.1) in
+    (c.0, utf8_prefix p.spelling more u_token u_more, lexeme, asks, follows_from ps following last m_following nested_following u_more is_white c.2)
 
 -- ---- the text
 
-at_front : (front : Bool) (pairs body : List Pair) → pairs ≡ (if front then record { gap = []; kind = Mark; spelling = byte_order_mark } ∷ [] else []) ++ body → (pairs ≡ body) ⊎ (pairs ≡ mark ∷ body)
-at_front true pairs body e = inr e
-at_front false pairs body e = inl e
+at_text_start : (leading : Bool) (pairs body : List Pair) → pairs ≡ (if leading then record { gap = []; kind = Mark; spelling = byte_order_mark } ∷ [] else []) ++ body → (pairs ≡ body) ⊎ (pairs ≡ mark ∷ body)
+at_text_start true pairs body e = inr e
+at_text_start false pairs body e = inl e
 
 pub tokenization_follows_modes : (text : List ℕ) (pairs : List Pair) (last : List ℕ) → IsTokenization text pairs last → Follows pairs last []
 tokenization_follows_modes text pairs last c =
     let u : IsUtf8 (whole_text c.tokenizes.body last) = subst IsUtf8 (sym (after_mark_prefix text pairs last [] c.tokenizes)) (mark_prefix_utf8 text c.utf8) in
     record {
       body = c.tokenizes.body;
-      prefix = at_front (is_prefix_of byte_order_mark text) pairs c.tokenizes.body c.tokenizes.prefix;
+      prefix = at_text_start (is_prefix_of byte_order_mark text) pairs c.tokenizes.body c.tokenizes.prefix;
       follows = follows_from c.tokenizes.body [] last tt tt u c.whitespace c.tokenizes.tokenizes;
       whitespace = c.whitespace;
     }

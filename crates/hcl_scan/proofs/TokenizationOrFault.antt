@@ -41,25 +41,25 @@ at_end text tokens at start (m ∷ modes) places short u c start_is none =
     no_modes e = omega (arith, ap length e)
 
 -- the cut goes on until then
-go_on : (fuel : ℕ) (text : List ℕ) (tokens : List Span) (at : ℕ) (modes : List Mode) (places : List ℕ) → length text ≤ MAX_TEXT → IsUtf8 text
+tokenization_continues : (fuel : ℕ) (text : List ℕ) (tokens : List Span) (at : ℕ) (modes : List Mode) (places : List ℕ) → length text ≤ MAX_TEXT → IsUtf8 text
     → IsTokenizedTo text tokens at modes places → length text < at + fuel → HasTokenization text ⊎ HasFault text
-go_on zero text tokens at modes places short u c enough = absurd (omega (arith, enough, c.within))
-go_on (suc fuel) text tokens at modes places short u c enough =
+tokenization_continues zero text tokens at modes places short u c enough = absurd (omega (arith, enough, c.within))
+tokenization_continues (suc fuel) text tokens at modes places short u c enough =
     let start : ℕ = at + gap_length (mode_of modes) (drop at text) in
     elim (token (mode_of modes) (drop start text)) as (λ x. token (mode_of modes) (drop start text) ≡ x → HasTokenization text ⊎ HasFault text) [
       | None ↦ λ none. at_end text tokens at start modes places short u c refl none
       | Some f ↦ λ found.
           let more = one_more text tokens at modes places start f.0 f.1 c refl found in
-          go_on fuel text (tokens ++ record { start = start; stop = start + f.1; kind = f.0 } ∷ []) (start + f.1)
+          tokenization_continues fuel text (tokens ++ record { start = start; stop = start + f.1; kind = f.0 } ∷ []) (start + f.1)
           (modes_after f.0 (slice_range text start (start + f.1)) modes) (opening_places_after f.0 start modes places) short u more.1 (omega (arith, more.0, enough))
     ] refl
 
-pub cut_or_fault : (text : List ℕ) → HasTokenization text ⊎ HasFault text
-cut_or_fault text =
+pub tokens_or_fault : (text : List ℕ) → HasTokenization text ⊎ HasFault text
+tokens_or_fault text =
     ⊎_elim
     (λ (long : MAX_TEXT < length text). inr (TooLong, inl (refl, long)))
     (λ (short : length text ≤ MAX_TEXT). ⊎_elim
-    (λ u. go_on (suc (length text)) text (mark_tokens text) (mark_length text) [] [] short u (started text u) (omega arith))
+    (λ u. tokenization_continues (suc (length text)) text (mark_tokens text) (mark_length text) [] [] short u (started text u) (omega arith))
     (λ v. inr (NotUtf8 (utf8_valid_len text), inr (inl (utf8_valid_len text, refl, short, v))))
     (utf8_valid_len-cases text))
     (cases_lt MAX_TEXT (length text))

@@ -13,7 +13,7 @@ use Rattle.hcl_scan.specs.Lexeme.{IsLongest}
 use Rattle.hcl_scan.specs.Inner.NextToken.{LexedToken, token, gap_length}
 use Rattle.hcl_scan.specs.Tokenization.{IsGap, TokenizesFrom}
 use Rattle.hcl_scan.specs.Fault.{HasNoToken}
-use Rattle.hcl_scan.proofs.TextLemmas.{utf8_past}
+use Rattle.hcl_scan.proofs.TextLemmas.{utf8_tail}
 use Rattle.hcl_scan.proofs.MarkerLemmas.{markers_after, marker_of_mode}
 use Rattle.hcl_scan.proofs.Found.{IsFound, Sound}
 use Rattle.hcl_scan.proofs.Sound.{sound}
@@ -25,16 +25,16 @@ split_same a b c d size e = (
   sym (drop_at a b (length a) refl) ∙ ap₂ drop size e ∙ drop_at c d (length c) refl,
 )
 
-pub utf8_past_whitespace : (gap rest : List ℕ) → list_all is_whitespace gap ≡ true → IsUtf8 (gap ++ rest) → IsUtf8 rest
-utf8_past_whitespace [] rest all u = u
-utf8_past_whitespace (b ∷ gap) rest all u =
+pub utf8_after_whitespace : (gap rest : List ℕ) → list_all is_whitespace gap ≡ true → IsUtf8 (gap ++ rest) → IsUtf8 rest
+utf8_after_whitespace [] rest all u = u
+utf8_after_whitespace (b ∷ gap) rest all u =
     let both = and_parts (is_whitespace b) (list_all is_whitespace gap) all in
     let ascii : b < 128 = grind (arith, nat_tests) in
-    utf8_past_whitespace gap rest both.1 (utf8_past b (gap ++ rest) ascii u)
+    utf8_after_whitespace gap rest both.1 (utf8_tail b (gap ++ rest) ascii u)
 
 -- what follows the longest lexeme is UTF-8
-pub utf8_past_token : (mode : Mode) (kind : Kind) (s rest : List ℕ) → HasMarker mode → IsUtf8 (s ++ rest) → IsLongest mode kind s rest → IsUtf8 rest
-utf8_past_token mode kind s rest m u longest =
+pub utf8_after_token : (mode : Mode) (kind : Kind) (s rest : List ℕ) → HasMarker mode → IsUtf8 (s ++ rest) → IsLongest mode kind s rest → IsUtf8 rest
+utf8_after_token mode kind s rest m u longest =
     let f : IsFound mode (s ++ rest) kind (length s) = subst (Sound mode (s ++ rest)) (longest_found mode kind s rest m u longest) (sound mode (s ++ rest) m u) in
     subst IsUtf8 (sym (split_same s rest f.spelling f.rest (sym f.len) f.text_is).1) f.utf8
 
@@ -52,8 +52,8 @@ same_found k k' n n' e =
 one_pair : (mode : Mode) (gap gap' s s' rest rest' : List ℕ) (kind kind' : Kind) → HasMarker mode → IsUtf8 (gap ++ (s ++ rest)) → gap ++ (s ++ rest) ≡ gap' ++ (s' ++ rest')
     → IsGap mode gap → IsLongest mode kind s rest → IsGap mode gap' → IsLongest mode kind' s' rest' → SamePair gap gap' s s' rest rest' kind kind'
 one_pair mode gap gap' s s' rest rest' kind kind' m u e g l g' l' =
-    let first : token mode (s ++ rest) ≡ Some (kind, length s) = longest_found mode kind s rest m (utf8_past_whitespace gap (s ++ rest) g.0 u) l in
-    let second : token mode (s' ++ rest') ≡ Some (kind', length s') = longest_found mode kind' s' rest' m (utf8_past_whitespace gap' (s' ++ rest') g'.0 (subst IsUtf8 e u)) l' in
+    let first : token mode (s ++ rest) ≡ Some (kind, length s) = longest_found mode kind s rest m (utf8_after_whitespace gap (s ++ rest) g.0 u) l in
+    let second : token mode (s' ++ rest') ≡ Some (kind', length s') = longest_found mode kind' s' rest' m (utf8_after_whitespace gap' (s' ++ rest') g'.0 (subst IsUtf8 e u)) l' in
     let width : length gap ≡ gap_length mode (gap ++ (s ++ rest)) = gap_is mode gap (s ++ rest) g (λ plain. token_no_whitespace mode (s ++ rest) _ plain first) in
     let width' : length gap' ≡ gap_length mode (gap' ++ (s' ++ rest')) = gap_is mode gap' (s' ++ rest') g' (λ plain. token_no_whitespace mode (s' ++ rest') _ plain second) in
     let split = split_same gap (s ++ rest) gap' (s' ++ rest') (width ∙ ap (gap_length mode) e ∙ sym width') e in
@@ -88,7 +88,7 @@ one_maximal (p ∷ ps) (q ∷ qs) modes rest rest' left left' h u e c c' end end
     let m : HasMarker mode = marker_of_mode modes h in
     let s = one_pair mode p.gap q.gap p.spelling q.spelling (whole_text ps rest) (whole_text qs rest') p.kind q.kind m u e c.0 c.1 c'.0 c'.1 in
     let same : p ≡ q = same_pair p q s.gaps s.kinds s.spellings in
-    let u_rest : IsUtf8 (whole_text ps rest) = utf8_past_token mode p.kind p.spelling (whole_text ps rest) m (utf8_past_whitespace p.gap _ c.0.0 u) c.1 in
+    let u_rest : IsUtf8 (whole_text ps rest) = utf8_after_token mode p.kind p.spelling (whole_text ps rest) m (utf8_after_whitespace p.gap _ c.0.0 u) c.1 in
     let next = subst (λ (x : Pair). TokenizesFrom (modes_after x.kind x.spelling modes) qs rest' left') (sym same) c'.2 in
     let marked : HaveMarkers (modes_after p.kind p.spelling modes) = markers_after p.kind p.spelling (whole_text ps rest) modes c.1.0.1 h in
     let more = one_maximal ps qs (modes_after p.kind p.spelling modes) rest rest' left left' marked u_rest s.rests c.2 next end end' in

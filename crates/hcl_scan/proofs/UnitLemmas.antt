@@ -116,10 +116,10 @@ pub escape_length_at : (text : List ℕ) (at : ℕ)
     else (if slice_index text at == 85 && (has_four_hex (drop (at + 1) text) && has_four_hex (drop (at + 1 + 4) text)) then 9 else 0))
     )
 escape_length_at text at =
-    let front : slice_index (drop at text) 0 ≡ slice_index text at = get_or-drop at text 0 0 ∙ ap (slice_index text) (omega arith) in
+    let leading : slice_index (drop at text) 0 ≡ slice_index text at = get_or-drop at text 0 0 ∙ ap (slice_index text) (omega arith) in
     let one : drop 1 (drop at text) ≡ drop (at + 1) text = drop-drop 1 at text in
     let five : drop 5 (drop at text) ≡ drop (at + 1 + 4) text = drop-drop 5 at text ∙ ap (λ n. drop n text) (omega arith) in
-    rw (front, one, five) refl
+    rw (leading, one, five) refl
 
 pub quote_unit_at : (text : List ℕ) (at : ℕ) (at_line_start : Bool) → at < length text
     → quote_unit at_line_start (drop at text) ≡ (

@@ -9,7 +9,7 @@ use Rattle.hcl_scan.proofs.OpenMarkers.{HaveMarkers}
 use Rattle.hcl_scan.specs.Tokenization.{TokenizesFrom, IsTokenization, byte_order_mark, mark_prefix}
 use Rattle.hcl_scan.proofs.MarkLemmas.{after_mark_prefix, mark_prefix_bytes, mark_prefix_utf8}
 use Rattle.hcl_scan.proofs.MarkerLemmas.{markers_after, marker_of_mode}
-use Rattle.hcl_scan.proofs.Unique.{utf8_past_whitespace, utf8_past_token}
+use Rattle.hcl_scan.proofs.Unique.{utf8_after_whitespace, utf8_after_token}
 
 -- before UTF-8
 utf8_prefix : (s rest : List ℕ) → IsUtf8 (s ++ rest) → IsUtf8 rest → IsUtf8 s
@@ -19,11 +19,11 @@ pairs_utf8 : (ps : List Pair) (modes left : List Mode) (rest : List ℕ) → Hav
 pairs_utf8 [] modes left rest h u c = tt
 pairs_utf8 (p ∷ ps) modes left rest h u c =
     let mode : Mode = mode_of modes in
-    let behind : IsUtf8 (p.spelling ++ whole_text ps rest) = utf8_past_whitespace p.gap (p.spelling ++ whole_text ps rest) c.0.0 u in
-    let more : IsUtf8 (whole_text ps rest) = utf8_past_token mode p.kind p.spelling (whole_text ps rest) (marker_of_mode modes h) behind c.1 in
+    let following : IsUtf8 (p.spelling ++ whole_text ps rest) = utf8_after_whitespace p.gap (p.spelling ++ whole_text ps rest) c.0.0 u in
+    let more : IsUtf8 (whole_text ps rest) = utf8_after_token mode p.kind p.spelling (whole_text ps rest) (marker_of_mode modes h) following c.1 in
     let marked : HaveMarkers (modes_after p.kind p.spelling modes) = markers_after p.kind p.spelling (whole_text ps rest) modes c.1.0.1 h in (
-      utf8_prefix p.gap (p.spelling ++ whole_text ps rest) u behind,
-      utf8_prefix p.spelling (whole_text ps rest) behind more,
+      utf8_prefix p.gap (p.spelling ++ whole_text ps rest) u following,
+      utf8_prefix p.spelling (whole_text ps rest) following more,
       pairs_utf8 ps (modes_after p.kind p.spelling modes) left rest marked more c.2,
     )
 
@@ -39,6 +39,6 @@ mark_prefix_pairs text body u are =
 
 pub tokenization_utf8 : (text : List ℕ) (pairs : List Pair) (last : List ℕ) → IsTokenization text pairs last → AreUtf8 pairs
 tokenization_utf8 text pairs last c =
-    let behind : IsUtf8 (whole_text c.tokenizes.body last) = subst IsUtf8 (sym (after_mark_prefix text pairs last [] c.tokenizes)) (mark_prefix_utf8 text c.utf8) in
-    let body : AreUtf8 c.tokenizes.body = pairs_utf8 c.tokenizes.body [] [] last tt behind c.tokenizes.tokenizes in
+    let following : IsUtf8 (whole_text c.tokenizes.body last) = subst IsUtf8 (sym (after_mark_prefix text pairs last [] c.tokenizes)) (mark_prefix_utf8 text c.utf8) in
+    let body : AreUtf8 c.tokenizes.body = pairs_utf8 c.tokenizes.body [] [] last tt following c.tokenizes.tokenizes in
     subst AreUtf8 (sym c.tokenizes.prefix) (mark_prefix_pairs text c.tokenizes.body c.utf8 body)

@@ -50,21 +50,21 @@ record IsWritten (modes : List Mode) (ps : List Pair) (last : List ℕ) : Type 0
   ends : NextEnds (mode_of modes) ps last
 
 written : (ps : List Pair) (modes : List Mode) (last : List ℕ) → HaveMarkers modes → FollowsFrom modes ps last [] → list_all is_whitespace last ≡ true → AreApart ps → IsWritten modes ps last
-written [] modes last m f blank apart = record {
+written [] modes last m f is_white apart = record {
   tokenizes = f;
-  utf8 = utf8_whitespace last blank;
-  rest = (blank, rw f refl);
+  utf8 = utf8_whitespace last is_white;
+  rest = (is_white, rw f refl);
   ends = tt;
 }
-written (p ∷ ps) modes last m f blank apart =
+written (p ∷ ps) modes last m f is_white apart =
     let mode : Mode = mode_of modes in
     let more : List ℕ = whole_text ps last in
-    let behind : List Mode = modes_after p.kind p.spelling modes in
+    let following : List Mode = modes_after p.kind p.spelling modes in
     let marked : HasMarker mode = marker_of_mode modes m in
-    let m_behind : HaveMarkers behind = markers_after p.kind p.spelling (following_text ps last) modes f.2.1 m in
-    let w : IsWritten behind ps last = written ps behind last m_behind f.4 blank apart.1 in
+    let m_following : HaveMarkers following = markers_after p.kind p.spelling (following_text ps last) modes f.2.1 m in
+    let w : IsWritten following ps last = written ps following last m_following f.4 is_white apart.1 in
     let whole : IsLexeme mode p.kind p.spelling more =
-    (f.2.0, spells_alike mode p.kind p.spelling (following_text ps last) more marked f.2.0 (far modes p.kind p.spelling ps last (m, f.2.0, f.3, marker_of_mode behind m_behind, w.rest)) f.2.1) in
+    (f.2.0, spells_alike mode p.kind p.spelling (following_text ps last) more marked f.2.0 (far modes p.kind p.spelling ps last (m, f.2.0, f.3, marker_of_mode following m_following, w.rest)) f.2.1) in
     let ends : Ends mode p.kind p.spelling more = ends_here modes p.kind p.spelling ps last m whole f.3 apart.0 w.rest w.ends in
     let u : IsUtf8 (p.spelling ++ more) = IsUtf8-append p.spelling more f.1 w.utf8 in
     let longest : IsLongest mode p.kind p.spelling more = exact_longest mode p.kind p.spelling more marked u (exact mode p.kind p.spelling more marked whole ends) in
@@ -100,10 +100,10 @@ not_started (b ∷ t) h = not_prefix b t h
 -- no identifier begins with it
 word_no_mark : (s more cs : List ℕ) → IsUtf8 s → chars s ≡ cs → is_identifier cs ≡ true → is_prefix_of byte_order_mark (s ++ more) ≡ false
 word_no_mark s more [] u e h = absurd (cc)
-word_no_mark s more (c ∷ cs) u e h = false_from_ne_true _ (λ front.
+word_no_mark s more (c ∷ cs) u e h = false_from_ne_true _ (λ leading.
     let bytes : s ≡ encode_utf8 c ++ encode_utf8_all cs = sym (ap encode_utf8_all (sym e) ∙ encodes-chars s u) in
     let left : s ++ more ≡ encode_utf8 c ++ (encode_utf8_all cs ++ more) = ap (λ (y : List ℕ). y ++ more) bytes ∙ append_assoc (encode_utf8 c) (encode_utf8_all cs) more in
-    let right : s ++ more ≡ encode 65279 ++ drop 3 (s ++ more) = marker_at byte_order_mark (s ++ more) front ∙ ap (λ (y : List ℕ). y ++ drop 3 (s ++ more)) (sym mark_bytes) in
+    let right : s ++ more ≡ encode 65279 ++ drop 3 (s ++ more) = marker_at byte_order_mark (s ++ more) leading ∙ ap (λ (y : List ℕ). y ++ drop 3 (s ++ more)) (sym mark_bytes) in
     let same : c ≡ 65279 = (encode_same c 65279 (encode_utf8_all cs ++ more) (drop 3 (s ++ more)) (sym left ∙ right)).0 in
     let first : is_id_start c ≡ true = (and_parts (is_id_start c) (list_all is_id_continue cs) h).0 in
     let none : is_id_start c ≡ false = ap is_id_start same ∙ ap (λ x. x || 65279 == 95) mark_no_start in
@@ -138,10 +138,10 @@ no_mark (q ∷ qs) last rest = at_gap q.gap rest.0.0
 -- ---- the text
 
 pub writes_back : (pairs : List Pair) (last : List ℕ) → Follows pairs last [] → AreApart pairs → length (whole_text pairs last) ≤ MAX_TEXT → IsTokenization (whole_text pairs last) pairs last
-writes_back pairs last f apart short = at_front f.prefix
+writes_back pairs last f apart short = at_text_start f.prefix
   where
-    at_front : (pairs ≡ f.body) ⊎ (pairs ≡ mark ∷ f.body) → IsTokenization (whole_text pairs last) pairs last
-    at_front (inl e) =
+    at_text_start : (pairs ≡ f.body) ⊎ (pairs ≡ mark ∷ f.body) → IsTokenization (whole_text pairs last) pairs last
+    at_text_start (inl e) =
         let w : IsWritten [] f.body last = written f.body [] last tt f.follows f.whitespace (subst AreApart e apart) in
         let none : mark_prefix (whole_text pairs last) ≡ [] = rw (ap (λ (x : List Pair). is_prefix_of byte_order_mark (whole_text x last)) e ∙ no_mark f.body last w.rest) refl in
         record {
@@ -150,13 +150,13 @@ writes_back pairs last f apart short = at_front f.prefix
           tokenizes = record { text_is = refl; body = f.body; prefix = e ∙ ap (λ (x : List Pair). x ++ f.body) (sym none); tokenizes = w.tokenizes };
           whitespace = f.whitespace;
         }
-    at_front (inr e) =
+    at_text_start (inr e) =
         let w : IsWritten [] f.body last = written f.body [] last tt f.follows f.whitespace (subst AreApart e apart).1 in
         let whole : whole_text pairs last ≡ byte_order_mark ++ whole_text f.body last = ap (λ (x : List Pair). whole_text x last) e in
-        let front : mark_prefix (whole_text pairs last) ≡ mark ∷ [] = ap mark_prefix whole in
+        let leading : mark_prefix (whole_text pairs last) ≡ mark ∷ [] = ap mark_prefix whole in
         record {
           short = short;
           utf8 = subst IsUtf8 (sym whole) (IsUtf8-append byte_order_mark (whole_text f.body last) mark_utf8 w.utf8);
-          tokenizes = record { text_is = refl; body = f.body; prefix = e ∙ ap (λ (x : List Pair). x ++ f.body) (sym front); tokenizes = w.tokenizes };
+          tokenizes = record { text_is = refl; body = f.body; prefix = e ∙ ap (λ (x : List Pair). x ++ f.body) (sym leading); tokenizes = w.tokenizes };
           whitespace = f.whitespace;
         }

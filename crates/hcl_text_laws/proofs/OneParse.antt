@@ -22,10 +22,10 @@ abbrev WritesBack : Type 0
 WritesBack = (pairs : List Pair) (last : List ℕ) → Follows pairs last [] → AreApart pairs → length (whole_text pairs last) ≤ MAX_TEXT → IsTokenization (whole_text pairs last) pairs last
 
 pub one_parse : OneTokenization → OneTree → OneParse
-one_parse one_cut one_tree text t u p q =
-    let same = (one_cut text p.pairs q.pairs p.last q.last p.tokenization q.tokenization).0 in
+one_parse unique_tokens one_tree text t u p q =
+    let same = (unique_tokens text p.pairs q.pairs p.last q.last p.tokenization q.tokenization).0 in
     one_tree (tokens_of q.pairs) MAX_NESTING MAX_NESTING t u (subst (λ ps. IsFile (tokens_of ps) MAX_NESTING t) same p.derived) q.derived
 
 pub regapped : TokenizationFollows → OtherGaps → WritesBack → OtherGapsParse
-regapped cut_follows other_gaps writes_back text pairs others last other d t c w same gaps apart short =
-    (writes_back others other (other_gaps pairs others last other (cut_follows text pairs last c) same gaps apart) apart short, subst (λ ts. IsFile ts d t) (sym same) w)
+regapped tokens_follow other_gaps writes_back text pairs others last other d t c w same gaps apart short =
+    (writes_back others other (other_gaps pairs others last other (tokens_follow text pairs last c) same gaps apart) apart short, subst (λ ts. IsFile ts d t) (sym same) w)

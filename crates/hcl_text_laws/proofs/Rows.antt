@@ -15,7 +15,7 @@ use Rattle.hcl_scan.specs.Characters.{is_id_continue}
 use Rattle.hcl_scan.specs.Modes.{Mode}
 use Rattle.hcl_scan.specs.Lexeme.{Spells, IsLongest}
 use Rattle.hcl_grammar_laws.specs.Glue.{glues}
-use Rattle.hcl_text_laws.proofs.Longer.{longer, longer_1, mark_prefix, spelt, by_front, digit_of, number_more, number_dot, dot_more, word_more, word_continues, word_some}
+use Rattle.hcl_text_laws.proofs.Longer.{longer, longer_1, mark_prefix, spelt, by_prefix, digit_of, number_more, number_dot, dot_more, word_more, word_continues, word_some}
 
 ascii_one : (d : ℕ) → d < 128 → IsAscii (d ∷ [])
 ascii_one d h zero = h
@@ -55,11 +55,11 @@ open_no : (s n : List ℕ) → (not (ends_with 126 s) && starts_with 126 n) ≡ 
 open_no s n h e = let clash : true ≡ false = sym (and_parts (not (ends_with 126 s)) (starts_with 126 n) h).0 ∙ ap not e in absurd (cc)
 
 tilde_interp : (mode : Mode) (s n r : List ℕ) → Spells mode k.InterpOpen s (n ++ r) → IsLongest mode k.InterpOpen s (n ++ r) → (not (ends_with 126 s) && starts_with 126 n) ≡ true → ⊥
-tilde_interp mode s n r (inl e) g h = by_front mode k.InterpOpen k.InterpOpen s (codes "${") 126 n r e refl (λ r. inr refl) (open_with s n h) g
+tilde_interp mode s n r (inl e) g h = by_prefix mode k.InterpOpen k.InterpOpen s (codes "${") 126 n r e refl (λ r. inr refl) (open_with s n h) g
 tilde_interp mode s n r (inr e) g h = open_no s n h (ap (ends_with 126) e)
 
 tilde_directive : (mode : Mode) (s n r : List ℕ) → Spells mode k.DirectiveOpen s (n ++ r) → IsLongest mode k.DirectiveOpen s (n ++ r) → (not (ends_with 126 s) && starts_with 126 n) ≡ true → ⊥
-tilde_directive mode s n r (inl e) g h = by_front mode k.DirectiveOpen k.DirectiveOpen s (codes "%{") 126 n r e refl (λ r. inr refl) (open_with s n h) g
+tilde_directive mode s n r (inl e) g h = by_prefix mode k.DirectiveOpen k.DirectiveOpen s (codes "%{") 126 n r e refl (λ r. inr refl) (open_with s n h) g
 tilde_directive mode s n r (inr e) g h = open_no s n h (ap (ends_with 126) e)
 
 module _ (mode other : Mode) (s n r : List ℕ) where
@@ -88,12 +88,12 @@ module _ (mode other : Mode) (s n r : List ℕ) where
 
   less_row : (b : Kind) → IsLongest mode k.Less s (n ++ r) → joins_with k.Less s b n ≡ true → glues k.Less b n ≡ true
   less_row k.Less g h = refl
-  less_row _ g h = absurd (by_front mode k.Less k.LessEqual s (codes "<") 61 n r (spelt (codes "<") s g.0.1) refl (λ r. refl) h g)
+  less_row _ g h = absurd (by_prefix mode k.Less k.LessEqual s (codes "<") 61 n r (spelt (codes "<") s g.0.1) refl (λ r. refl) h g)
 
   equal_row : (b : Kind) → IsLongest mode k.Equal s (n ++ r) → joins_with k.Equal s b n ≡ true → ⊥
   equal_row b g h = elim (or_cases (starts_with 61 n) (starts_with 62 n) h) [
-    | inl e ↦ by_front mode k.Equal k.DoubleEqual s (codes "=") 61 n r (spelt (codes "=") s g.0.1) refl (λ r. refl) e g
-    | inr e ↦ by_front mode k.Equal k.FatArrow s (codes "=") 62 n r (spelt (codes "=") s g.0.1) refl (λ r. refl) e g
+    | inl e ↦ by_prefix mode k.Equal k.DoubleEqual s (codes "=") 61 n r (spelt (codes "=") s g.0.1) refl (λ r. refl) e g
+    | inr e ↦ by_prefix mode k.Equal k.FatArrow s (codes "=") 62 n r (spelt (codes "=") s g.0.1) refl (λ r. refl) e g
   ]
 
   dot_row : (b : Kind) → IsLongest mode k.Dot s (n ++ r) → Spells other b n r → joins_with k.Dot s b n ≡ true → glues k.Dot b n ≡ true
@@ -130,10 +130,10 @@ module _ (mode other : Mode) (s n r : List ℕ) where
   rows k.Number b g w h = number_row b g w h
   rows k.DotIndex b g w h = absurd (dot_index_row b g w h)
   rows k.Less b g w h = less_row b g h
-  rows k.Greater b g w h = absurd (by_front mode k.Greater k.GreaterEqual s (codes ">") 61 n r (spelt (codes ">") s g.0.1) refl (λ r. refl) h g)
+  rows k.Greater b g w h = absurd (by_prefix mode k.Greater k.GreaterEqual s (codes ">") 61 n r (spelt (codes ">") s g.0.1) refl (λ r. refl) h g)
   rows k.Equal b g w h = absurd (equal_row b g h)
-  rows k.Bang b g w h = absurd (by_front mode k.Bang k.NotEqual s (codes "!") 61 n r (spelt (codes "!") s g.0.1) refl (λ r. refl) h g)
-  rows k.Colon b g w h = absurd (by_front mode k.Colon k.DoubleColon s (codes ":") 58 n r (spelt (codes ":") s g.0.1) refl (λ r. refl) h g)
+  rows k.Bang b g w h = absurd (by_prefix mode k.Bang k.NotEqual s (codes "!") 61 n r (spelt (codes "!") s g.0.1) refl (λ r. refl) h g)
+  rows k.Colon b g w h = absurd (by_prefix mode k.Colon k.DoubleColon s (codes ":") 58 n r (spelt (codes ":") s g.0.1) refl (λ r. refl) h g)
   rows k.Dot b g w h = dot_row b g w h
   rows k.Slash b g w h = absurd (slash_row b g w h)
   rows k.InterpOpen b g w h = absurd (interp_row b g h)

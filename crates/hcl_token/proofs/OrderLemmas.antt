@@ -177,18 +177,18 @@ item_is text tokens last i at token o begins k =
     let before : List Pair = take i (pairs_of text tokens) in
     let gap : List ℕ = slice_range text from token.start in
     let spelling : List ℕ = slice_range text token.start token.stop in
-    let front : length (whole_text before []) ≡ from =
+    let leading : length (whole_text before []) ≡ from =
     ap length (text_is-before text tokens last i o.order) ∙ length-range text 0 from (omega arith) (omega (arith, k.gap, k.spelling, k.within))
     ∙ omega arith in
     let gap_len : length gap ≡ token.start - from = length-range text from token.start k.gap (omega (arith, k.spelling, k.within)) in
     let spelling_len : length spelling ≡ token.stop - token.start = length-range text token.start token.stop k.spelling k.within in
     let with_gap : length (whole_text before gap) ≡ token.start =
-    ap length (whole_text-append before gap) ∙ length-append (whole_text before []) gap ∙ omega (arith, front, gap_len, k.gap) in
+    ap length (whole_text-append before gap) ∙ length-append (whole_text before []) gap ∙ omega (arith, leading, gap_len, k.gap) in
     let with_token : length (whole_text before (gap ++ spelling)) ≡ token.stop =
     ap length (whole_text-append before (gap ++ spelling)) ∙ length-append (whole_text before []) (gap ++ spelling)
-    ∙ omega (arith, front, gap_len, spelling_len, k.gap, k.spelling, length-append gap spelling) in
+    ∙ omega (arith, leading, gap_len, spelling_len, k.gap, k.spelling, length-append gap spelling) in
     let item : Item = record { gap_at = at; start = token.start; stop = token.stop; kind = token.kind } in
-    same_item item _ _ _ (begins ∙ sym front) (sym with_gap) (sym with_token)
+    same_item item _ _ _ (begins ∙ sym leading) (sym with_gap) (sym with_token)
 
 -- ---- tokens by the lengths of their pairs
 

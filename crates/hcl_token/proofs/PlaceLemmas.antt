@@ -102,9 +102,9 @@ column-append_none at s t hs ht e =
     let same : list_any is_lf (s ++ t) ≡ list_any is_lf s = any-append_none s t e in
     elim (list_any is_lf s) as (λ v. list_any is_lf s ≡ v → (place_after_piece at s).column + clusters t ≡ (place_after_piece at (s ++ t)).column) [
       | true ↦ λ any.
-          let behind : clusters (last_line (s ++ t)) ≡ clusters (last_line s) + clusters t =
+          let following : clusters (last_line (s ++ t)) ≡ clusters (last_line s) + clusters t =
           ap clusters (last_line-append_none s t e) ∙ clusters-append (last_line s) t (ascii_last_line s hs) ht in
-          omega (arith, column-some at s any, column-some at (s ++ t) (same ∙ any), behind)
+          omega (arith, column-some at s any, column-some at (s ++ t) (same ∙ any), following)
       | false ↦ λ none. omega (arith, column-none at s none, column-none at (s ++ t) (same ∙ none), clusters-append s t hs ht)
     ] refl
 

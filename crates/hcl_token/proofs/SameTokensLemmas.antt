@@ -21,10 +21,10 @@ prefix_part s from to last h = take-take (to - from) (last - from) (drop from s)
 back_part : (s : List ℕ) (from to last : ℕ) → from ≤ to → to ≤ last → drop (to - from) (slice_range s from last) ≡ slice_range s to last
 back_part s from to last h k =
     let whole : last - from ≡ (to - from) + (last - to) = omega arith in
-    let behind : from + (to - from) ≡ to = omega arith in
+    let following : from + (to - from) ≡ to = omega arith in
     ap (λ n. drop (to - from) (take n (drop from s))) whole
     ∙ drop-take (to - from) (last - to) (drop from s)
-    ∙ ap (λ (l : List ℕ). take (last - to) l) (drop-drop (to - from) from s ∙ ap (λ n. drop n s) behind)
+    ∙ ap (λ (l : List ℕ). take (last - to) l) (drop-drop (to - from) from s ∙ ap (λ n. drop n s) following)
 
 parts_same : (a b : List ℕ) (g s p h t q : ℕ) → g ≤ s → s ≤ p → h ≤ t → t ≤ q → s - g ≡ t - h → slice_range a g p ≡ slice_range b h q
     → (slice_range a g s ≡ slice_range b h t) × (slice_range a s p ≡ slice_range b t q)

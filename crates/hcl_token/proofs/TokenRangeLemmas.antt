@@ -23,8 +23,8 @@ range_first text x tokens from to at s = record {
   bounded = s.bounded;
 }
 
-pub range_others : (text : List ℕ) (x : Span) (tokens : List Span) (from to : ℕ) (at behind : Place) → IsTokenRange text (x ∷ tokens) from to at → IsPlaceBounded behind x.stop → IsTokenRange text tokens x.stop to behind
-range_others text x tokens from to at behind s reached = record {
+pub range_others : (text : List ℕ) (x : Span) (tokens : List Span) (from to : ℕ) (at following : Place) → IsTokenRange text (x ∷ tokens) from to at → IsPlaceBounded following x.stop → IsTokenRange text tokens x.stop to following
+range_others text x tokens from to at following s reached = record {
   order = s.order.2;
   within = s.within;
   short = s.short;
@@ -47,14 +47,14 @@ along_first text tokens begin start i from at token h is a =
     let (to, s) = a.rest in
     range_first text token (drop (i + 1) tokens) from to at (subst (λ (l : List Span). IsTokenRange text l from to at) (split_at tokens i token h is) s)
 
-pub along_step : (text : List ℕ) (tokens : List Span) (begin : ℕ) (start : Place) (i from : ℕ) (at : Place) (token : Span) (behind : Place) → i < length tokens → token ≡ get_or tokens i token
-    → IsAlong text tokens begin start i from at → behind ≡ place_after_pair at (pair_at text from token) → IsPlaceBounded behind token.stop
-    → IsAlong text tokens begin start (i + 1) token.stop behind
-along_step text tokens begin start i from at token behind h is a e reached =
+pub along_step : (text : List ℕ) (tokens : List Span) (begin : ℕ) (start : Place) (i from : ℕ) (at : Place) (token : Span) (following : Place) → i < length tokens → token ≡ get_or tokens i token
+    → IsAlong text tokens begin start i from at → following ≡ place_after_pair at (pair_at text from token) → IsPlaceBounded following token.stop
+    → IsAlong text tokens begin start (i + 1) token.stop following
+along_step text tokens begin start i from at token following h is a e reached =
     let (to, s) = a.rest in
     let split : drop i tokens ≡ token ∷ drop (i + 1) tokens = split_at tokens i token h is in
     record {
-      rest = (to, range_others text token (drop (i + 1) tokens) from to at behind (subst (λ (l : List Span). IsTokenRange text l from to at) split s) reached);
+      rest = (to, range_others text token (drop (i + 1) tokens) from to at following (subst (λ (l : List Span). IsTokenRange text l from to at) split s) reached);
       value = ap (λ (p : Place). place_after_pairs p (pairs_from text token.stop (drop (i + 1) tokens))) e
           ∙ ap (λ (l : List Span). place_after_pairs at (pairs_from text from l)) (sym split)
           ∙ a.value;

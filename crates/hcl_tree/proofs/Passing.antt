@@ -24,20 +24,20 @@ module _ (ts : List Token) (d : ℕ) where
   pub begins : (i : ℕ) → members ts d i ≡ left (length ts) [] i
   begins i = at_depth ts d i
 
-  module _ (n : ℕ) (ms : List Member) (at : ℕ) {b : Bool} {behind : ℕ} (e : eat_newline ts at ≡ Ok (b, behind)) where
-    pub at_line : b ≡ true → left (suc n) ms at ≡ left n ms behind
+  module _ (n : ℕ) (ms : List Member) (at : ℕ) {b : Bool} {following : ℕ} (e : eat_newline ts at ≡ Ok (b, following)) where
+    pub at_line : b ≡ true → left (suc n) ms at ≡ left n ms following
     unfolding members_from
     at_line is = rw (e, is) refl
 
-    pub at_member : b ≡ false → {x : Member} {after_if_next : ℕ} → member_of ts d (deeper_members ts d) behind ≡ Ok (Some x, after_if_next) → left (suc n) ms at ≡ left n (ms ++ x ∷ []) after_if_next
+    pub at_member : b ≡ false → {x : Member} {after_if_next : ℕ} → member_of ts d (deeper_members ts d) following ≡ Ok (Some x, after_if_next) → left (suc n) ms at ≡ left n (ms ++ x ∷ []) after_if_next
     unfolding members_from
     at_member is found = rw (e, is, found) refl
 
-    pub at_none : b ≡ false → {after_if_next : ℕ} → member_of ts d (deeper_members ts d) behind ≡ Ok (None, after_if_next) → left (suc n) ms at ≡ Ok (ms, after_if_next)
+    pub at_none : b ≡ false → {after_if_next : ℕ} → member_of ts d (deeper_members ts d) following ≡ Ok (None, after_if_next) → left (suc n) ms at ≡ Ok (ms, after_if_next)
     unfolding members_from
     at_none is found = rw (e, is, found) refl
 
-    pub at_fault : b ≡ false → {f : TokenFault} → member_of ts d (deeper_members ts d) behind ≡ Err f → left (suc n) ms at ≡ Err f
+    pub at_fault : b ≡ false → {f : TokenFault} → member_of ts d (deeper_members ts d) following ≡ Err f → left (suc n) ms at ≡ Err f
     unfolding members_from
     at_fault is found = rw (e, is, found) refl
 
@@ -66,16 +66,16 @@ module _ (ts : List Token) (d i : ℕ) where
   body_refused f at is h other = unread_body f (subst (λ n. members ts d n ≡ Err f) is (h other))
 
   -- and so is what follows it
-  pub end_refused : (ms : List Member) (f : TokenFault) (at j behind : ℕ) → at ≡ after_if_next ts false k.Mark i → members ts d at ≡ Ok (ms, j) → behind ≡ after_if_next ts false k.LineComment j
-      → expect_end ts (next_kind ts false behind) behind ≡ Err f → file ts d i ≡ Err f
-  end_refused ms f at j behind is e is_behind h =
-      unread_end ms j f (subst (λ n. members ts d n ≡ Ok (ms, j)) is e) (subst (λ n. expect_end ts (next_kind ts false n) n ≡ Err f) is_behind h)
+  pub end_refused : (ms : List Member) (f : TokenFault) (at j following : ℕ) → at ≡ after_if_next ts false k.Mark i → members ts d at ≡ Ok (ms, j) → following ≡ after_if_next ts false k.LineComment j
+      → expect_end ts (next_kind ts false following) following ≡ Err f → file ts d i ≡ Err f
+  end_refused ms f at j following is e is_following h =
+      unread_end ms j f (subst (λ n. members ts d n ≡ Ok (ms, j)) is e) (subst (λ n. expect_end ts (next_kind ts false n) n ≡ Err f) is_following h)
 
   -- the tree of these members
   abbrev pub file_tree : List Member → ℕ → Tree
   file_tree ms j = node.tree (length ts) (node.body (first_token_in ts false (after_if_next ts false k.Mark i) j) j ms)
 
-  pub file_read : (ms : List Member) (at j behind new : ℕ) → at ≡ after_if_next ts false k.Mark i → members ts d at ≡ Ok (ms, j) → behind ≡ after_if_next ts false k.LineComment j
-      → expect_end ts (next_kind ts false behind) behind ≡ Ok (tt, new) → file ts d i ≡ Ok (file_tree ms j, new)
-  file_read ms at j behind new is e is_behind h =
-      whole_file ms j new (subst (λ n. members ts d n ≡ Ok (ms, j)) is e) (subst (λ n. expect_end ts (next_kind ts false n) n ≡ Ok (tt, new)) is_behind h)
+  pub file_read : (ms : List Member) (at j following new : ℕ) → at ≡ after_if_next ts false k.Mark i → members ts d at ≡ Ok (ms, j) → following ≡ after_if_next ts false k.LineComment j
+      → expect_end ts (next_kind ts false following) following ≡ Ok (tt, new) → file ts d i ≡ Ok (file_tree ms j, new)
+  file_read ms at j following new is e is_following h =
+      whole_file ms j new (subst (λ n. members ts d n ≡ Ok (ms, j)) is e) (subst (λ n. expect_end ts (next_kind ts false n) n ≡ Ok (tt, new)) is_following h)

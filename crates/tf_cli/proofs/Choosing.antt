@@ -11,13 +11,13 @@ use Rattle.tf_cli.specs.Choices.{choice_names, is_chosen}
 use Rattle.tf_cli.specs.declared.rule_choice.Choice.{Choice}
 
 -- each rule is at its number, so a number is that of one rule
-stands : (rule d : Rule) → get_or all_rules (index_of rule) d ≡ rule
-stands CommentSyntax d = refl
-stands rule d = refl
+rule_at_index : (rule d : Rule) → get_or all_rules (index_of rule) d ≡ rule
+rule_at_index CommentSyntax d = refl
+rule_at_index rule d = refl
 
 same_rule : (one other : Rule) → index_of one ≡ index_of other → one ≡ other
 same_rule one other e =
-    sym (stands one one) ∙ ap (λ k. get_or all_rules k one) e ∙ stands other one
+    sym (rule_at_index one one) ∙ ap (λ k. get_or all_rules k one) e ∙ rule_at_index other one
 
 or_true : (b : Bool) → (b || true) ≡ true
 or_true true = refl

@@ -17,11 +17,11 @@ pushed [] (n ∷ names) choice name are is = absurd are
 pushed (c ∷ choices) [] choice name are is = absurd are
 pushed (c ∷ choices) (n ∷ names) choice name are is = (are.0, pushed choices names choice name are.1 is)
 
-pub one_more_name : {X : Type 0} (shown : X → List ℕ) (names : List X) (i : ℕ) (d : X) (choices grown : List Choice) (choice : Choice)
+pub one_more_name : {X : Type 0} (shown : X → List ℕ) (names : List X) (i : ℕ) (d : X) (choices extended : List Choice) (choice : Choice)
     → i < length names → AreNames choices (map shown (take i names)) → IsName choice (shown (get_or names i d))
-    → grown ≡ choices ++ choice ∷ [] → AreNames grown (map shown (take (i + 1) names))
-one_more_name shown names i d choices grown choice below are is push =
-    subst (λ (l : List (List ℕ)). AreNames grown l) (sym (mapped shown names i d below))
+    → extended ≡ choices ++ choice ∷ [] → AreNames extended (map shown (take (i + 1) names))
+one_more_name shown names i d choices extended choice below are is push =
+    subst (λ (l : List (List ℕ)). AreNames extended l) (sym (mapped shown names i d below))
     (subst (λ (l : List Choice). AreNames l (map shown (take i names) ++ shown (get_or names i d) ∷ [])) (sym push)
     (pushed choices (map shown (take i names)) choice (shown (get_or names i d)) are is))
 

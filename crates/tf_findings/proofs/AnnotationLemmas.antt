@@ -30,8 +30,8 @@ lines_increase_put a (n ∷ ms) l m b h e = (h.0, lines_increase_put n.line ms l
 covers_not : (line at : ℕ) → line < at → covers_line line at ≡ false
 covers_not line at h = grind (arith, nat_tests)
 
-covers_past : (line at : ℕ) → at + 1 < line → covers_line line at ≡ false
-covers_past line at h = grind (arith, nat_tests)
+covers_no_later : (line at : ℕ) → at + 1 < line → covers_line line at ≡ false
+covers_no_later line at h = grind (arith, nat_tests)
 
 -- none that is after the line
 pub far : (rule : Rule) (line a : ℕ) (ms : List Annotation) (b : ℕ) → AreLinesIncreasing a ms b → line ≤ a → is_silenced_by rule line ms ≡ false
@@ -47,10 +47,10 @@ two_alone rule line a (n ∷ ms) b h le = ap (λ x. covers rule line n || x) (fa
 
 -- a mark that lies too far before the line does nothing
 pub passed : (rule : Rule) (line : ℕ) (m : Annotation) (ms : List Annotation) → m.line + 1 < line → is_silenced_by rule line (m ∷ ms) ≡ is_silenced_by rule line ms
-passed rule line m ms h = rw (covers_past line m.line h) refl
+passed rule line m ms h = rw (covers_no_later line m.line h) refl
 
-pub past_is : (a b : ℕ) → nat_lt a b ≡ true → a < b
-past_is a b e = grind (arith, nat_tests)
+pub nat_lt_is : (a b : ℕ) → nat_lt a b ≡ true → a < b
+nat_lt_is a b e = grind (arith, nat_tests)
 
 pub or_assoc : (a b c : Bool) → ((a || b) || c) ≡ (a || (b || c))
 or_assoc true b c = refl
@@ -66,16 +66,16 @@ last_below a (n ∷ ms) l b h = last_below n.line ms l b h.1
 
 -- ---- one more mark
 
-pub put_in : (old front new : List Annotation) (last mark : Annotation) → old ≡ front ++ last ∷ [] → AreLinesIncreasing 0 old mark.line → last.line ≡ mark.line → new ≡ front ++ mark ∷ [] → AreLinesIncreasing 0 new mark.line
-put_in old front new last mark is h e new_is = subst (λ l. AreLinesIncreasing 0 l mark.line) (sym new_is) (lines_increase_put 0 front last mark mark.line (subst (λ l. AreLinesIncreasing 0 l mark.line) is h) e)
+pub put_in : (old leading new : List Annotation) (last mark : Annotation) → old ≡ leading ++ last ∷ [] → AreLinesIncreasing 0 old mark.line → last.line ≡ mark.line → new ≡ leading ++ mark ∷ [] → AreLinesIncreasing 0 new mark.line
+put_in old leading new last mark is h e new_is = subst (λ l. AreLinesIncreasing 0 l mark.line) (sym new_is) (lines_increase_put 0 leading last mark mark.line (subst (λ l. AreLinesIncreasing 0 l mark.line) is h) e)
 
-pub put_after : (old front back new : List Annotation) (last mark : Annotation) → old ≡ front ++ last ∷ [] → AreLinesIncreasing 0 old mark.line → (last.line ≡ mark.line → ⊥)
-    → back ≡ front ++ last ∷ [] → new ≡ back ++ mark ∷ [] → AreLinesIncreasing 0 new mark.line
-put_after old front back new last mark is h other back_is new_is =
+pub put_after : (old leading back new : List Annotation) (last mark : Annotation) → old ≡ leading ++ last ∷ [] → AreLinesIncreasing 0 old mark.line → (last.line ≡ mark.line → ⊥)
+    → back ≡ leading ++ last ∷ [] → new ≡ back ++ mark ∷ [] → AreLinesIncreasing 0 new mark.line
+put_after old leading back new last mark is h other back_is new_is =
     let here = subst (λ l. AreLinesIncreasing 0 l mark.line) is h in
-    let cut = lines_increase_put 0 front last last mark.line here refl in
-    let below : last.line < mark.line = omega (arith, last_below 0 front last mark.line here, other) in
-    subst (λ l. AreLinesIncreasing 0 l mark.line) (sym new_is) (lines_increase_push 0 back mark last.line (subst (λ l. AreLinesIncreasing 0 l last.line) (sym back_is) cut) below)
+    let tokenized = lines_increase_put 0 leading last last mark.line here refl in
+    let below : last.line < mark.line = omega (arith, last_below 0 leading last mark.line here, other) in
+    subst (λ l. AreLinesIncreasing 0 l mark.line) (sym new_is) (lines_increase_push 0 back mark last.line (subst (λ l. AreLinesIncreasing 0 l last.line) (sym back_is) tokenized) below)
 
 -- ---- the marks that are left
 

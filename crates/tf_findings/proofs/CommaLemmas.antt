@@ -38,8 +38,8 @@ pub split_last : (t : List ℕ) → class_prefix_len NotComma t ≡ length t →
 split_last [] h = refl
 split_last (b ∷ bs) h = last_at (b == 44) b bs (class_prefix_len NotComma bs) (split_last bs) h
 
-front_cases : (t : List ℕ) → (class_prefix_len NotComma t < length t) ⊎ (class_prefix_len NotComma t ≡ length t)
-front_cases t = below (class_prefix_len NotComma t) (length t) (prefix_len-le-length (is_in_class NotComma) t)
+prefix_cases : (t : List ℕ) → (class_prefix_len NotComma t < length t) ⊎ (class_prefix_len NotComma t ≡ length t)
+prefix_cases t = below (class_prefix_len NotComma t) (length t) (prefix_len-le-length (is_in_class NotComma) t)
 
 or_assoc : (a b c : Bool) → (a || (b || c)) ≡ ((a || b) || c)
 or_assoc true b c = refl
@@ -56,7 +56,7 @@ known rule part parts met e = rw (e, ← or_assoc met (names_rule rule part) (li
 
 pub first_not : (rule : Rule) (t : List ℕ) (met : Bool) → is_name (take (class_prefix_len NotComma t) t) ≡ false
     → (list_all is_name (split_commas t) && (met || list_any (names_rule rule) (split_commas t))) ≡ false
-first_not rule t met e = elim (front_cases t) [
+first_not rule t met e = elim (prefix_cases t) [
   | inl more ↦ rw (split_more t more, e) refl
   | inr all ↦ rw (split_last t all, ← take_all (class_prefix_len NotComma t) t (omega (arith, all)), e) refl
 ]

@@ -23,8 +23,8 @@ both_hold false b h = absurd (cc)
 pub some_inj : (a b : Kind) → Some a ≡ Some b → a ≡ b
 some_inj a b e = cc e
 
-pub none_past : (pairs : List Pair) (i : ℕ) (kind : Kind) → length pairs ≤ i → Some kind ≡ kind_of pairs i → is_comment kind ≡ true
-none_past pairs i kind past is =
+pub none_from_end : (pairs : List Pair) (i : ℕ) (kind : Kind) → length pairs ≤ i → Some kind ≡ kind_of pairs i → is_comment kind ≡ true
+none_from_end pairs i kind past is =
     let none : kind_of pairs i ≡ None = ap (option_map (λ (q : Pair). q.kind)) (slice_get_past pairs i past) in
     absurd cc
 
@@ -58,14 +58,14 @@ none_joined pairs from middle to a b = record {
 }
 
 -- at a token, or after the last
-pub comment_or_past : (pairs : List Pair) (i : ℕ) → (i < length pairs → (kind : Kind) → Some kind ≡ kind_of pairs i → is_comment kind ≡ true) → (kind : Kind) → Some kind ≡ kind_of pairs i → is_comment kind ≡ true
-comment_or_past pairs i there kind is = elim (cases_lt i (length pairs)) [
+pub comment_or_end : (pairs : List Pair) (i : ℕ) → (i < length pairs → (kind : Kind) → Some kind ≡ kind_of pairs i → is_comment kind ≡ true) → (kind : Kind) → Some kind ≡ kind_of pairs i → is_comment kind ≡ true
+comment_or_end pairs i there kind is = elim (cases_lt i (length pairs)) [
   | inl l ↦ there l kind is
-  | inr more ↦ none_past pairs i kind (omega (arith, more)) is
+  | inr more ↦ none_from_end pairs i kind (omega (arith, more)) is
 ]
 
 -- at and after the two places the same is found and silenced
-pub record GoesOn (pairs : List Pair) (i j : ℕ) : Type 0 where
+pub record ContinuesAt (pairs : List Pair) (i j : ℕ) : Type 0 where
   pub found : (rules : RuleSet) → valid_findings (length pairs) (found_from rules i (drop i pairs)) ≡ valid_findings (length pairs) (found_from rules j (drop j pairs))
   pub silence : (rule : Rule) (line : ℕ) → silenced_from pairs rule line i (drop i pairs) ≡ silenced_from pairs rule line j (drop j pairs)
 
@@ -75,7 +75,7 @@ kind_there pairs i below = elim (slice_get_cases pairs i).1 [
   | inr (past, none) ↦ absurd (omega arith)
 ]
 
-one_on : (pairs : List Pair) (i : ℕ) → i < length pairs → ((kind : Kind) → Some kind ≡ kind_of pairs i → IsNoComment kind) → GoesOn pairs i (i + 1)
+one_on : (pairs : List Pair) (i : ℕ) → i < length pairs → ((kind : Kind) → Some kind ≡ kind_of pairs i → IsNoComment kind) → ContinuesAt pairs i (i + 1)
 one_on pairs i below none =
     let k = kind_there pairs i below in
     let quiet = none k.0 k.1 in
@@ -84,20 +84,20 @@ one_on pairs i below none =
       silence = λ rule line. sym (quiet_step pairs rule line i below (quiet_kind pairs rule line i k.0 k.1 (λ spelling. quiet.silences_none spelling rule)));
     }
 
-on_by : (pairs : List Pair) (from k : ℕ) → from + k ≤ length pairs → AreNoComments pairs from (from + k) → GoesOn pairs from (from + k)
+on_by : (pairs : List Pair) (from k : ℕ) → from + k ≤ length pairs → AreNoComments pairs from (from + k) → ContinuesAt pairs from (from + k)
 on_by pairs from zero fits h =
     let e : from ≡ from + zero = omega arith in
-    subst (λ (j : ℕ). GoesOn pairs from j) e (record { found = λ rules. refl; silence = λ rule line. refl })
+    subst (λ (j : ℕ). ContinuesAt pairs from j) e (record { found = λ rules. refl; silence = λ rule line. refl })
 on_by pairs from (suc k) fits h =
     let e : (from + k) + 1 ≡ from + suc k = omega arith in
     let before = on_by pairs from k (omega (arith, fits)) (record { each = λ n below above kind is. h.each n below (omega (arith, above)) kind is }) in
     let last = one_on pairs (from + k) (omega (arith, fits)) (λ kind is. h.each (from + k) (omega arith) (omega arith) kind is) in
-    subst (λ (j : ℕ). GoesOn pairs from j) e (record {
+    subst (λ (j : ℕ). ContinuesAt pairs from j) e (record {
       found = λ rules. before.found rules ∙ last.found rules;
       silence = λ rule line. before.silence rule line ∙ last.silence rule line;
     })
 
-pub goes_on : (pairs : List Pair) (from to : ℕ) → from ≤ to → to ≤ length pairs → AreNoComments pairs from to → GoesOn pairs from to
-goes_on pairs from to order fits h =
+pub comments_continue : (pairs : List Pair) (from to : ℕ) → from ≤ to → to ≤ length pairs → AreNoComments pairs from to → ContinuesAt pairs from to
+comments_continue pairs from to order fits h =
     let e : from + (to - from) ≡ to = omega (arith, order) in
-    subst (λ (j : ℕ). GoesOn pairs from j) e (on_by pairs from (to - from) (omega (arith, e, fits)) (subst (λ (j : ℕ). AreNoComments pairs from j) (sym e) h))
+    subst (λ (j : ℕ). ContinuesAt pairs from j) e (on_by pairs from (to - from) (omega (arith, e, fits)) (subst (λ (j : ℕ). AreNoComments pairs from j) (sym e) h))

@@ -27,7 +27,7 @@ use Rattle.tf_rules.specs.Rules.Interpolation.{sole_interpolation}
 use Rattle.tf_rules.specs.NodeFindings.{node_findings}
 use Rattle.tf_rules.specs.Preorder as nodes
 use Rattle.tf_rules.specs.Preorder.{Node}
-use Rattle.tf_findings.proofs.FilterLemmas.{filter_all, filter_none, filter_turned, filter_permutation, each_kept, each_in_order}
+use Rattle.tf_findings.proofs.FilterLemmas.{filter_all, filter_none, filter_commutes, filter_permutation, each_kept, each_in_order}
 use Rattle.tf_rules.proofs.FoundBy.CommentSyntax as comment_syntax
 use Rattle.tf_rules.proofs.FoundBy.Equality as equality
 use Rattle.tf_rules.proofs.FoundBy.Index as index
@@ -55,15 +55,15 @@ use Rattle.tf_rules.specs.Spelling.{token_text}
 -- ---- rules and their ranks
 
 -- each rule is at its number
-stands : (rule : Rule) → slice_get all_rules (index_of rule) ≡ Some rule
-stands CommentSyntax = refl
-stands rule = refl
+rule_at_index : (rule : Rule) → slice_get all_rules (index_of rule) ≡ Some rule
+rule_at_index CommentSyntax = refl
+rule_at_index rule = refl
 
 -- a rule's rank is its own
 same_rule : (other rule : Rule) → (rank other == rank rule) ≡ true → other ≡ rule
 same_rule other rule h =
     let one : index_of other ≡ index_of rule = grind (arith, nat_tests) in
-    let both : Some other ≡ Some rule = sym (stands other) ∙ (ap (slice_get all_rules) one ∙ stands rule) in
+    let both : Some other ≡ Some rule = sym (rule_at_index other) ∙ (ap (slice_get all_rules) one ∙ rule_at_index rule) in
     cc both
 
 -- the set of one rule has a rule where their ranks are one
@@ -182,7 +182,7 @@ found_by_one rules rule pairs members found has a =
     let named = all_findings rules pairs members a.nodes in
     let whole = valid_findings (length pairs) named in
     let part : filter p whole ≡ valid_findings (length pairs) (all_findings (only rule) pairs members a.nodes) =
-    filter_turned p (is_valid (length pairs)) named ∙ ap (valid_findings (length pairs)) ((all rules rule has pairs members a.nodes).is) in
+    filter_commutes p (is_valid (length pairs)) named ∙ ap (valid_findings (length pairs)) ((all rules rule has pairs members a.nodes).is) in
     let lt = λ (x y : Finding). is_lt (report_order x y) in
     let loud = λ (f : Finding). not (is_silenced pairs f) in
     record {
@@ -191,8 +191,8 @@ found_by_one rules rule pairs members found has a =
       all = filter p a.all;
       same = subst (λ l. IsPermutation l (filter p a.all)) part (filter_permutation p whole a.all a.same);
       sorted = IsSortedBy-filter lt (ranks_by total (λ (f : Finding). f)) p a.all a.sorted;
-      stable = λ x. filter_turned (ties lt x) p a.all ∙ ap (filter p) (a.stable x) ∙ filter_turned p (ties lt x) whole ∙ ap (filter (ties lt x)) part;
-      kept = ap (filter p) a.kept ∙ filter_turned p loud a.all;
+      stable = λ x. filter_commutes (ties lt x) p a.all ∙ ap (filter p) (a.stable x) ∙ filter_commutes p (ties lt x) whole ∙ ap (filter (ties lt x)) part;
+      kept = ap (filter p) a.kept ∙ filter_commutes p loud a.all;
     }
 
 -- ---- where what one rule finds comes from

@@ -32,12 +32,12 @@ module _ {rules : RuleSet} {pairs : List Pair} where
   whole n {xs} {ys} {zs} e c = visit (subst (λ l. Collects rules pairs (children n) l zs) e c) no_nodes
 
   -- one turn of a loop over xs, where F gives the nodes of what is left of them
-  pub turn : {X : Type 0} (F : List X → List Node) (xs : List X) (i : ℕ) (x : X) (ns rest : List Node) {all : List Node} {begun old new : List Finding}
+  pub loop_step : {X : Type 0} (F : List X → List Node) (xs : List X) (i : ℕ) (x : X) (ns rest : List Node) {all : List Node} {begun old new : List Finding}
       → x ≡ get_or xs i x → i < length xs → F (x ∷ drop (i + 1) xs) ≡ ns ++ rest
       → ((zs : List Finding) → Collects rules pairs (F (drop i xs)) old zs → Collects rules pairs all begun zs)
       → Collects rules pairs ns old new
       → (zs : List Finding) → Collects rules pairs rest new zs → Collects rules pairs all begun zs
-  turn F xs i x ns rest is within e kept c zs d =
+  loop_step F xs i x ns rest is within e kept c zs d =
       kept zs (among (at_drop_more F xs i x within ∙ (ap (λ y. F (y ∷ drop (i + 1) xs)) (sym is) ∙ e)) (joined c d))
 
   -- the end of a loop

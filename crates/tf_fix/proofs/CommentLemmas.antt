@@ -79,17 +79,17 @@ two_after : (s text : List ℕ) → s ≡ codes "//" ++ text → s ≡ codes "//
 two_after s text e = e ∙ ap (λ t. codes "//" ++ drop 2 t) (sym e)
 
 one_pair : (pairs : List Pair) (first past : ℕ) (p : Pair) (rest : List Pair) → past ≡ first + 1 → drop first pairs ≡ p ∷ rest → slice_range pairs first past ≡ p ∷ []
-one_pair pairs first past p rest next front =
+one_pair pairs first past p rest next leading =
     let one : past - first ≡ 1 = omega (arith, next) in
-    ap (λ n. take n (drop first pairs)) one ∙ ap (λ t. take 1 t) front
+    ap (λ n. take n (drop first pairs)) one ∙ ap (λ t. take 1 t) leading
 
 is_taken : (pairs : List Pair) (f : Finding) → IsFixableWithin (length pairs) f → is_comment_fix f.fix ≡ true → IsSlashComment pairs f.first → IsTaken pairs f
 is_taken pairs f fits is comment =
     let next = slash_next f.first f.past f.fix is fits.1 in
-    let (p, found, front) = known pairs f.first (omega (arith, fits.0, fits.2)) in
+    let (p, found, leading) = known pairs f.first (omega (arith, fits.0, fits.2)) in
     let kind : Some p.kind ≡ Some LineComment = sym (ap (option_map (λ (q : Pair). q.kind)) found) ∙ comment.0 in
     let spelling : Some p.spelling ≡ Some (codes "//" ++ comment.1.0) = sym (ap (option_map (λ (q : Pair). q.spelling)) found) ∙ comment.1.1 in
-    let here : drop f.first pairs ≡ p ∷ drop f.past pairs = front ∙ ap (λ n. p ∷ drop n pairs) (sym next) in
+    let here : drop f.first pairs ≡ p ∷ drop f.past pairs = leading ∙ ap (λ n. p ∷ drop n pairs) (sym next) in
     record {
       comment = p;
       found = found;
@@ -240,32 +240,32 @@ comments_apart prev at pairs last (f ∷ fs) are a =
     let whole : drop at pairs ≡ before ++ (p ∷ drop f.past pairs) = drop_split pairs at f.first are.0 ∙ ap (λ ps. before ++ ps) t.prefix in
     let split : parts_of (drop at pairs) last ≡ pairs_parts before ++ (Gap p.gap ∷ Token p.kind p.spelling ∷ old) = ap (λ ps. parts_of ps last) whole ∙ parts_append before (p ∷ drop f.past pairs) last in
     let both = apart_parts prev (pairs_parts before) (Gap p.gap ∷ Token p.kind p.spelling ∷ old) (subst (Apart prev) split a) in
-    let behind : Apart (Some (LineComment, p.spelling)) old = subst (λ k. Apart (Some (k, p.spelling)) old) t.kind (token_after _ p.gap p.kind p.spelling old both.1) in
-    let rest = comments_apart (Some (LineComment, codes "#" ++ drop 2 p.spelling)) f.past pairs last fs are.2 (other_comment p.spelling (codes "#" ++ drop 2 p.spelling) old behind) in
+    let following : Apart (Some (LineComment, p.spelling)) old = subst (λ k. Apart (Some (k, p.spelling)) old) t.kind (token_after _ p.gap p.kind p.spelling old both.1) in
+    let rest = comments_apart (Some (LineComment, codes "#" ++ drop 2 p.spelling)) f.past pairs last fs are.2 (other_comment p.spelling (codes "#" ++ drop 2 p.spelling) old following) in
     let here = hash_apart (prev_after prev (pairs_parts before)) p.gap (drop 2 p.spelling) p.kind (parts_of more last) t.kind rest in
     let joined = apart_join prev (pairs_parts before) (Gap p.gap ∷ Token p.kind (codes "#" ++ drop 2 p.spelling) ∷ parts_of more last) both.0 here in
     let now : parts_of (fixed_pairs_from at pairs (f ∷ fs)) last ≡ pairs_parts before ++ (Gap p.gap ∷ Token p.kind (codes "#" ++ drop 2 p.spelling) ∷ parts_of more last) =
     ap (λ ps. parts_of (before ++ (ps ++ more)) last) t.has_fix ∙ parts_append before (fixed_comment p ∷ more) last in
     subst (Apart prev) (sym now) joined
 
-pub comments_settled : (rule : Rule) (cut : TokenizedText) (findings : List Finding) → is_comment_rule rule ≡ true → AreApart cut.pairs → AreOfRule rule cut.pairs findings → AreValidFindings (length cut.pairs) findings
-    → fix_step_text cut findings ≡ whole_text (fixed_pairs_from 0 cut.pairs (selected findings)) cut.last
-comments_settled rule cut findings is apart of sound =
-    let new = fixed_pairs_from 0 cut.pairs (selected findings) in
-    let a : Apart None (parts_of new cut.last) = comments_apart None 0 cut.pairs cut.last (selected findings) (all_comments rule cut.pairs findings is of sound) (apart_text cut.pairs cut.last apart) in
-    sym (pairs_settled None new cut.last) ∙ ap text_of_parts (stays_same None (parts_of new cut.last) a) ∙ parts_written new cut.last
+pub comments_settled : (rule : Rule) (tokenized : TokenizedText) (findings : List Finding) → is_comment_rule rule ≡ true → AreApart tokenized.pairs → AreOfRule rule tokenized.pairs findings → AreValidFindings (length tokenized.pairs) findings
+    → fix_step_text tokenized findings ≡ whole_text (fixed_pairs_from 0 tokenized.pairs (selected findings)) tokenized.last
+comments_settled rule tokenized findings is apart of sound =
+    let new = fixed_pairs_from 0 tokenized.pairs (selected findings) in
+    let a : Apart None (parts_of new tokenized.last) = comments_apart None 0 tokenized.pairs tokenized.last (selected findings) (all_comments rule tokenized.pairs findings is of sound) (apart_text tokenized.pairs tokenized.last apart) in
+    sym (pairs_settled None new tokenized.last) ∙ ap text_of_parts (stays_same None (parts_of new tokenized.last) a) ∙ parts_written new tokenized.last
 
 -- ---- the whole step
 
-pub comments_before : (rule : Rule) (cut : TokenizedText) (findings : List Finding) → is_comment_rule rule ≡ true → AreOfRule rule cut.pairs findings → AreValidFindings (length cut.pairs) findings
-    → old_text (comment_pieces 0 cut.pairs cut.last (selected findings)) ≡ whole_text cut.pairs cut.last
-comments_before rule cut findings is of sound = pieces_before 0 cut.pairs cut.last (selected findings) (all_comments rule cut.pairs findings is of sound)
+pub comments_before : (rule : Rule) (tokenized : TokenizedText) (findings : List Finding) → is_comment_rule rule ≡ true → AreOfRule rule tokenized.pairs findings → AreValidFindings (length tokenized.pairs) findings
+    → old_text (comment_pieces 0 tokenized.pairs tokenized.last (selected findings)) ≡ whole_text tokenized.pairs tokenized.last
+comments_before rule tokenized findings is of sound = pieces_before 0 tokenized.pairs tokenized.last (selected findings) (all_comments rule tokenized.pairs findings is of sound)
 
-pub comments_after : (rule : Rule) (cut : TokenizedText) (findings : List Finding) → is_comment_rule rule ≡ true → AreApart cut.pairs → AreOfRule rule cut.pairs findings → AreValidFindings (length cut.pairs) findings
-    → new_text (comment_pieces 0 cut.pairs cut.last (selected findings)) ≡ fix_step_text cut findings
-comments_after rule cut findings is apart of sound =
-    pieces_after 0 cut.pairs cut.last (selected findings) (all_comments rule cut.pairs findings is of sound) ∙ sym (comments_settled rule cut findings is apart of sound)
+pub comments_after : (rule : Rule) (tokenized : TokenizedText) (findings : List Finding) → is_comment_rule rule ≡ true → AreApart tokenized.pairs → AreOfRule rule tokenized.pairs findings → AreValidFindings (length tokenized.pairs) findings
+    → new_text (comment_pieces 0 tokenized.pairs tokenized.last (selected findings)) ≡ fix_step_text tokenized findings
+comments_after rule tokenized findings is apart of sound =
+    pieces_after 0 tokenized.pairs tokenized.last (selected findings) (all_comments rule tokenized.pairs findings is of sound) ∙ sym (comments_settled rule tokenized findings is apart of sound)
 
-pub comments_edits : (rule : Rule) (cut : TokenizedText) (findings : List Finding) → is_comment_rule rule ≡ true → AreOfRule rule cut.pairs findings → AreValidFindings (length cut.pairs) findings
-    → changed_entries 0 (comment_pieces 0 cut.pairs cut.last (selected findings)) ≡ map (comment_edit cut.pairs) (selected findings)
-comments_edits rule cut findings is of sound = pieces_entries 0 0 cut.pairs cut.last (selected findings) (all_comments rule cut.pairs findings is of sound) refl
+pub comments_edits : (rule : Rule) (tokenized : TokenizedText) (findings : List Finding) → is_comment_rule rule ≡ true → AreOfRule rule tokenized.pairs findings → AreValidFindings (length tokenized.pairs) findings
+    → changed_entries 0 (comment_pieces 0 tokenized.pairs tokenized.last (selected findings)) ≡ map (comment_edit tokenized.pairs) (selected findings)
+comments_edits rule tokenized findings is of sound = pieces_entries 0 0 tokenized.pairs tokenized.last (selected findings) (all_comments rule tokenized.pairs findings is of sound) refl

@@ -29,30 +29,30 @@ pub first_change : (xs : List TextPart) (prev : Prev) (at : ℕ) (r : Replacemen
       removed = text_of_parts (slice_range xs r.from r.to);
       added = added (prev_after prev (slice_range xs at r.from)) r.inserted_parts (stays_until r.to xs rs);
     } ∷ changed_entries (length (text_of_parts (take r.to xs))) (pieces_from (prev_after (prev_after prev (slice_range xs at r.from)) r.inserted_parts) r.to xs rs)
-first_change xs prev at r rs kept gone =
+first_change xs prev at r rs kept slice_written =
     let there = prev_after prev (slice_range xs at r.from) in
     let more = pieces_from (prev_after there r.inserted_parts) r.to xs rs in
     let change : ℕ → EditEntry = λ n. record { at = n; removed = text_of_parts (slice_range xs r.from r.to); added = added there r.inserted_parts (stays_until r.to xs rs) } in
     ap (λ n. change n ∷ changed_entries (n + length (text_of_parts (slice_range xs r.from r.to))) more) (sym (length_written xs at r.from kept))
-    ∙ ap (λ n. change (length (text_of_parts (take r.from xs))) ∷ changed_entries n more) (sym (length_written xs r.from r.to gone))
+    ∙ ap (λ n. change (length (text_of_parts (take r.from xs))) ∷ changed_entries n more) (sym (length_written xs r.from r.to slice_written))
 
 -- what the loop keeps
-abbrev pub IsTold : List Pair → List ℕ → List EditEntry → List EditEntry → Prev → ℕ → List Replacing → Type 0
-IsTold pairs last whole done prev at left =
+abbrev pub IsCompared : List Pair → List ℕ → List EditEntry → List EditEntry → Prev → ℕ → List Replacing → Type 0
+IsCompared pairs last whole done prev at left =
     (done ++ changed_entries (length (text_of_parts (take at (parts_of pairs last)))) (pieces_from prev at (parts_of pairs last) (replacements pairs left)) ≡ whole)
     × AreInOrder at (replacements pairs left) (2 * length pairs)
     × HaveBytes pairs left
 
-pub turn : (pairs : List Pair) (last : List ℕ) (whole done : List EditEntry) (e : EditEntry) (prev there : Prev) (at : ℕ) (one : Replacing) (rest : List Replacing)
-    → IsTold pairs last whole done prev at (one ∷ rest)
+pub loop_step : (pairs : List Pair) (last : List ℕ) (whole done : List EditEntry) (e : EditEntry) (prev there : Prev) (at : ℕ) (one : Replacing) (rest : List Replacing)
+    → IsCompared pairs last whole done prev at (one ∷ rest)
     → there ≡ prev_after prev (slice_range (parts_of pairs last) at (boundary_index one.from))
     → e ≡ record {
       at = length (text_of_parts (take (boundary_index one.from) (parts_of pairs last)));
       removed = text_of_parts (slice_range (parts_of pairs last) (boundary_index one.from) (boundary_index one.to));
       added = added there (replacement_parts pairs one.from one.to one.first one.insertion) (slice_range (parts_of pairs last) (boundary_index one.to) (next_index (2 * length pairs + 1) (replacements pairs rest)));
     }
-    → IsTold pairs last whole (done ++ e ∷ []) (prev_after there (replacement_parts pairs one.from one.to one.first one.insertion)) (boundary_index one.to) rest
-turn pairs last whole done e prev there at one rest told near_is e_is =
+    → IsCompared pairs last whole (done ++ e ∷ []) (prev_after there (replacement_parts pairs one.from one.to one.first one.insertion)) (boundary_index one.to) rest
+loop_step pairs last whole done e prev there at one rest told near_is e_is =
     let xs = parts_of pairs last in
     let stay = staying_is pairs last (boundary_index one.to) (replacements pairs rest) in
     let next = first_change xs prev at (record { from = boundary_index one.from; to = boundary_index one.to; inserted_parts = replacement_parts pairs one.from one.to one.first one.insertion }) (replacements pairs rest) told.1.0 told.1.1 in

@@ -20,10 +20,10 @@ pub has_itself : (rule : Rule) → has_rule (only rule) rule ≡ true
 has_itself CommentSyntax = refl
 has_itself rule = refl
 
-pub step_of : (rule : Rule) (p : Parsed) (cut : TokenizedText) (found : List Finding) (count : ℕ) (edits : EditList) → p.scanned ≡ cut → RulesFind (only rule) p found
-    → count ≡ step_count_of found → edits ≡ fix_step_edits rule cut found → Transforms edits cut.text (fix_step_text cut found) → length (fix_step_text cut found) ≤ MAX_TEXT
+pub step_of : (rule : Rule) (p : Parsed) (tokenized : TokenizedText) (found : List Finding) (count : ℕ) (edits : EditList) → p.scanned ≡ tokenized → RulesFind (only rule) p found
+    → count ≡ step_count_of found → edits ≡ fix_step_edits rule tokenized found → Transforms edits tokenized.text (fix_step_text tokenized found) → length (fix_step_text tokenized found) ≤ MAX_TEXT
     → IsFixStep rule p count edits
-step_of rule p cut found count edits same finds counted made turns short = record {
+step_of rule p tokenized found count edits same finds counted made turns short = record {
   found = found;
   findings_are = finds;
   edits_are = made ∙ ap (λ (s : TokenizedText). fix_step_edits rule s found) (sym same);
@@ -32,9 +32,9 @@ step_of rule p cut found count edits same finds counted made turns short = recor
   count_is = counted;
 }
 
-pub too_long : (rule : Rule) (p : Parsed) (cut : TokenizedText) (found : List Finding) (fault : LintFault) → p.scanned ≡ cut → RulesFind (only rule) p found
-    → (fault ≡ Memory) ⊎ ((fault ≡ TooLong) × (MAX_TEXT < length (fix_step_text cut found)))
+pub too_long : (rule : Rule) (p : Parsed) (tokenized : TokenizedText) (found : List Finding) (fault : LintFault) → p.scanned ≡ tokenized → RulesFind (only rule) p found
+    → (fault ≡ Memory) ⊎ ((fault ≡ TooLong) × (MAX_TEXT < length (fix_step_text tokenized found)))
     → (fault ≡ Memory) ⊎ ((fault ≡ TooLong) × IsTooLong rule p)
-too_long rule p cut found fault same finds (inl memory) = inl memory
-too_long rule p cut found fault same finds (inr (is, long)) =
+too_long rule p tokenized found fault same finds (inl memory) = inl memory
+too_long rule p tokenized found fault same finds (inr (is, long)) =
     inr (is, (found, finds, subst (λ (s : TokenizedText). MAX_TEXT < length (fix_step_text s found)) (sym same) long))

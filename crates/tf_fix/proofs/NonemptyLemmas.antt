@@ -30,7 +30,7 @@ use Rattle.tf_fix.specs.Parts.{TextPart, parts_of, text_of_parts}
 use Rattle.tf_fix.specs.Parts.TextPart.{Gap, Token}
 use Rattle.tf_fix.specs.Replacements.{Replacement, stays_until, space_before, pieces_from}
 use Rattle.tf_fix.specs.SettledSpaces.{Prev, prev_after, joins_prev, settled, space}
-use Rattle.tf_fix.proofs.PartLemmas.{known, gap_front, token_front, range_first}
+use Rattle.tf_fix.proofs.PartLemmas.{known, gap_and_token_first, token_first, range_first}
 use Rattle.tf_fix.proofs.SelectionLemmas.{AreTaken, kept_le}
 
 -- ---- the markers of heredocs
@@ -164,9 +164,9 @@ a_byte InterpOpen s rest modes n (st, inr e) = omega (arith, ap length e)
 a_byte DirectiveOpen s rest modes n (st, inl e) = omega (arith, ap length e)
 a_byte DirectiveOpen s rest modes n (st, inr e) = omega (arith, ap length e)
 a_byte QuoteLit s rest modes n (st, (some, run)) = not_empty s some
-a_byte HereClose s rest modes n (st, (before, behind, e, blank, blanks, ends)) =
+a_byte HereClose s rest modes n (st, (before, following, e, is_white, all_white, ends)) =
     let some = marker_named modes (and_parts (is_heredoc (mode_of modes)) (is_at_line_start (mode_of modes)) st).0 n in
-    omega (arith, ap length e, length-append before (marker (mode_of modes) ++ behind), length-append (marker (mode_of modes)) behind, some)
+    omega (arith, ap length e, length-append before (marker (mode_of modes) ++ following), length-append (marker (mode_of modes)) following, some)
 a_byte HereLit s rest modes n (st, (some, run)) = not_empty s some
 a_byte kind s rest modes n (st, e) = fixed_some (fixed_spelling kind) s (filled kind) e
 
@@ -178,15 +178,15 @@ pairs_nonempty (p ∷ ps) modes left rest n c =
       pairs_nonempty ps (modes_after p.kind p.spelling modes) left rest (named_after p.kind p.spelling (whole_text ps rest) modes here.1 n) c.2,
     )
 
-front_nonempty : (text : List ℕ) (body : List Pair) → AreNonempty body → AreNonempty (mark_prefix text ++ body)
-front_nonempty text body are =
+mark_nonempty : (text : List ℕ) (body : List Pair) → AreNonempty body → AreNonempty (mark_prefix text ++ body)
+mark_nonempty text body are =
     elim (is_prefix_of byte_order_mark text) as (λ b. is_prefix_of byte_order_mark text ≡ b → AreNonempty (mark_prefix text ++ body)) [
       | true ↦ λ h. rw h (omega arith, are)
       | false ↦ λ h. rw h are
     ] refl
 
-pub cut_nonempty : (text : List ℕ) (pairs : List Pair) (last : List ℕ) → IsTokenization text pairs last → AreNonempty pairs
-cut_nonempty text pairs last c = subst AreNonempty (sym c.tokenizes.prefix) (front_nonempty text c.tokenizes.body (pairs_nonempty c.tokenizes.body [] [] last tt c.tokenizes.tokenizes))
+pub tokens_nonempty : (text : List ℕ) (pairs : List Pair) (last : List ℕ) → IsTokenization text pairs last → AreNonempty pairs
+tokens_nonempty text pairs last c = subst AreNonempty (sym c.tokenizes.prefix) (mark_nonempty text c.tokenizes.body (pairs_nonempty c.tokenizes.body [] [] last tt c.tokenizes.tokenizes))
 
 -- a text has no fewer bytes than tokens
 nonempty_length : (pairs : List Pair) (last : List ℕ) → AreNonempty pairs → length pairs ≤ length (whole_text pairs last)
@@ -200,7 +200,7 @@ nonempty_length (p ∷ pairs) last are =
 
 pub few_tokens : (text : List ℕ) (pairs : List Pair) (last : List ℕ) → IsTokenization text pairs last → length pairs ≤ 16777216
 few_tokens text pairs last c =
-    let more = nonempty_length pairs last (cut_nonempty text pairs last c) in
+    let more = nonempty_length pairs last (tokens_nonempty text pairs last c) in
     let whole = ap length c.tokenizes.text_is in
     omega (arith, more, whole, c.short)
 
@@ -211,34 +211,34 @@ nonempty_at (q ∷ pairs) (suc i) p are found = nonempty_at pairs i p are.1 foun
 
 pub has_byte : (pairs : List Pair) (i : ℕ) → AreNonempty pairs → i < length pairs → HasByte pairs i
 has_byte pairs i are lt =
-    let (p, found, front) = known pairs i lt in
+    let (p, found, leading) = known pairs i lt in
     let some = nonempty_at pairs i p are found in
     let same : spelling_at pairs i ≡ p.spelling = ap (λ o. unwrap_or (option_map (λ (q : Pair). q.spelling) o) []) found in
     (lt, omega (arith, some, ap length same))
 
 -- ---- what goes
 
-token_goes : (pairs : List Pair) (last : List ℕ) (i to : ℕ) → AreNonempty pairs → i < length pairs → 2 * i + 1 < to → 0 < length (text_of_parts (slice_range (parts_of pairs last) (2 * i + 1) to))
-token_goes pairs last i to are lt past =
-    let (p, found, front) = known pairs i lt in
+token_nonempty : (pairs : List Pair) (last : List ℕ) (i to : ℕ) → AreNonempty pairs → i < length pairs → 2 * i + 1 < to → 0 < length (text_of_parts (slice_range (parts_of pairs last) (2 * i + 1) to))
+token_nonempty pairs last i to are lt past =
+    let (p, found, leading) = known pairs i lt in
     let some = nonempty_at pairs i p are found in
-    let first = range_first (parts_of pairs last) (2 * i + 1) to (Token p.kind p.spelling) _ past (token_front pairs last i p found) in
+    let first = range_first (parts_of pairs last) (2 * i + 1) to (Token p.kind p.spelling) _ past (token_first pairs last i p found) in
     let size = ap (λ t. length (text_of_parts t)) first ∙ length-append p.spelling _ in
     omega (arith, some, size)
 
-two_go : (gap : List ℕ) (kind : Kind) (spelling : List ℕ) (k : ℕ) (rest : List TextPart) → 2 ≤ k → 0 < length spelling → 0 < length (text_of_parts (take k (Gap gap ∷ Token kind spelling ∷ rest)))
-two_go gap kind spelling zero rest le some = absurd (omega (arith, le))
-two_go gap kind spelling (suc zero) rest le some = absurd (omega (arith, le))
-two_go gap kind spelling (suc (suc k)) rest le some =
+two_nonempty : (gap : List ℕ) (kind : Kind) (spelling : List ℕ) (k : ℕ) (rest : List TextPart) → 2 ≤ k → 0 < length spelling → 0 < length (text_of_parts (take k (Gap gap ∷ Token kind spelling ∷ rest)))
+two_nonempty gap kind spelling zero rest le some = absurd (omega (arith, le))
+two_nonempty gap kind spelling (suc zero) rest le some = absurd (omega (arith, le))
+two_nonempty gap kind spelling (suc (suc k)) rest le some =
     let a = length-append gap (spelling ++ text_of_parts (take k rest)) in
     let b = length-append spelling (text_of_parts (take k rest)) in
     omega (arith, some, a, b)
 
-gap_goes : (pairs : List Pair) (last : List ℕ) (i to : ℕ) → AreNonempty pairs → i < length pairs → 2 * i + 2 ≤ to → 0 < length (text_of_parts (slice_range (parts_of pairs last) (2 * i) to))
-gap_goes pairs last i to are lt past =
-    let (p, found, front) = known pairs i lt in
+gap_nonempty : (pairs : List Pair) (last : List ℕ) (i to : ℕ) → AreNonempty pairs → i < length pairs → 2 * i + 2 ≤ to → 0 < length (text_of_parts (slice_range (parts_of pairs last) (2 * i) to))
+gap_nonempty pairs last i to are lt past =
+    let (p, found, leading) = known pairs i lt in
     let some = nonempty_at pairs i p are found in
-    subst (λ t. 0 < length (text_of_parts (take (to - 2 * i) t))) (sym (gap_front pairs last i p found)) (two_go p.gap p.kind p.spelling (to - 2 * i) _ (omega (arith, past)) some)
+    subst (λ t. 0 < length (text_of_parts (take (to - 2 * i) t))) (sym (gap_and_token_first pairs last i p found)) (two_nonempty p.gap p.kind p.spelling (to - 2 * i) _ (omega (arith, past)) some)
 
 -- ---- each replacement takes something away or brings something
 
@@ -251,15 +251,15 @@ both_real xs [] ss a b = b
 both_real xs (r ∷ rs) ss a b = (a.0, both_real xs rs ss a.1 b)
 
 -- what is removed between two places has a byte, if the second is after more tokens
-goes : (pairs : List Pair) (last : List ℕ) (at n place skip to : ℕ) → AreNonempty pairs → place ≡ 2 * at + skip → skip ≤ 1 → at < n → n ≤ length pairs → 2 * n ≤ to
+removed_nonempty : (pairs : List Pair) (last : List ℕ) (at n place skip to : ℕ) → AreNonempty pairs → place ≡ 2 * at + skip → skip ≤ 1 → at < n → n ≤ length pairs → 2 * n ≤ to
     → 0 < length (text_of_parts (slice_range (parts_of pairs last) place to))
-goes pairs last at n place zero to are e le lt within past =
+removed_nonempty pairs last at n place zero to are e le lt within past =
     let same : place ≡ 2 * at = omega (arith, e) in
-    rw same (gap_goes pairs last at to are (omega (arith, lt, within)) (omega (arith, lt, past)))
-goes pairs last at n place (suc zero) to are e le lt within past =
+    rw same (gap_nonempty pairs last at to are (omega (arith, lt, within)) (omega (arith, lt, past)))
+removed_nonempty pairs last at n place (suc zero) to are e le lt within past =
     let same : place ≡ 2 * at + 1 = omega (arith, e) in
-    rw same (token_goes pairs last at to are (omega (arith, lt, within)) (omega (arith, lt, past)))
-goes pairs last at n place (suc (suc skip)) to are e le lt within past = absurd (omega (arith, le))
+    rw same (token_nonempty pairs last at to are (omega (arith, lt, within)) (omega (arith, lt, past)))
+removed_nonempty pairs last at n place (suc (suc skip)) to are e le lt within past = absurd (omega (arith, le))
 
 -- what comes where something is written
 brings : (pairs : List Pair) (first : ℕ) (w : Insertion) (skip : ℕ) (tail : List TextPart) (n : ℕ) → skip ≤ 1 → (w ≡ Nothing → ⊥) → 0 < n + length (text_of_parts (inserted_parts skip (inserted pairs first w) tail))
@@ -271,7 +271,7 @@ brings pairs first w (suc (suc skip)) tail n le some = absurd (omega (arith, le)
 real_one : (pairs : List Pair) (last : List ℕ) (first at n place skip to : ℕ) (w : Insertion) (tail : List TextPart) → AreNonempty pairs → place ≡ 2 * at + skip → skip ≤ 1
     → ChangesSomething w at n → n ≤ length pairs → 2 * n ≤ to
     → 0 < length (text_of_parts (slice_range (parts_of pairs last) place to)) + length (text_of_parts (inserted_parts skip (inserted pairs first w) tail))
-real_one pairs last first at n place skip to Nothing tail are e le some within past = omega (arith, goes pairs last at n place skip to are e le some within past)
+real_one pairs last first at n place skip to Nothing tail are e le some within past = omega (arith, removed_nonempty pairs last at n place skip to are e le some within past)
 real_one pairs last first at n place skip to w tail are e le some within past = brings pairs first w skip tail _ le (λ same. absurd (cc same))
 
 something : (first at past : ℕ) (w : Insertion) → ChangesEnd first w at past → ChangesSomething w at past
@@ -298,10 +298,10 @@ fixed_real pairs last first past (Some (Tokens before kept)) are le fits =
 
 pub selected_real : (pairs : List Pair) (last : List ℕ) (at : ℕ) (fs : List Finding) → AreNonempty pairs → AreTaken at pairs fs
     → AreReal (parts_of pairs last) (flat_map (finding_replacements pairs) fs)
-selected_real pairs last at [] are behind = tt
-selected_real pairs last at (f ∷ fs) are behind =
+selected_real pairs last at [] are following = tt
+selected_real pairs last at (f ∷ fs) are following =
     both_real (parts_of pairs last) (finding_replacements pairs f) (flat_map (finding_replacements pairs) fs)
-    (fixed_real pairs last f.first f.past f.fix are behind.1.0 behind.1.1) (selected_real pairs last f.past fs are behind.2)
+    (fixed_real pairs last f.first f.past f.fix are following.1.0 following.1.1) (selected_real pairs last f.past fs are following.2)
 
 -- ---- so each changed piece is an edit
 

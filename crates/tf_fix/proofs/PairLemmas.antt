@@ -28,7 +28,7 @@ use Rattle.tf_fix.specs.Parts.TextPart.{Gap, Token}
 use Rattle.tf_fix.specs.Replacements.{Replacement, replaced_from, replaced_text}
 use Rattle.tf_fix.specs.SettledSpaces.{Prev, joins_prev, settled, space}
 use Rattle.tf_fix.specs.Selection.{selected}
-use Rattle.tf_fix.proofs.PartLemmas.{known, range_last, range_none, gap_front, token_front, parts_drop}
+use Rattle.tf_fix.proofs.PartLemmas.{known, range_last, range_none, gap_and_token_first, token_first, parts_drop}
 use Rattle.tf_fix.proofs.SelectionLemmas.{AreTaken, selected_are, selected_of, kept_le}
 
 body_append : (ps qs : List Pair) → pairs_parts (ps ++ qs) ≡ pairs_parts ps ++ pairs_parts qs
@@ -63,16 +63,16 @@ whole_range pairs last a b le within =
 -- up to a token, with its gap
 open_range : (pairs : List Pair) (last : List ℕ) (a b : ℕ) → a ≤ b → b < length pairs → slice_range (parts_of pairs last) (2 * a) (2 * b + 1) ≡ pairs_parts (slice_range pairs a b) ++ Gap (gap_at pairs b) ∷ []
 open_range pairs last a b le within =
-    let (p, found, front) = known pairs b within in
+    let (p, found, leading) = known pairs b within in
     let gap : p.gap ≡ gap_at pairs b = ap (λ o. unwrap_or (option_map (λ (q : Pair). q.gap) o) []) (sym found) in
-    range_last (parts_of pairs last) (2 * a) (2 * b) (Gap p.gap) _ (omega (arith, le)) (gap_front pairs last b p found)
+    range_last (parts_of pairs last) (2 * a) (2 * b) (Gap p.gap) _ (omega (arith, le)) (gap_and_token_first pairs last b p found)
     ∙ ap (λ t. t ++ Gap p.gap ∷ []) (whole_range pairs last a b le (omega (arith, within)))
     ∙ ap (λ g. pairs_parts (slice_range pairs a b) ++ Gap g ∷ []) gap
 
 -- from a token on, after another gap
 inner_range : (pairs : List Pair) (last gap : List ℕ) (a b : ℕ) → a < b → b ≤ length pairs → Gap gap ∷ slice_range (parts_of pairs last) (2 * a + 1) (2 * b) ≡ pairs_parts (with_gap gap (slice_range pairs a b))
 inner_range pairs last gap a b lt within =
-    let (p, found, front) = known pairs a (omega (arith, lt, within)) in
+    let (p, found, leading) = known pairs a (omega (arith, lt, within)) in
     let k = b - a - 1 in
     let parts_count : 2 * b - (2 * a + 1) ≡ suc (2 * k) = omega (arith, lt) in
     let pairs_count : b - a ≡ suc k = omega (arith, lt) in
@@ -81,9 +81,9 @@ inner_range pairs last gap a b lt within =
     let rest : take (2 * k) (drop (2 * a + 2) (parts_of pairs last)) ≡ pairs_parts (take k (drop (a + 1) pairs)) =
     ap (λ n. take (2 * k) (drop n (parts_of pairs last))) next ∙ ap (λ t. take (2 * k) t) (parts_drop pairs last (a + 1) (omega (arith, lt, within)))
     ∙ body_take k (drop (a + 1) pairs) last (omega (arith, left, lt, within)) in
-    let side : slice_range pairs a b ≡ p ∷ take k (drop (a + 1) pairs) = ap (λ n. take n (drop a pairs)) pairs_count ∙ ap (λ t. take (suc k) t) front in
+    let side : slice_range pairs a b ≡ p ∷ take k (drop (a + 1) pairs) = ap (λ n. take n (drop a pairs)) pairs_count ∙ ap (λ t. take (suc k) t) leading in
     ap (λ n. Gap gap ∷ take n (drop (2 * a + 1) (parts_of pairs last))) parts_count
-    ∙ ap (λ t. Gap gap ∷ take (suc (2 * k)) t) (token_front pairs last a p found)
+    ∙ ap (λ t. Gap gap ∷ take (suc (2 * k)) t) (token_first pairs last a p found)
     ∙ ap (λ t. Gap gap ∷ Token p.kind p.spelling ∷ t) rest
     ∙ sym (ap (λ t. pairs_parts (with_gap gap t)) side)
 
@@ -101,10 +101,10 @@ from_place pairs last first a place skip w (Some k ∷ kept) past rs =
     (sym (range_none xs place place (omega arith)))
 
 -- a range that is kept, and what follows it
-kept_one : (pairs : List Pair) (last gap : List ℕ) (first past : ℕ) (k : KeptTokens) (kept : List (Option KeptTokens)) (rs : List Replacement) (behind : List TextPart) → k.from < k.to → k.to ≤ length pairs
-    → replaced_from (2 * k.to) (parts_of pairs last) (replacements_from pairs first (2 * k.to) 0 k.after kept past ++ rs) ≡ behind
-    → Gap gap ∷ replaced_from (2 * k.from + 1) (parts_of pairs last) (replacements_from pairs first (2 * k.to) 0 k.after kept past ++ rs) ≡ pairs_parts (with_gap gap (slice_range pairs k.from k.to)) ++ behind
-kept_one pairs last gap first past k kept rs behind some within rest =
+kept_one : (pairs : List Pair) (last gap : List ℕ) (first past : ℕ) (k : KeptTokens) (kept : List (Option KeptTokens)) (rs : List Replacement) (following : List TextPart) → k.from < k.to → k.to ≤ length pairs
+    → replaced_from (2 * k.to) (parts_of pairs last) (replacements_from pairs first (2 * k.to) 0 k.after kept past ++ rs) ≡ following
+    → Gap gap ∷ replaced_from (2 * k.from + 1) (parts_of pairs last) (replacements_from pairs first (2 * k.to) 0 k.after kept past ++ rs) ≡ pairs_parts (with_gap gap (slice_range pairs k.from k.to)) ++ following
+kept_one pairs last gap first past k kept rs following some within rest =
     let xs = parts_of pairs last in
     ap (λ t. Gap gap ∷ t) (from_place pairs last first (2 * k.from + 1) (2 * k.to) 0 k.after kept past rs)
     ∙ ap (λ t. t ++ replaced_from (2 * k.to) xs (replacements_from pairs first (2 * k.to) 0 k.after kept past ++ rs)) (inner_range pairs last gap k.from k.to some within)
@@ -122,12 +122,12 @@ kept_body pairs last first past at w (Some k ∷ kept) rs o le =
     let xs = parts_of pairs last in
     let ins = inserted pairs first w in
     let more = replaced_from (2 * past) xs rs in
-    let behind = replaced_from (2 * k.from + 1) xs (replacements_from pairs first (2 * k.to) 0 k.after kept past ++ rs) in
+    let following = replaced_from (2 * k.from + 1) xs (replacements_from pairs first (2 * k.to) 0 k.after kept past ++ rs) in
     let range = with_gap [] (slice_range pairs k.from k.to) in
     let rest = inserted_and_kept_pairs pairs first k.after kept in
     let end = kept_le first past k.to k.after kept o.2 in
-    ap (λ t. t ++ ((pairs_parts ins ++ empty_gap) ++ behind)) (range_none xs (2 * at) (2 * at) (omega arith))
-    ∙ append_assoc (pairs_parts ins) empty_gap behind
+    ap (λ t. t ++ ((pairs_parts ins ++ empty_gap) ++ following)) (range_none xs (2 * at) (2 * at) (omega arith))
+    ∙ append_assoc (pairs_parts ins) empty_gap following
     ∙ ap (λ t. pairs_parts ins ++ t) (kept_one pairs last [] first past k kept rs _ o.1 (omega (arith, end, le)) (kept_body pairs last first past k.to k.after kept rs o.2 le))
     ∙ sym (three ins range rest more)
 
@@ -135,9 +135,9 @@ kept_body pairs last first past at w (Some k ∷ kept) rs o le =
 gap_twice : (pairs : List Pair) (gap : List ℕ) (a b : ℕ) (rest : List Pair) → a < b → b ≤ length pairs
     → with_gap gap (with_gap [] (slice_range pairs a b) ++ rest) ≡ with_gap gap (slice_range pairs a b) ++ rest
 gap_twice pairs gap a b rest lt within =
-    let (p, found, front) = known pairs a (omega (arith, lt, within)) in
+    let (p, found, leading) = known pairs a (omega (arith, lt, within)) in
     let count : b - a ≡ suc (b - a - 1) = omega (arith, lt) in
-    let side : slice_range pairs a b ≡ p ∷ take (b - a - 1) (drop (a + 1) pairs) = ap (λ n. take n (drop a pairs)) count ∙ ap (λ t. take (suc (b - a - 1)) t) front in
+    let side : slice_range pairs a b ≡ p ∷ take (b - a - 1) (drop (a + 1) pairs) = ap (λ n. take n (drop a pairs)) count ∙ ap (λ t. take (suc (b - a - 1)) t) leading in
     rw side refl
 
 -- what is written first
@@ -149,20 +149,20 @@ written_is : (pairs : List Pair) (first : ℕ) (w : Insertion) → Written pairs
 written_is pairs first Nothing = not_written refl
 written_is pairs first w = is_written _ _ refl
 
-front_end : (pairs : List Pair) (gap : List ℕ) (first past : ℕ) (w : Insertion) (more : List TextPart) → Written pairs first w → ChangesEnd first w first past
+written_prefix_end : (pairs : List Pair) (gap : List ℕ) (first past : ℕ) (w : Insertion) (more : List TextPart) → Written pairs first w → ChangesEnd first w first past
     → Gap gap ∷ (inserted_parts 1 (inserted pairs first w) [] ++ more) ≡ pairs_parts (with_gap gap (inserted pairs first w)) ++ more
-front_end pairs gap first past w more (not_written is) end = let both = subst (λ (x : Insertion). ChangesEnd first x first past) is end in absurd (omega (arith, both.0))
-front_end pairs gap first past w more (is_written p ps is) end = rw is (ap (λ t. t ++ more) (ap (λ t. Gap gap ∷ Token p.kind p.spelling ∷ t) (append-nil (pairs_parts ps))))
+written_prefix_end pairs gap first past w more (not_written is) end = let both = subst (λ (x : Insertion). ChangesEnd first x first past) is end in absurd (omega (arith, both.0))
+written_prefix_end pairs gap first past w more (is_written p ps is) end = rw is (ap (λ t. t ++ more) (ap (λ t. Gap gap ∷ Token p.kind p.spelling ∷ t) (append-nil (pairs_parts ps))))
 
-front_kept : (pairs : List Pair) (gap : List ℕ) (first a b : ℕ) (w : Insertion) (rest : List Pair) (behind more : List TextPart) → Written pairs first w → a < b → b ≤ length pairs
-    → ((g : List ℕ) → Gap g ∷ behind ≡ pairs_parts (with_gap g (slice_range pairs a b)) ++ (pairs_parts rest ++ more))
-    → Gap gap ∷ (inserted_parts 1 (inserted pairs first w) empty_gap ++ behind) ≡ pairs_parts (with_gap gap (inserted pairs first w ++ (with_gap [] (slice_range pairs a b) ++ rest))) ++ more
-front_kept pairs gap first a b w rest behind more (not_written is) lt within here =
+prefix_kept : (pairs : List Pair) (gap : List ℕ) (first a b : ℕ) (w : Insertion) (rest : List Pair) (following more : List TextPart) → Written pairs first w → a < b → b ≤ length pairs
+    → ((g : List ℕ) → Gap g ∷ following ≡ pairs_parts (with_gap g (slice_range pairs a b)) ++ (pairs_parts rest ++ more))
+    → Gap gap ∷ (inserted_parts 1 (inserted pairs first w) empty_gap ++ following) ≡ pairs_parts (with_gap gap (inserted pairs first w ++ (with_gap [] (slice_range pairs a b) ++ rest))) ++ more
+prefix_kept pairs gap first a b w rest following more (not_written is) lt within here =
     rw is (here gap ∙ sym (append_assoc (pairs_parts (with_gap gap (slice_range pairs a b))) (pairs_parts rest) more)
     ∙ ap (λ t. t ++ more) (sym (body_append (with_gap gap (slice_range pairs a b)) rest) ∙ ap pairs_parts (sym (gap_twice pairs gap a b rest lt within))))
-front_kept pairs gap first a b w rest behind more (is_written p ps is) lt within here =
-    let front : List Pair = record p { gap = gap } ∷ ps in
-    rw is (append_assoc (pairs_parts front) empty_gap behind ∙ ap (λ t. pairs_parts front ++ t) (here []) ∙ sym (three front (with_gap [] (slice_range pairs a b)) rest more))
+prefix_kept pairs gap first a b w rest following more (is_written p ps is) lt within here =
+    let leading : List Pair = record p { gap = gap } ∷ ps in
+    rw is (append_assoc (pairs_parts leading) empty_gap following ∙ ap (λ t. pairs_parts leading ++ t) (here []) ∙ sym (three leading (with_gap [] (slice_range pairs a b)) rest more))
 
 start_body : (pairs : List Pair) (last gap : List ℕ) (first past : ℕ) (w : Insertion) (kept : List (Option KeptTokens)) (rs : List Replacement) → AreKeptInOrder first past first w kept → past ≤ length pairs
     → Gap gap ∷ replaced_from (2 * first + 1) (parts_of pairs last) (replacements_from pairs first (2 * first + 1) 1 w kept past ++ rs)
@@ -171,15 +171,15 @@ start_body pairs last gap first past w [] rs o le =
     let xs = parts_of pairs last in
     let more = replaced_from (2 * past) xs rs in
     ap (λ t. Gap gap ∷ (t ++ (inserted_parts 1 (inserted pairs first w) [] ++ more))) (range_none xs (2 * first + 1) (2 * first + 1) (omega arith))
-    ∙ front_end pairs gap first past w more (written_is pairs first w) o
+    ∙ written_prefix_end pairs gap first past w more (written_is pairs first w) o
 start_body pairs last gap first past w (None ∷ kept) rs o le = start_body pairs last gap first past w kept rs o le
 start_body pairs last gap first past w (Some k ∷ kept) rs o le =
     let xs = parts_of pairs last in
     let more = replaced_from (2 * past) xs rs in
     let end = kept_le first past k.to k.after kept o.2 in
-    let behind = replaced_from (2 * k.from + 1) xs (replacements_from pairs first (2 * k.to) 0 k.after kept past ++ rs) in
-    ap (λ t. Gap gap ∷ (t ++ (inserted_parts 1 (inserted pairs first w) empty_gap ++ behind))) (range_none xs (2 * first + 1) (2 * first + 1) (omega arith))
-    ∙ front_kept pairs gap first k.from k.to w (inserted_and_kept_pairs pairs first k.after kept) behind more (written_is pairs first w) o.1 (omega (arith, end, le))
+    let following = replaced_from (2 * k.from + 1) xs (replacements_from pairs first (2 * k.to) 0 k.after kept past ++ rs) in
+    ap (λ t. Gap gap ∷ (t ++ (inserted_parts 1 (inserted pairs first w) empty_gap ++ following))) (range_none xs (2 * first + 1) (2 * first + 1) (omega arith))
+    ∙ prefix_kept pairs gap first k.from k.to w (inserted_and_kept_pairs pairs first k.after kept) following more (written_is pairs first w) o.1 (omega (arith, end, le))
     (λ g. kept_one pairs last g first past k kept rs _ o.1 (omega (arith, end, le)) (kept_body pairs last first past k.to k.after kept rs o.2 le))
 
 -- one finding: what comes before it, its tokens, and what follows it
@@ -248,8 +248,8 @@ pairs_settled prev (p ∷ ps) last =
     ∙ same_spelling prev p _
 
 -- the text of a step, by pairs
-pub by_pairs : (rule : Rule) (cut : TokenizedText) (findings : List Finding) → is_comment_rule rule ≡ false → AreOfRule rule cut.pairs findings → AreValidFindings (length cut.pairs) findings
-    → fix_step_text cut findings ≡ replaced_text (parts cut) (step_replacements cut.pairs findings)
-by_pairs rule cut findings other of sound =
-    let all = all_fixed rule cut.pairs cut.last 0 (selected findings) other (selected_of rule cut.pairs 0 findings of) (selected_are cut.pairs 0 findings (omega arith) sound) in
-    sym (ap (λ t. text_of_parts (settled None t)) all ∙ pairs_settled None (fixed_pairs_from 0 cut.pairs (selected findings)) cut.last)
+pub by_pairs : (rule : Rule) (tokenized : TokenizedText) (findings : List Finding) → is_comment_rule rule ≡ false → AreOfRule rule tokenized.pairs findings → AreValidFindings (length tokenized.pairs) findings
+    → fix_step_text tokenized findings ≡ replaced_text (parts tokenized) (step_replacements tokenized.pairs findings)
+by_pairs rule tokenized findings other of sound =
+    let all = all_fixed rule tokenized.pairs tokenized.last 0 (selected findings) other (selected_of rule tokenized.pairs 0 findings of) (selected_are tokenized.pairs 0 findings (omega arith) sound) in
+    sym (ap (λ t. text_of_parts (settled None t)) all ∙ pairs_settled None (fixed_pairs_from 0 tokenized.pairs (selected findings)) tokenized.last)

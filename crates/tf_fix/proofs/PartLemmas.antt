@@ -70,24 +70,24 @@ parts_drop (p ∷ ps) last (suc i) le =
     ap (λ k. drop k (parts_of (p ∷ ps) last)) two ∙ parts_drop ps last i (omega (arith, le))
 
 -- the gap and the token of this number, and what follows
-pub gap_front : (pairs : List Pair) (last : List ℕ) (i : ℕ) (p : Pair) → slice_get pairs i ≡ Some p
+pub gap_and_token_first : (pairs : List Pair) (last : List ℕ) (i : ℕ) (p : Pair) → slice_get pairs i ≡ Some p
     → drop (2 * i) (parts_of pairs last) ≡ Gap p.gap ∷ Token p.kind p.spelling ∷ drop (2 * i + 2) (parts_of pairs last)
-gap_front [] last i p found = absurd (cc found)
-gap_front (q ∷ ps) last zero p found = let same : q ≡ p = cc found in ap (λ (x : Pair). Gap x.gap ∷ Token x.kind x.spelling ∷ parts_of ps last) same
-gap_front (q ∷ ps) last (suc i) p found =
+gap_and_token_first [] last i p found = absurd (cc found)
+gap_and_token_first (q ∷ ps) last zero p found = let same : q ≡ p = cc found in ap (λ (x : Pair). Gap x.gap ∷ Token x.kind x.spelling ∷ parts_of ps last) same
+gap_and_token_first (q ∷ ps) last (suc i) p found =
     let two : 2 * suc i ≡ suc (suc (2 * i)) = omega arith in
     let four : 2 * suc i + 2 ≡ suc (suc (2 * i + 2)) = omega arith in
-    ap (λ k. drop k (parts_of (q ∷ ps) last)) two ∙ gap_front ps last i p found
+    ap (λ k. drop k (parts_of (q ∷ ps) last)) two ∙ gap_and_token_first ps last i p found
     ∙ ap (λ k. Gap p.gap ∷ Token p.kind p.spelling ∷ drop k (parts_of (q ∷ ps) last)) (sym four)
 
-pub token_front : (pairs : List Pair) (last : List ℕ) (i : ℕ) (p : Pair) → slice_get pairs i ≡ Some p
+pub token_first : (pairs : List Pair) (last : List ℕ) (i : ℕ) (p : Pair) → slice_get pairs i ≡ Some p
     → drop (2 * i + 1) (parts_of pairs last) ≡ Token p.kind p.spelling ∷ drop (2 * i + 2) (parts_of pairs last)
-token_front [] last i p found = absurd (cc found)
-token_front (q ∷ ps) last zero p found = let same : q ≡ p = cc found in ap (λ (x : Pair). Token x.kind x.spelling ∷ parts_of ps last) same
-token_front (q ∷ ps) last (suc i) p found =
+token_first [] last i p found = absurd (cc found)
+token_first (q ∷ ps) last zero p found = let same : q ≡ p = cc found in ap (λ (x : Pair). Token x.kind x.spelling ∷ parts_of ps last) same
+token_first (q ∷ ps) last (suc i) p found =
     let three : 2 * suc i + 1 ≡ suc (suc (2 * i + 1)) = omega arith in
     let four : 2 * suc i + 2 ≡ suc (suc (2 * i + 2)) = omega arith in
-    ap (λ k. drop k (parts_of (q ∷ ps) last)) three ∙ token_front ps last i p found
+    ap (λ k. drop k (parts_of (q ∷ ps) last)) three ∙ token_first ps last i p found
     ∙ ap (λ k. Token p.kind p.spelling ∷ drop k (parts_of (q ∷ ps) last)) (sym four)
 
 -- ---- what is before a place, as text
@@ -110,9 +110,9 @@ stop_text (q ∷ ps) last (suc i) p found =
     ap (λ k. text_of_parts (take k (parts_of (q ∷ ps) last))) four ∙ ap (λ t. q.gap ++ (q.spelling ++ t)) (stop_text ps last i p found)
 
 range_seam : (a b c : List ℕ) (n m : ℕ) → n ≡ length a → m ≡ length a + length b → slice_range (a ++ (b ++ c)) n m ≡ b
-range_seam a b c n m front end =
-    let whole : m - n ≡ length b = omega (arith, front, end) in
-    ap (λ k. take (m - n) (drop k (a ++ (b ++ c)))) front ∙ ap (λ t. take (m - n) t) (drop-append_seam a (b ++ c))
+range_seam a b c n m leading end =
+    let whole : m - n ≡ length b = omega (arith, leading, end) in
+    ap (λ k. take (m - n) (drop k (a ++ (b ++ c)))) leading ∙ ap (λ t. take (m - n) t) (drop-append_seam a (b ++ c))
     ∙ ap (λ k. take k (b ++ c)) whole ∙ take-append_seam b c
 
 pub length_written : (xs : List TextPart) (from to : ℕ) → from ≤ to
@@ -145,12 +145,12 @@ after_token prev xs kind spelling = after-append prev xs (Token kind spelling �
 pub after_empty : (prev : Prev) (xs : List TextPart) (gap : List ℕ) → gap ≡ [] → prev_after prev (xs ++ Gap gap ∷ []) ≡ prev_after prev xs
 after_empty prev xs gap e = rw e (after-append prev xs (Gap [] ∷ []))
 
-blank_after : (prev : Prev) (gap : List ℕ) → (gap ≡ [] → ⊥) → prev_after prev (Gap gap ∷ []) ≡ None
-blank_after prev [] some = absurd (some refl)
-blank_after prev (b ∷ gap) some = refl
+none_after_whitespace : (prev : Prev) (gap : List ℕ) → (gap ≡ [] → ⊥) → prev_after prev (Gap gap ∷ []) ≡ None
+none_after_whitespace prev [] some = absurd (some refl)
+none_after_whitespace prev (b ∷ gap) some = refl
 
-pub after_blank : (prev : Prev) (xs : List TextPart) (gap : List ℕ) → (gap ≡ [] → ⊥) → prev_after prev (xs ++ Gap gap ∷ []) ≡ None
-after_blank prev xs gap some = after-append prev xs (Gap gap ∷ []) ∙ blank_after (prev_after prev xs) gap some
+pub prev_after_whitespace : (prev : Prev) (xs : List TextPart) (gap : List ℕ) → (gap ≡ [] → ⊥) → prev_after prev (xs ++ Gap gap ∷ []) ≡ None
+prev_after_whitespace prev xs gap some = after-append prev xs (Gap gap ∷ []) ∙ none_after_whitespace (prev_after prev xs) gap some
 
 -- ---- whether the neighbour joins with the front of a slice
 
@@ -170,10 +170,10 @@ glued_empty prev gap kind spelling zero rest le e = absurd (omega (arith, le))
 glued_empty prev gap kind spelling (suc zero) rest le e = absurd (omega (arith, le))
 glued_empty prev gap kind spelling (suc (suc k)) rest le e = rw e refl
 
-pub glued_blank : (prev : Prev) (gap : List ℕ) (k : ℕ) (rest : List TextPart) → (gap ≡ [] → ⊥) → is_glued prev (take k (Gap gap ∷ rest)) ≡ false
-glued_blank prev gap zero rest some = refl
-glued_blank prev [] (suc k) rest some = absurd (some refl)
-glued_blank prev (b ∷ gap) (suc k) rest some = refl
+pub glued_whitespace : (prev : Prev) (gap : List ℕ) (k : ℕ) (rest : List TextPart) → (gap ≡ [] → ⊥) → is_glued prev (take k (Gap gap ∷ rest)) ≡ false
+glued_whitespace prev gap zero rest some = refl
+glued_whitespace prev [] (suc k) rest some = absurd (some refl)
+glued_whitespace prev (b ∷ gap) (suc k) rest some = refl
 
 pub glued_token : (prev : Prev) (kind : Kind) (spelling : List ℕ) (k : ℕ) (rest : List TextPart) → 1 ≤ k
     → is_glued prev (take k (Token kind spelling ∷ rest)) ≡ joins_prev prev kind spelling

@@ -10,7 +10,7 @@ use Rattle.tf_fix.specs.Parts.{parts_of, text_of_parts}
 use Rattle.tf_fix.specs.Parts.TextPart.{Gap, Token}
 use Rattle.tf_fix.specs.SettledSpaces.{Prev, prev_after, joins_prev, is_glued}
 use Rattle.tf_fix.specs.Inner.Views.{prev_at}
-use Rattle.tf_fix.proofs.PartLemmas.{known, range_last, gap_front, token_front, parts_drop, start_text, stop_text, after_token, after_empty, after_blank, glued_gap, glued_empty, glued_blank, glued_token}
+use Rattle.tf_fix.proofs.PartLemmas.{known, range_last, gap_and_token_first, token_first, parts_drop, start_text, stop_text, after_token, after_empty, prev_after_whitespace, glued_gap, glued_empty, glued_whitespace, glued_token}
 
 pub is_not : (b : Bool) {P : Type 0} → IsTrue b ↔ P → b ≡ false → P → ⊥
 is_not b both f p = absurd (cc (both.1 p, f))
@@ -18,7 +18,7 @@ is_not b both f p = absurd (cc (both.1 p, f))
 pub start_at : (pairs : List Pair) (last : List ℕ) (i : ℕ) (item : Item) → i < length pairs → Some item ≡ item_of pairs i
     → item.start ≡ length (text_of_parts (take (2 * i + 1) (parts_of pairs last)))
 start_at pairs last i item lt told =
-    let (p, found, front) = known pairs i lt in
+    let (p, found, leading) = known pairs i lt in
     let is : Some item ≡ Some (item_after (take i pairs) p) = told ∙ ap (option_map (λ (q : Pair). item_after (take i pairs) q)) found in
     let same : item ≡ item_after (take i pairs) p = cc is in
     ap (λ (x : Item). x.start) same ∙ ap length (sym (start_text pairs last i p found))
@@ -26,7 +26,7 @@ start_at pairs last i item lt told =
 pub stop_at : (pairs : List Pair) (last : List ℕ) (i : ℕ) (item : Item) → i < length pairs → Some item ≡ item_of pairs i
     → item.stop ≡ length (text_of_parts (take (2 * i + 2) (parts_of pairs last)))
 stop_at pairs last i item lt told =
-    let (p, found, front) = known pairs i lt in
+    let (p, found, leading) = known pairs i lt in
     let is : Some item ≡ Some (item_after (take i pairs) p) = told ∙ ap (option_map (λ (q : Pair). item_after (take i pairs) q)) found in
     let same : item ≡ item_after (take i pairs) p = cc is in
     ap (λ (x : Item). x.stop) same ∙ ap length (sym (stop_text pairs last i p found))
@@ -42,31 +42,31 @@ pub prev_token : (pairs : List Pair) (last : List ℕ) (prev : Prev) (from i : �
     → Some view ≡ option_map prev_at (slice_get pairs (i - 1)) → view ≡ prev_after prev (slice_range (parts_of pairs last) from (2 * i))
 prev_token pairs last prev from i view le other within told =
     let some : from < 2 * i = strictly from (2 * i) le other in
-    let (p, found, front) = known pairs (i - 1) (omega (arith, some, within)) in
+    let (p, found, leading) = known pairs (i - 1) (omega (arith, some, within)) in
     let is : Some view ≡ Some (prev_at p) = told ∙ ap (option_map prev_at) found in
     let same : view ≡ prev_at p = cc is in
     let two : 2 * i ≡ 2 * (i - 1) + 1 + 1 = omega (arith, some) in
-    let whole = range_last (parts_of pairs last) from (2 * (i - 1) + 1) (Token p.kind p.spelling) _ (omega (arith, some)) (token_front pairs last (i - 1) p found) in
+    let whole = range_last (parts_of pairs last) from (2 * (i - 1) + 1) (Token p.kind p.spelling) _ (omega (arith, some)) (token_first pairs last (i - 1) p found) in
     same ∙ sym (after_token prev (slice_range (parts_of pairs last) from (2 * (i - 1) + 1)) p.kind p.spelling) ∙ ap (prev_after prev) (sym whole) ∙ ap (λ k. prev_after prev (slice_range (parts_of pairs last) from k)) (sym two)
 
 pub prev_empty : (pairs : List Pair) (last : List ℕ) (prev : Prev) (from i : ℕ) (gap : List ℕ) (view : Prev) → from ≤ 2 * i → i < length pairs
     → Some gap ≡ gap_of pairs i → gap ≡ [] → view ≡ prev_after prev (slice_range (parts_of pairs last) from (2 * i))
     → view ≡ prev_after prev (slice_range (parts_of pairs last) from (2 * i + 1))
 prev_empty pairs last prev from i gap view le lt told empty same =
-    let (p, found, front) = known pairs i lt in
+    let (p, found, leading) = known pairs i lt in
     let is : Some gap ≡ Some p.gap = told ∙ ap (option_map (λ (q : Pair). q.gap)) found in
     let none : p.gap ≡ [] = cc (is, empty) in
-    let whole = range_last (parts_of pairs last) from (2 * i) (Gap p.gap) _ le (gap_front pairs last i p found) in
+    let whole = range_last (parts_of pairs last) from (2 * i) (Gap p.gap) _ le (gap_and_token_first pairs last i p found) in
     same ∙ sym (after_empty prev (slice_range (parts_of pairs last) from (2 * i)) p.gap none) ∙ ap (prev_after prev) (sym whole)
 
-pub prev_blank : (pairs : List Pair) (last : List ℕ) (prev : Prev) (from i : ℕ) (gap : List ℕ) → from ≤ 2 * i → i < length pairs
+pub prev_whitespace : (pairs : List Pair) (last : List ℕ) (prev : Prev) (from i : ℕ) (gap : List ℕ) → from ≤ 2 * i → i < length pairs
     → Some gap ≡ gap_of pairs i → (gap ≡ [] → ⊥) → None ≡ prev_after prev (slice_range (parts_of pairs last) from (2 * i + 1))
-prev_blank pairs last prev from i gap le lt told some =
-    let (p, found, front) = known pairs i lt in
+prev_whitespace pairs last prev from i gap le lt told some =
+    let (p, found, leading) = known pairs i lt in
     let is : Some gap ≡ Some p.gap = told ∙ ap (option_map (λ (q : Pair). q.gap)) found in
     let same : gap ≡ p.gap = cc is in
-    let whole = range_last (parts_of pairs last) from (2 * i) (Gap p.gap) _ le (gap_front pairs last i p found) in
-    sym (ap (prev_after prev) whole ∙ after_blank prev (slice_range (parts_of pairs last) from (2 * i)) p.gap (λ e. some (same ∙ e)))
+    let whole = range_last (parts_of pairs last) from (2 * i) (Gap p.gap) _ le (gap_and_token_first pairs last i p found) in
+    sym (ap (prev_after prev) whole ∙ prev_after_whitespace prev (slice_range (parts_of pairs last) from (2 * i)) p.gap (λ e. some (same ∙ e)))
 
 -- whether the neighbor joins with the token after it
 read_token : (pairs : List Pair) (i : ℕ) (p : Pair) (kind : Kind) (spelling : List ℕ) → slice_get pairs i ≡ Some p → Some kind ≡ kind_of pairs i
@@ -82,19 +82,19 @@ pub glued_after_gap : (pairs : List Pair) (last : List ℕ) (prev : Prev) (i to 
     → Some gap ≡ gap_of pairs i → gap ≡ [] → Some kind ≡ kind_of pairs i → Some spelling ≡ spelling_of pairs i
     → joins_prev prev kind spelling ≡ is_glued prev (slice_range (parts_of pairs last) (2 * i) to)
 glued_after_gap pairs last prev i to gap kind spelling lt past told empty k s =
-    let (p, found, front) = known pairs i lt in
+    let (p, found, leading) = known pairs i lt in
     let is : Some gap ≡ Some p.gap = told ∙ ap (option_map (λ (q : Pair). q.gap)) found in
     let none : p.gap ≡ [] = cc (is, empty) in
     read_token pairs i p kind spelling found k s prev
-    ∙ sym (ap (λ t. is_glued prev (take (to - 2 * i) t)) (gap_front pairs last i p found) ∙ glued_empty prev p.gap p.kind p.spelling (to - 2 * i) _ (omega (arith, past)) none)
+    ∙ sym (ap (λ t. is_glued prev (take (to - 2 * i) t)) (gap_and_token_first pairs last i p found) ∙ glued_empty prev p.gap p.kind p.spelling (to - 2 * i) _ (omega (arith, past)) none)
 
-pub glued_after_blank : (pairs : List Pair) (last : List ℕ) (prev : Prev) (i to : ℕ) (gap : List ℕ) → i < length pairs
+pub glued_after_whitespace : (pairs : List Pair) (last : List ℕ) (prev : Prev) (i to : ℕ) (gap : List ℕ) → i < length pairs
     → Some gap ≡ gap_of pairs i → (gap ≡ [] → ⊥) → false ≡ is_glued prev (slice_range (parts_of pairs last) (2 * i) to)
-glued_after_blank pairs last prev i to gap lt told some =
-    let (p, found, front) = known pairs i lt in
+glued_after_whitespace pairs last prev i to gap lt told some =
+    let (p, found, leading) = known pairs i lt in
     let is : Some gap ≡ Some p.gap = told ∙ ap (option_map (λ (q : Pair). q.gap)) found in
     let same : gap ≡ p.gap = cc is in
-    sym (ap (λ t. is_glued prev (take (to - 2 * i) t)) (gap_front pairs last i p found) ∙ glued_blank prev p.gap (to - 2 * i) _ (λ e. some (same ∙ e)))
+    sym (ap (λ t. is_glued prev (take (to - 2 * i) t)) (gap_and_token_first pairs last i p found) ∙ glued_whitespace prev p.gap (to - 2 * i) _ (λ e. some (same ∙ e)))
 
 few : (n m : ℕ) → (n + 2 ≤ m → ⊥) → m - n ≤ 1
 few n m short = elim (nat_lt (n + 1) m) as (λ b. nat_lt (n + 1) m ≡ b → m - n ≤ 1) [
@@ -112,9 +112,9 @@ pub glued_after_token : (pairs : List Pair) (last : List ℕ) (prev : Prev) (i t
     → Some kind ≡ kind_of pairs i → Some spelling ≡ spelling_of pairs i
     → joins_prev prev kind spelling ≡ is_glued prev (slice_range (parts_of pairs last) (2 * i + 1) to)
 glued_after_token pairs last prev i to kind spelling lt past k s =
-    let (p, found, front) = known pairs i lt in
+    let (p, found, leading) = known pairs i lt in
     read_token pairs i p kind spelling found k s prev
-    ∙ sym (ap (λ t. is_glued prev (take (to - (2 * i + 1)) t)) (token_front pairs last i p found) ∙ glued_token prev p.kind p.spelling (to - (2 * i + 1)) _ (omega (arith, past)))
+    ∙ sym (ap (λ t. is_glued prev (take (to - (2 * i + 1)) t)) (token_first pairs last i p found) ∙ glued_token prev p.kind p.spelling (to - (2 * i + 1)) _ (omega (arith, past)))
 
 pub before_gap : (from i : ℕ) (b : Bool) → from ≤ 2 * i + 1 → IsTrue b ↔ (from ≡ 2 * i + 1) → b ≡ false → from ≤ 2 * i
 before_gap from i b le both f = let some : from < 2 * i + 1 = strictly from (2 * i + 1) le (is_not b both f) in omega (arith, some)

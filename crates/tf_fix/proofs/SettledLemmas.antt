@@ -22,10 +22,10 @@ after-append prev (Gap [] ∷ xs) ys = after-append prev xs ys
 after-append prev (Gap (b ∷ g) ∷ xs) ys = after-append None xs ys
 after-append prev (Token k s ∷ xs) ys = after-append (Some (k, s)) xs ys
 
-settled_if : (met : Bool) (k : Kind) (s : List ℕ) (all front back : List TextPart) → all ≡ front ++ back
-    → (if met then Gap space ∷ Token k s ∷ all else Token k s ∷ all) ≡ (if met then Gap space ∷ Token k s ∷ front else Token k s ∷ front) ++ back
-settled_if true k s all front back e = ap (λ t. Gap space ∷ Token k s ∷ t) e
-settled_if false k s all front back e = ap (λ t. Token k s ∷ t) e
+settled_if : (met : Bool) (k : Kind) (s : List ℕ) (all leading back : List TextPart) → all ≡ leading ++ back
+    → (if met then Gap space ∷ Token k s ∷ all else Token k s ∷ all) ≡ (if met then Gap space ∷ Token k s ∷ leading else Token k s ∷ leading) ++ back
+settled_if true k s all leading back e = ap (λ t. Gap space ∷ Token k s ∷ t) e
+settled_if false k s all leading back e = ap (λ t. Token k s ∷ t) e
 
 pub settled-append : (prev : Prev) (xs ys : List TextPart) → settled prev (xs ++ ys) ≡ settled prev xs ++ settled (prev_after prev xs) ys
 settled-append prev [] ys = refl
@@ -95,12 +95,12 @@ pub pieces_old : (prev : Prev) (at : ℕ) (xs : List TextPart) (rs : List Replac
 pieces_old prev at xs [] o = append-nil (text_of_parts (drop at xs))
 pieces_old prev at xs (r ∷ rs) o =
     let stay = slice_range xs at r.from in
-    let gone = slice_range xs r.from r.to in
+    let slice_written = slice_range xs r.from r.to in
     let rest = pieces_old (prev_after (prev_after prev stay) r.inserted_parts) r.to xs rs o.2 in
-    let inner : drop r.from xs ≡ gone ++ drop r.to xs = drop_split xs r.from r.to o.1 in
+    let inner : drop r.from xs ≡ slice_written ++ drop r.to xs = drop_split xs r.from r.to o.1 in
     let outer : drop at xs ≡ stay ++ drop r.from xs = drop_split xs at r.from o.0 in
-    ap (λ t. text_of_parts stay ++ (text_of_parts gone ++ t)) rest
-    ∙ ap (λ t. text_of_parts stay ++ t) (sym (ap text_of_parts inner ∙ written-append gone (drop r.to xs)))
+    ap (λ t. text_of_parts stay ++ (text_of_parts slice_written ++ t)) rest
+    ∙ ap (λ t. text_of_parts stay ++ t) (sym (ap text_of_parts inner ∙ written-append slice_written (drop r.to xs)))
     ∙ sym (ap text_of_parts outer ∙ written-append stay (drop r.from xs))
 
 pub pieces_new : (prev : Prev) (at : ℕ) (xs : List TextPart) (rs : List Replacement) → Apart None xs
@@ -110,20 +110,20 @@ pieces_new prev at xs [] a =
 pieces_new prev at xs (r ∷ rs) a =
     let stay = slice_range xs at r.from in
     let there = prev_after prev stay in
-    let behind = prev_after there r.inserted_parts in
+    let following = prev_after there r.inserted_parts in
     let more = replaced_from r.to xs rs in
-    let front = space_before prev stay in
-    let come = text_of_parts (settled there r.inserted_parts) in
-    let gap = space_before behind (stays_until r.to xs rs) in
-    let news = new_text (pieces_from behind r.to xs rs) in
-    let rest : gap ++ news ≡ text_of_parts (settled behind more) = pieces_new behind r.to xs rs a in
-    let kept : text_of_parts (settled prev stay) ≡ front ++ text_of_parts stay = stretch_settled prev stay (apart_range at r.from xs a) in
+    let leading = space_before prev stay in
+    let inserted_text = text_of_parts (settled there r.inserted_parts) in
+    let gap = space_before following (stays_until r.to xs rs) in
+    let news = new_text (pieces_from following r.to xs rs) in
+    let rest : gap ++ news ≡ text_of_parts (settled following more) = pieces_new following r.to xs rs a in
+    let kept : text_of_parts (settled prev stay) ≡ leading ++ text_of_parts stay = stretch_settled prev stay (apart_range at r.from xs a) in
     let first : text_of_parts (settled prev (stay ++ (r.inserted_parts ++ more))) ≡ text_of_parts (settled prev stay) ++ text_of_parts (settled there (r.inserted_parts ++ more)) =
     ap text_of_parts (settled-append prev stay (r.inserted_parts ++ more)) ∙ written-append (settled prev stay) _ in
-    let second : text_of_parts (settled there (r.inserted_parts ++ more)) ≡ come ++ text_of_parts (settled behind more) =
+    let second : text_of_parts (settled there (r.inserted_parts ++ more)) ≡ inserted_text ++ text_of_parts (settled following more) =
     ap text_of_parts (settled-append there r.inserted_parts more) ∙ written-append (settled there r.inserted_parts) _ in
-    ap (λ t. front ++ (text_of_parts stay ++ t)) (append_assoc come gap news ∙ ap (λ t. come ++ t) rest ∙ sym second)
-    ∙ sym (append_assoc front (text_of_parts stay) _)
+    ap (λ t. leading ++ (text_of_parts stay ++ t)) (append_assoc inserted_text gap news ∙ ap (λ t. inserted_text ++ t) rest ∙ sym second)
+    ∙ sym (append_assoc leading (text_of_parts stay) _)
     ∙ ap (λ t. t ++ text_of_parts (settled there (r.inserted_parts ++ more))) (sym kept)
     ∙ sym first
 

@@ -20,11 +20,11 @@ use Rattle.tf_fix.specs.declared.parsed.Parsed.{Parsed}
 use Rattle.tf_fix.specs.ParsedTexts.{IsParseOf}
 use Rattle.tf_lint.specs.ParseFaults.{DoesNotParse, IsParseFault, IsReadFault}
 
-abbrev pub OneCut : Type 0
-OneCut = (text : List ℕ) (pairs others : List Pair) (last other : List ℕ) → IsTokenization text pairs last → IsTokenization text others other → (pairs ≡ others) × (last ≡ other)
+abbrev pub TokensAreUnique : Type 0
+TokensAreUnique = (text : List ℕ) (pairs others : List Pair) (last other : List ℕ) → IsTokenization text pairs last → IsTokenization text others other → (pairs ≡ others) × (last ≡ other)
 
-abbrev pub NoCutWithFault : Type 0
-NoCutWithFault = (text : List ℕ) (fault : ScanFault) (pairs : List Pair) (last : List ℕ) → IsFault text fault → IsTokenization text pairs last → ⊥
+abbrev pub NoTokensWithFault : Type 0
+NoTokensWithFault = (text : List ℕ) (fault : ScanFault) (pairs : List Pair) (last : List ℕ) → IsFault text fault → IsTokenization text pairs last → ⊥
 
 abbrev pub OneFault : Type 0
 OneFault = (text : List ℕ) (fault other : ScanFault) → IsFault text fault → IsFault text other → fault ≡ other
@@ -33,24 +33,24 @@ OneFault = (text : List ℕ) (fault other : ScanFault) → IsFault text fault �
 pub not_parsed : (text : List ℕ) (pairs : List Pair) (last : List ℕ) (fault : ParseFault) → IsTokenization text pairs last
     → ((t : Tree) → Parses text t → IsMemory fault) → ((d : ℕ) (t : Tree) → IsFile (tokens_of pairs) d t → IsMemoryOrDeep fault)
     → IsReadFault text (fault_of_parse fault)
-not_parsed text pairs last (parse.Syntax at) cut only deeper = (pairs, last, cut, deeper)
-not_parsed text pairs last (parse.TooDeep at) cut only deeper = (pairs, last, cut, only)
-not_parsed text pairs last parse.Memory cut only deeper = (cut.short, cut.utf8)
+not_parsed text pairs last (parse.Syntax at) tokenized only deeper = (pairs, last, tokenized, deeper)
+not_parsed text pairs last (parse.TooDeep at) tokenized only deeper = (pairs, last, tokenized, only)
+not_parsed text pairs last parse.Memory tokenized only deeper = (tokenized.short, tokenized.utf8)
 
 -- a text with a fault does not parse
-pub not_both : OneCut → (text : List ℕ) (fault : ParseFault) (t : Tree) → IsParseFault text fault → Parses text t → ⊥
-not_both one_cut text (parse.Syntax at) t h p =
-    h.3 MAX_NESTING t (subst (λ (ps : List Pair). IsFile (tokens_of ps) MAX_NESTING t) (one_cut text p.pairs h.0 p.last h.1 p.tokenization h.2).0 p.derived)
-not_both one_cut text (parse.TooDeep at) t h p = h.3 t p
-not_both one_cut text parse.Memory t h p = h
+pub not_both : TokensAreUnique → (text : List ℕ) (fault : ParseFault) (t : Tree) → IsParseFault text fault → Parses text t → ⊥
+not_both unique_tokens text (parse.Syntax at) t h p =
+    h.3 MAX_NESTING t (subst (λ (ps : List Pair). IsFile (tokens_of ps) MAX_NESTING t) (unique_tokens text p.pairs h.0 p.last h.1 p.tokenization h.2).0 p.derived)
+not_both unique_tokens text (parse.TooDeep at) t h p = h.3 t p
+not_both unique_tokens text parse.Memory t h p = h
 
 -- what is not read, but for want of memory, does not parse
-pub unread : OneCut → NoCutWithFault → (text : List ℕ) (fault : FixFault) → IsReadFault text fault → (fault ≡ Memory) ⊎ DoesNotParse text
-unread one_cut no_cut text (Scan fault) h = inr (λ t p. no_cut text fault p.pairs p.last h p.tokenization)
-unread one_cut no_cut text (Parse fault) h = inr (λ t p. not_both one_cut text fault t h p)
-unread one_cut no_cut text (FixBroken rule) h = absurd h
-unread one_cut no_cut text TooLong h = absurd h
-unread one_cut no_cut text Memory h = inl refl
+pub unread : TokensAreUnique → NoTokensWithFault → (text : List ℕ) (fault : FixFault) → IsReadFault text fault → (fault ≡ Memory) ⊎ DoesNotParse text
+unread unique_tokens no_cut text (Scan fault) h = inr (λ t p. no_cut text fault p.pairs p.last h p.tokenization)
+unread unique_tokens no_cut text (Parse fault) h = inr (λ t p. not_both unique_tokens text fault t h p)
+unread unique_tokens no_cut text (FixBroken rule) h = absurd h
+unread unique_tokens no_cut text TooLong h = absurd h
+unread unique_tokens no_cut text Memory h = inl refl
 
 -- the tree of a text that is read
 pub parses_of : (text : List ℕ) (p : Parsed) → IsParseOf text p → Parses text p.tree
@@ -62,9 +62,9 @@ parses_of text p reads = record {
 }
 
 -- one text has one cut
-pub same_cut : OneCut → (text : List ℕ) (a b : Parsed) → IsParseOf text a → IsParseOf text b → a.scanned ≡ b.scanned
-same_cut one_cut text a b p q =
-    let h = one_cut text a.scanned.pairs b.scanned.pairs a.scanned.last b.scanned.last
+pub same_scanned : TokensAreUnique → (text : List ℕ) (a b : Parsed) → IsParseOf text a → IsParseOf text b → a.scanned ≡ b.scanned
+same_scanned unique_tokens text a b p q =
+    let h = unique_tokens text a.scanned.pairs b.scanned.pairs a.scanned.last b.scanned.last
     (subst (λ (t : List ℕ). IsTokenization t a.scanned.pairs a.scanned.last) p.0 p.1) (subst (λ (t : List ℕ). IsTokenization t b.scanned.pairs b.scanned.last) q.0 q.1) in
     ap (λ (x : List ℕ). let r : TokenizedText = record { text = x; pairs = a.scanned.pairs; last = a.scanned.last } in r) (p.0 ∙ sym q.0)
     ∙ ap (λ (x : List Pair). let r : TokenizedText = record { text = b.scanned.text; pairs = x; last = a.scanned.last } in r) h.0

@@ -8,16 +8,16 @@ lines_of-push name [] r = refl
 lines_of-push name (x ∷ rs) r =
     ap (λ (rest : List ℕ). line_of name x ++ 10 ∷ rest) (lines_of-push name rs r)
     ∙ sym (append_assoc (line_of name x) (10 ∷ (lines_of name rs ++ line_of name r)) (10 ∷ []))
-    ∙ ap (λ (front : List ℕ). front ++ 10 ∷ []) (sym (append_assoc (line_of name x) (10 ∷ lines_of name rs) (line_of name r)))
+    ∙ ap (λ (leading : List ℕ). leading ++ 10 ∷ []) (sym (append_assoc (line_of name x) (10 ∷ lines_of name rs) (line_of name r)))
 
 -- the lines of what is reported of the first i things, and that of the next, are those of one thing
 -- more
-pub one_more_line : {X : Type 0} (name : List ℕ) (report : X → Report) (found : List X) (i : ℕ) (x d : X) (lines grown : List ℕ) → i < length found
-    → x ≡ get_or found i d → lines ≡ lines_of name (map report (take i found)) → grown ≡ lines ++ line_of name (report x) ++ 10 ∷ []
-    → grown ≡ lines_of name (map report (take (i + 1) found))
-one_more_line {X} name report found i x d lines grown lt there so_far push =
+pub one_more_line : {X : Type 0} (name : List ℕ) (report : X → Report) (found : List X) (i : ℕ) (x d : X) (lines extended : List ℕ) → i < length found
+    → x ≡ get_or found i d → lines ≡ lines_of name (map report (take i found)) → extended ≡ lines ++ line_of name (report x) ++ 10 ∷ []
+    → extended ≡ lines_of name (map report (take (i + 1) found))
+one_more_line {X} name report found i x d lines extended lt there so_far push =
     let next : take (i + 1) found ≡ take i found ++ x ∷ [] = take_more found i d lt ∙ ap (λ (y : X). take i found ++ y ∷ []) (sym there) in
     let mapped : map report (take (i + 1) found) ≡ map report (take i found) ++ report x ∷ [] =
     ap (map report) next ∙ map-append report (take i found) (x ∷ []) in
-    push ∙ ap (λ (front : List ℕ). front ++ line_of name (report x) ++ 10 ∷ []) so_far
+    push ∙ ap (λ (leading : List ℕ). leading ++ line_of name (report x) ++ 10 ∷ []) so_far
     ∙ sym (lines_of-push name (map report (take i found)) (report x)) ∙ ap (lines_of name) (sym mapped)

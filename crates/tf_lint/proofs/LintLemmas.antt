@@ -36,9 +36,9 @@ use Rattle.tf_lint.specs.declared.linted_text.LintedText.{LintedText}
 pub read_whole : (text : List ℕ) (s : LintedText) → s.scanned.text ≡ text → IsTokenization text s.scanned.pairs s.scanned.last
     → (t : Tree) × IsFile (tokens_of s.scanned.pairs) MAX_NESTING t × AreFindings s.rules s.scanned.pairs t.body.members s.found.items
     → AreLintedMembers s.rules s.scanned.pairs s.members.items → AreValidFindings (length s.scanned.pairs) s.found.items → (p : Parsed) × IsParseOf text p × IsLintOf p s
-read_whole text s same cut read seen sound =
+read_whole text s same tokenized read seen sound =
     let p : Parsed = record { scanned = s.scanned; tree = read.0 } in
-    let own = subst (λ (t : List ℕ). IsTokenization t s.scanned.pairs s.scanned.last) (sym same) cut in
+    let own = subst (λ (t : List ℕ). IsTokenization t s.scanned.pairs s.scanned.last) (sym same) tokenized in
     (p, (same, own, read.1), record { same = refl; reads = (refl, own, read.1); findings_are = read.2; sound = sound; members_linted = seen })
 
 -- a text that is not cut
@@ -48,15 +48,15 @@ is_fault text scan.Memory (inr (inl narrow)) = absurd (cc narrow.1)
 is_fault text scan.Memory (inr (inr stops)) = (stops.0, stops.1)
 is_fault text _ fault = fault
 
-pub not_cut : (text : List ℕ) (why : ScanFault) → ((why ≡ scan.Memory) × (length text ≤ MAX_TEXT) × IsUtf8 text) ⊎ IsFault text why → IsReadFault text (fault_of_scan why)
-not_cut text why (inl wanted) = subst (λ (f : ScanFault). IsReadFault text (fault_of_scan f)) (sym wanted.0) (wanted.1, wanted.2)
-not_cut text why (inr fault) = is_fault text why fault
+pub not_tokenized : (text : List ℕ) (why : ScanFault) → ((why ≡ scan.Memory) × (length text ≤ MAX_TEXT) × IsUtf8 text) ⊎ IsFault text why → IsReadFault text (fault_of_scan why)
+not_tokenized text why (inl wanted) = subst (λ (f : ScanFault). IsReadFault text (fault_of_scan f)) (sym wanted.0) (wanted.1, wanted.2)
+not_tokenized text why (inr fault) = is_fault text why fault
 
 -- a text that was scanned, and does not parse
-pub not_whole : (text : List ℕ) (cut : TokenizedText) (why : ParseFault) (fault : FixFault) → cut.text ≡ text → IsTokenization text cut.pairs cut.last → fault ≡ fault_of_parse why
-    → ((t : Tree) → Parses cut.text t → IsMemory why) → ((d : ℕ) (t : Tree) → IsFile (tokens_of cut.pairs) d t → IsMemoryOrDeep why) → IsReadFault text fault
-not_whole text cut why fault same is e only deeper =
-    subst (IsReadFault text) (sym e) (not_parsed text cut.pairs cut.last why is (λ t p. only t (subst (λ (x : List ℕ). Parses x t) (sym same) p)) deeper)
+pub not_whole : (text : List ℕ) (tokenized : TokenizedText) (why : ParseFault) (fault : FixFault) → tokenized.text ≡ text → IsTokenization text tokenized.pairs tokenized.last → fault ≡ fault_of_parse why
+    → ((t : Tree) → Parses tokenized.text t → IsMemory why) → ((d : ℕ) (t : Tree) → IsFile (tokens_of tokenized.pairs) d t → IsMemoryOrDeep why) → IsReadFault text fault
+not_whole text tokenized why fault same is e only deeper =
+    subst (IsReadFault text) (sym e) (not_parsed text tokenized.pairs tokenized.last why is (λ t p. only t (subst (λ (x : List ℕ). Parses x t) (sym same) p)) deeper)
 
 -- the text, by its tree, is one in which that was found
 pub is_found : (p : Parsed) (s : LintedText) (found : List Finding) → found ≡ s.found.items → IsLintOf p s → AreFindingsOf s.rules p s.scanned found

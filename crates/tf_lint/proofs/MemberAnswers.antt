@@ -19,7 +19,7 @@ use Rattle.hcl_grammar_laws.proofs.Complete.{nested, c_expr}
 use Rattle.hcl_grammar_laws.proofs.Inverts.{done, bind_inv, along, some_along, none_some, eaten, uneaten, eat_inv, expect_then}
 use Rattle.hcl_grammar_laws.proofs.Sound.{sound}
 use Rattle.hcl_grammar_laws.proofs.Spans.{span_members}
-use Rattle.hcl_grammar_laws.proofs.Steps.{Answers, found, bind, sees-yes, past-yes}
+use Rattle.hcl_grammar_laws.proofs.Steps.{Answers, found, bind, sees-yes, if_next-yes}
 use Rattle.hcl_grammar_laws.proofs.Whole.{found_at}
 
 module _ (ts : List Token) where
@@ -76,7 +76,7 @@ module _ (ts : List Token) where
   named_answers : {d b : ℕ} {x : Member} {j : ℕ} (i : ℕ) → NextIs ts false k.Identifier i → Answers d b x j (bodies.attribute_or_block ts b (deeper_members ts b) (next_index ts false i) (after_next ts false i))
       → Answers d b (Some x) j (bodies.member_of ts b (deeper_members ts b) i)
   unfolding bodies.member_of
-  named_answers i q x = rw (sees-yes ts false k.Identifier i q, past-yes ts false k.Identifier i q) (bind _ x found)
+  named_answers i q x = rw (sees-yes ts false k.Identifier i q, if_next-yes ts false k.Identifier i q) (bind _ x found)
 
   answers : {d : ℕ} {x : Member} {i j : ℕ} → IsOneMember ts d x i j → (b : ℕ) → Answers d b (Some x) j (bodies.member_of ts b (deeper_members ts b) i)
   answers (attribute {i} q e x el) b =

@@ -18,7 +18,7 @@ use Rattle.tf_rules.specs.SingleRule.{only}
 use Rattle.tf_fix.specs.ParsedTexts.{IsParseOf}
 use Rattle.tf_fix.specs.OneStep.{step_text_of}
 use Rattle.tf_lint.specs.Steps.{IsRemainingCount, Steps, prepend_step, StepBreaks, FoundThen, StepThen, RunSteps, fix_order, IsSquashOfAll, Rewrite, Fixes, Breaks, FixIsUnique}
-use Rattle.tf_lint.proofs.DoesNotParse.{OneCut, parses_of, same_cut}
+use Rattle.tf_lint.proofs.DoesNotParse.{TokensAreUnique, parses_of, same_scanned}
 
 -- what is made, by its parts
 one_made : (a b : Rewrite) → a.text ≡ b.text → a.edits ≡ b.edits → a.fixed ≡ b.fixed → a.left ≡ b.left → a ≡ b
@@ -51,10 +51,10 @@ not_broken rule p next found (FixBroken broken) short reads w = w.2 next.tree (p
 not_broken rule p next found TooLong short reads w = omega (arith, short, w)
 not_broken rule p next found Memory short reads w = w
 
-module _ (one_cut : OneCut) (one_parse : OneParse) (one_found : FindingsAreUnique) (one_squash : (first : EditList) (others : List EditList) → SquashAllIsUnique first others) where
+module _ (unique_tokens : TokensAreUnique) (one_parse : OneParse) (one_found : FindingsAreUnique) (one_squash : (first : EditList) (others : List EditList) → SquashAllIsUnique first others) where
   same_read : (text : List ℕ) (a b : Parsed) → IsParseOf text a → IsParseOf text b → a ≡ b
   same_read text a b p q =
-      ap (λ (x : TokenizedText). let r : Parsed = record { scanned = x; tree = a.tree } in r) (same_cut one_cut text a b p q)
+      ap (λ (x : TokenizedText). let r : Parsed = record { scanned = x; tree = a.tree } in r) (same_scanned unique_tokens text a b p q)
       ∙ ap (λ (x : Tree). let r : Parsed = record { scanned = b.scanned; tree = x } in r) (one_parse text a.tree b.tree (parses_of text a p) (parses_of text b q))
 
   abbrev HaveOne : (Parsed → Result Steps FixFault → Type 0) → Type 0
@@ -68,19 +68,19 @@ module _ (one_cut : OneCut) (one_parse : OneParse) (one_found : FindingsAreUniqu
       let e : Ok v.2 ≡ Err f = ih v.1 (Ok v.2) (Err f) v.4 (subst (λ (c : Parsed). Others c (Err f)) same w.3) in
       cc
 
-  same_behind : (rule : Rule) (p : Parsed) (found : List Finding) (Others : Parsed → Result Steps FixFault → Type 0) → HaveOne Others
+  same_after_step : (rule : Rule) (p : Parsed) (found : List Finding) (Others : Parsed → Result Steps FixFault → Type 0) → HaveOne Others
       → (a b : Result Steps FixFault) → FoundThen rule p found Others a → FoundThen rule p found Others b → a ≡ b
-  same_behind rule p found Others ih (Ok s) (Ok t) v w =
+  same_after_step rule p found Others ih (Ok s) (Ok t) v w =
       let same = same_read (step_text_of p found) w.1 v.1 w.3 v.3 in
       let e : ◌≡◌ {A = Result Steps FixFault} (Ok v.2) (Ok w.2) = ih v.1 (Ok v.2) (Ok w.2) v.4 (subst (λ (c : Parsed). Others c (Ok w.2)) same w.4) in
       let more : v.2 ≡ w.2 = cc in
       ap (λ (x : Steps). Ok x) (v.5 ∙ ap (prepend_step rule p found) more ∙ sym w.5)
-  same_behind rule p found Others ih (Ok s) (Err f) v w = absurd (done_or_broken rule p found Others ih s f v w)
-  same_behind rule p found Others ih (Err f) (Ok t) v w = absurd (done_or_broken rule p found Others ih t f w v)
-  same_behind rule p found Others ih (Err f) (Err g) (inl v) (inl w) = ap (λ (x : FixFault). Err x) (same_break rule p found f g v w)
-  same_behind rule p found Others ih (Err f) (Err g) (inl v) (inr w) = absurd (not_broken rule p w.1 found f w.0 w.2 v)
-  same_behind rule p found Others ih (Err f) (Err g) (inr v) (inl w) = absurd (not_broken rule p v.1 found g v.0 v.2 w)
-  same_behind rule p found Others ih (Err f) (Err g) (inr v) (inr w) =
+  same_after_step rule p found Others ih (Ok s) (Err f) v w = absurd (done_or_broken rule p found Others ih s f v w)
+  same_after_step rule p found Others ih (Err f) (Ok t) v w = absurd (done_or_broken rule p found Others ih t f w v)
+  same_after_step rule p found Others ih (Err f) (Err g) (inl v) (inl w) = ap (λ (x : FixFault). Err x) (same_break rule p found f g v w)
+  same_after_step rule p found Others ih (Err f) (Err g) (inl v) (inr w) = absurd (not_broken rule p w.1 found f w.0 w.2 v)
+  same_after_step rule p found Others ih (Err f) (Err g) (inr v) (inl w) = absurd (not_broken rule p v.1 found g v.0 v.2 w)
+  same_after_step rule p found Others ih (Err f) (Err g) (inr v) (inr w) =
       let same = same_read (step_text_of p found) w.1 v.1 w.2 v.2 in
       ih v.1 (Err f) (Err g) v.3 (subst (λ (c : Parsed). Others c (Err g)) same w.3)
 
@@ -88,7 +88,7 @@ module _ (one_cut : OneCut) (one_parse : OneParse) (one_found : FindingsAreUniqu
       → (a b : Result Steps FixFault) → StepThen rule p Others a → StepThen rule p Others b → a ≡ b
   same_then rule p Others ih a b v w =
       let same = one_found (only rule) p.scanned.pairs p.tree.body.members w.0 v.0 w.1 v.1 in
-      same_behind rule p v.0 Others ih a b v.2 (subst (λ (fs : List Finding). FoundThen rule p fs Others b) same w.2)
+      same_after_step rule p v.0 Others ih a b v.2 (subst (λ (fs : List Finding). FoundThen rule p fs Others b) same w.2)
 
   choose : (chosen : Bool) (rule : Rule) (p : Parsed) (Others : Parsed → Result Steps FixFault → Type 0) → HaveOne Others
       → (a b : Result Steps FixFault) → MatchBool chosen (StepThen rule p Others a) (Others p a) → MatchBool chosen (StepThen rule p Others b) (Others p b) → a ≡ b

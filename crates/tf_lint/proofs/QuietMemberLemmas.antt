@@ -14,10 +14,10 @@ use Rattle.tf_quiet.specs.QuietTokens.{AreQuiet}
 pub quiet_member : QuietMembersHaveNoFindings → (pairs : List Pair) (from past : ℕ) → IsSkippedMember pairs from past
     → AreQuiet pairs from past → kind_of pairs (past - 1) ≡ Some LineEnd → HasNoBlockFindings pairs from → past < 2 ^ 64 → IsQuietMember pairs from past
 quiet_member law pairs from past s run line nothing fits =
-    let stands = member_derives (tokens_of pairs) MAX_NESTING from s.member past s.answer in
+    let member_is_derived = member_derives (tokens_of pairs) MAX_NESTING from s.member past s.answer in
     record {
       member = s.member;
-      is_member = stands;
-      at_nodes = λ rules. law rules pairs MAX_NESTING from past s.member stands line fits run;
-      at_block = λ rules. nothing.each rules MAX_NESTING past s.member stands;
+      is_member = member_is_derived;
+      at_nodes = λ rules. law rules pairs MAX_NESTING from past s.member member_is_derived line fits run;
+      at_block = λ rules. nothing.each rules MAX_NESTING past s.member member_is_derived;
     }

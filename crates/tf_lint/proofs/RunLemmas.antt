@@ -53,7 +53,7 @@ same_text t u e = rw ((bytes_eq-Decides t u).1 e) refl
 pub skipped_pass : (rules : RuleSet) (rule : Rule) (order : List Rule) (p : Parsed) (count : ℕ) (passed : FirstChange) → has_step rules rule ≡ false
     → IsFirstChange rules order p count passed → IsFirstChange rules (rule ∷ order) p count passed
 skipped_pass rules rule order p count (NoChange fixed) not_in (n, number, runs) = (n, number, rw not_in runs)
-skipped_pass rules rule order p count (Changed fixed change by rest) not_in (n, number, few, shorter, turns, on, off, gone) = (
+skipped_pass rules rule order p count (Changed fixed change by rest) not_in (n, number, few, shorter, turns, on, off, unread_after) = (
   n,
   number,
   few,
@@ -61,7 +61,7 @@ skipped_pass rules rule order p count (Changed fixed change by rest) not_in (n, 
   turns,
   λ next more reads runs. rw not_in (on next more reads runs),
   λ next fault reads runs. rw not_in (off next fault reads runs),
-  λ unread. rw not_in (gone unread),
+  λ unread. rw not_in (unread_after unread),
 )
 
 pub stayed_pass : (rules : RuleSet) (rule : Rule) (order : List Rule) (p : Parsed) (count : ℕ) (passed : FirstChange) (step : StepResult) → has_step rules rule ≡ true → IsParseOf p.scanned.text p
@@ -74,7 +74,7 @@ stayed_pass rules rule order p count (NoChange fixed) step chosen reads s none (
       omega (arith, number),
       rw chosen (s.found, s.findings_are, (s.short, p, record { text = p.scanned.text; lists = []; fixed = n }, subst (λ (t : List ℕ). IsParseOf t p) (sym stays) reads, runs, rw (same, taken) refl)),
     )
-stayed_pass rules rule order p count (Changed fixed change by rest) step chosen reads s none (n, number, few, shorter, turns, on, off, gone) =
+stayed_pass rules rule order p count (Changed fixed change by rest) step chosen reads s none (n, number, few, shorter, turns, on, off, unread_after) =
     let stays : step_text_of p s.found ≡ p.scanned.text = subst (IsChange rule p s.found) none s.change in
     let same = same_text p.scanned.text (step_text_of p s.found) (sym stays) in
     let taken = s.count in
@@ -86,12 +86,12 @@ stayed_pass rules rule order p count (Changed fixed change by rest) step chosen 
       turns,
       λ next more read runs. rw chosen (s.found, s.findings_are, (s.short, p, _, again, on next more read runs, rw (same, taken) (ap (λ k. record { text = more.text; lists = change.edits ∷ more.lists; fixed = k }) (omega arith)))),
       λ next fault read runs. rw chosen (s.found, s.findings_are, inr (s.short, p, again, off next fault read runs)),
-      λ unread. rw chosen (s.found, s.findings_are, inr (s.short, p, again, gone unread)),
+      λ unread. rw chosen (s.found, s.findings_are, inr (s.short, p, again, unread_after unread)),
     )
 
 -- what steps from here on make, by what those after the change make
-abbrev pub GoesOn : RuleSet → List Rule → List Rule → Rule → Parsed → ℕ → NewText → Type 0
-GoesOn rules order rest by p n change =
+abbrev pub StepsContinue : RuleSet → List Rule → List Rule → Rule → Parsed → ℕ → NewText → Type 0
+StepsContinue rules order rest by p n change =
     ((next : Parsed) (more : Steps) → IsParseOf change.text.items next → RunFixable rules rest next (Ok more)
     → RunFixable rules order p (Ok (record { text = more.text; lists = change.edits ∷ more.lists; fixed = n + more.fixed })))
     × ((next : Parsed) (fault : FixFault) → IsParseOf change.text.items next → RunFixable rules rest next (Err fault) → RunFixable rules order p (Err fault))
@@ -101,7 +101,7 @@ pub changed_transforms : (rule : Rule) (p : Parsed) (step : StepResult) (change 
 changed_transforms rule p step change s some = let c : IsChange rule p s.found (Some change) = subst (IsChange rule p s.found) some s.change in c.3
 
 pub changed_pass : (rules : RuleSet) (rule : Rule) (order : List Rule) (p : Parsed) (step : StepResult) (change : NewText) → has_step rules rule ≡ true → IsStep rule p step → step.change ≡ Some change
-    → GoesOn rules (rule ∷ order) order rule p step.count change
+    → StepsContinue rules (rule ∷ order) order rule p step.count change
 changed_pass rules rule order p step change chosen s some =
     let c : IsChange rule p s.found (Some change) = subst (IsChange rule p s.found) some s.change in
     let taken = s.count in
@@ -132,7 +132,7 @@ no_more rules order text p done count fixed found reads finds (n, number, runs) 
 pub and_more : (rules : RuleSet) (order : List Rule) (text : List ℕ) (p : Parsed) (done both : EditList) (count fixed : ℕ) (change : NewText) (by : Rule) (rest : Bor (List Rule)) (made : Rewrite)
     → IsParseOf text p → IsFirstChange rules order p count (Changed fixed change by rest) → IsSquash done change.edits both
     → FixesFrom rules rest.now change.text.items both fixed made → FixesFrom rules order text done count made
-and_more rules order text p done both count fixed change by rest made reads (n, number, few, shorter, turns, on, off, gone) joins f =
+and_more rules order text p done both count fixed change by rest made reads (n, number, few, shorter, turns, on, off, unread_after) joins f =
     let more = f.fixed_is in
     record {
       parsed = p;
@@ -151,19 +151,19 @@ pub and_refuses : (rules : RuleSet) (order : List Rule) (text : List ℕ) (p : P
     → IsParseOf text p → IsFirstChange rules order p count (Changed fixed change by rest)
     → RefusesFrom rules rest.now change.text.items by fault → RefusesFrom rules order text made_by fault
 and_refuses rules order text p count fixed change made_by by rest fault reads to (inl memory) = inl memory
-and_refuses rules order text p count fixed change made_by by rest fault reads (n, number, few, shorter, turns, on, off, gone) (inr (inl unread)) =
-    inr (inr (p, reads, rw unread.0 (gone unread.1)))
-and_refuses rules order text p count fixed change made_by by rest fault reads (n, number, few, shorter, turns, on, off, gone) (inr (inr (next, read, runs))) =
+and_refuses rules order text p count fixed change made_by by rest fault reads (n, number, few, shorter, turns, on, off, unread_after) (inr (inl unread)) =
+    inr (inr (p, reads, rw unread.0 (unread_after unread.1)))
+and_refuses rules order text p count fixed change made_by by rest fault reads (n, number, few, shorter, turns, on, off, unread_after) (inr (inr (next, read, runs))) =
     inr (inr (p, reads, off next fault read runs))
 
 -- ---- from the first step on
 
 -- others may go on after a step, if they follow from those that did
-go_on : (rule : Rule) (p : Parsed) (found : List Finding) (A B : Parsed → Result Steps FixFault → Type 0) → ((c : Parsed) (r : Result Steps FixFault) → A c r → B c r)
+steps_continue : (rule : Rule) (p : Parsed) (found : List Finding) (A B : Parsed → Result Steps FixFault → Type 0) → ((c : Parsed) (r : Result Steps FixFault) → A c r → B c r)
     → (answer : Result Steps FixFault) → FoundThen rule p found A answer → FoundThen rule p found B answer
-go_on rule p found A B go (Ok steps) (short, next, more, reads, others, is) = (short, next, more, reads, go next (Ok more) others, is)
-go_on rule p found A B go (Err fault) (inl breaks) = inl breaks
-go_on rule p found A B go (Err fault) (inr (short, next, reads, others)) = inr (short, next, reads, go next (Err fault) others)
+steps_continue rule p found A B go (Ok steps) (short, next, more, reads, others, is) = (short, next, more, reads, go next (Ok more) others, is)
+steps_continue rule p found A B go (Err fault) (inl breaks) = inl breaks
+steps_continue rule p found A B go (Err fault) (inr (short, next, reads, others)) = inr (short, next, reads, go next (Err fault) others)
 
 -- b whether a fix has a step for the rule, d whether the set has the rule
 at_rule : (rules : RuleSet) (rule : Rule) (order : List Rule) (p : Parsed) (answer : Result Steps FixFault) (b d : Bool) → has_rule rules rule ≡ d
@@ -171,7 +171,7 @@ at_rule : (rules : RuleSet) (rule : Rule) (order : List Rule) (p : Parsed) (answ
     → MatchBool (b && d) (StepThen rule p (RunFixable rules order) answer) (RunFixable rules order p answer)
     → RunSteps rules (cond b (rule ∷ filter has_fix order) (filter has_fix order)) p answer
 at_rule rules rule order p answer true true has go h =
-    rw has (h.0, h.1, go_on rule p h.0 (RunFixable rules order) (RunSteps rules (filter has_fix order)) go answer h.2)
+    rw has (h.0, h.1, steps_continue rule p h.0 (RunFixable rules order) (RunSteps rules (filter has_fix order)) go answer h.2)
 at_rule rules rule order p answer true false has go h = rw has (go p answer h)
 at_rule rules rule order p answer false d has go h = go p answer h
 
@@ -199,7 +199,7 @@ none_changed rules text p fixed found reads finds (n, number, runs) =
 
 pub all_fixed : (rules : RuleSet) (text : List ℕ) (p : Parsed) (fixed : ℕ) (change : NewText) (by : Rule) (rest : Bor (List Rule)) (made : Rewrite)
     → IsParseOf text p → IsFirstChange rules all_rules p 0 (Changed fixed change by rest) → FixesFrom rules rest.now change.text.items change.edits fixed made → Fixes rules text made
-all_fixed rules text p fixed change by rest made reads (n, number, few, shorter, turns, on, off, gone) f =
+all_fixed rules text p fixed change by rest made reads (n, number, few, shorter, turns, on, off, unread_after) f =
     let more = f.fixed_is in
     let steps : Steps = record { text = f.steps.text; lists = change.edits ∷ f.steps.lists; fixed = n + f.steps.fixed } in
     record {
@@ -226,5 +226,5 @@ first_refuses rules text p fault reads (inr runs) = inr (p, reads, run_is rules 
 pub all_refuses : (rules : RuleSet) (text : List ℕ) (p : Parsed) (fixed : ℕ) (change : NewText) (by : Rule) (rest : Bor (List Rule)) (fault : FixFault)
     → IsParseOf text p → IsFirstChange rules all_rules p 0 (Changed fixed change by rest) → RefusesFrom rules rest.now change.text.items by fault → Refuses rules text fault
 all_refuses rules text p fixed change by rest fault reads to (inl is) = inl (memory_at text p fault reads is)
-all_refuses rules text p fixed change by rest fault reads (n, number, few, shorter, turns, on, off, gone) (inr (inl unread)) = inr (p, reads, run_is rules all_rules p (Err fault) (rw unread.0 (gone unread.1)))
-all_refuses rules text p fixed change by rest fault reads (n, number, few, shorter, turns, on, off, gone) (inr (inr (next, read, runs))) = inr (p, reads, run_is rules all_rules p (Err fault) (off next fault read runs))
+all_refuses rules text p fixed change by rest fault reads (n, number, few, shorter, turns, on, off, unread_after) (inr (inl unread)) = inr (p, reads, run_is rules all_rules p (Err fault) (rw unread.0 (unread_after unread.1)))
+all_refuses rules text p fixed change by rest fault reads (n, number, few, shorter, turns, on, off, unread_after) (inr (inr (next, read, runs))) = inr (p, reads, run_is rules all_rules p (Err fault) (off next fault read runs))

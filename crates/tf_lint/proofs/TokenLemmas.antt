@@ -11,19 +11,19 @@ abbrev pub token_of : Pair → Token
 token_of p = (p.kind, p.spelling)
 
 -- fronts that are the same, and one more that is
-front_more : (xs ys : List Token) (k : ℕ) → take k xs ≡ take k ys → slice_get xs k ≡ slice_get ys k → take (suc k) xs ≡ take (suc k) ys
-front_more [] [] k a b = refl
-front_more [] (y ∷ ys) zero a b = absurd (cc)
-front_more [] (y ∷ ys) (suc k) a b = absurd (cc)
-front_more (x ∷ xs) [] zero a b = absurd (cc)
-front_more (x ∷ xs) [] (suc k) a b = absurd (cc)
-front_more (x ∷ xs) (y ∷ ys) zero a b = cc
-front_more (x ∷ xs) (y ∷ ys) (suc k) a b = let e : x ≡ y = cc in let h : take k xs ≡ take k ys = cc in rw e (ap (λ zs. y ∷ zs) (front_more xs ys k h b))
+prefix_more : (xs ys : List Token) (k : ℕ) → take k xs ≡ take k ys → slice_get xs k ≡ slice_get ys k → take (suc k) xs ≡ take (suc k) ys
+prefix_more [] [] k a b = refl
+prefix_more [] (y ∷ ys) zero a b = absurd (cc)
+prefix_more [] (y ∷ ys) (suc k) a b = absurd (cc)
+prefix_more (x ∷ xs) [] zero a b = absurd (cc)
+prefix_more (x ∷ xs) [] (suc k) a b = absurd (cc)
+prefix_more (x ∷ xs) (y ∷ ys) zero a b = cc
+prefix_more (x ∷ xs) (y ∷ ys) (suc k) a b = let e : x ≡ y = cc in let h : take k xs ≡ take k ys = cc in rw e (ap (λ zs. y ∷ zs) (prefix_more xs ys k h b))
 
 -- k tokens that are the same from two places on, and one more
 pub same_more : (xs ys : List Token) (a b k : ℕ) → take k (drop a xs) ≡ take k (drop b ys) → slice_get xs (a + k) ≡ slice_get ys (b + k)
     → take (k + 1) (drop a xs) ≡ take (k + 1) (drop b ys)
-same_more xs ys a b k e h = let one : k + 1 ≡ suc k = omega arith in rw one (front_more (drop a xs) (drop b ys) k e (get_drop a k xs ∙ (h ∙ sym (get_drop b k ys))))
+same_more xs ys a b k e h = let one : k + 1 ≡ suc k = omega arith in rw one (prefix_more (drop a xs) (drop b ys) k e (get_drop a k xs ∙ (h ∙ sym (get_drop b k ys))))
 
 -- the tokens of the first n pairs
 line_prefix : (n : ℕ) (ps : List Pair) → take n (tokens_of ps) ≡ tokens_of (take n ps)

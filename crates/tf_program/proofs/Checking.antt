@@ -7,7 +7,7 @@ use Rattle.tf_program.specs.Inputs.{Checks}
 
 pub checked : (file_outcome : FileOutcome) (yes : Bool) (source : Source) → (yes ≡ true → file_outcome ≡ FileOutcome.Nothing)
     → (yes ≡ false → file_outcome ≡ FileOutcome.NotFormatted) → streaming.ChecksStream yes source → Checks file_outcome source
-checked file_outcome true source laid unlaid checks =
-    subst (λ (m : FileOutcome). Checks m source) (sym (laid refl)) checks
-checked file_outcome false source laid unlaid checks =
-    subst (λ (m : FileOutcome). Checks m source) (sym (unlaid refl)) checks
+checked file_outcome true source formatted_case unformatted_case checks =
+    subst (λ (m : FileOutcome). Checks m source) (sym (formatted_case refl)) checks
+checked file_outcome false source formatted_case unformatted_case checks =
+    subst (λ (m : FileOutcome). Checks m source) (sym (unformatted_case refl)) checks

@@ -17,10 +17,10 @@ lines_of-push number (x ∷ rs) r =
     ap (λ (l : List ℕ). line number x ++ l) (lines_of-push (number + 1) rs r ∙ ap (λ n. lines_of (number + 1) rs ++ line n r) here)
     ∙ sym (append_assoc (line number x) (lines_of (number + 1) rs) (line (number + length (x ∷ rs)) r))
 
-pub one_more_line : (rs : List JournalEntry) (i : ℕ) (r d : JournalEntry) (lines grown : List ℕ)
+pub one_more_line : (rs : List JournalEntry) (i : ℕ) (r d : JournalEntry) (lines extended : List ℕ)
     → i < length rs → r ≡ get_or rs i d → lines ≡ lines_of 1 (take i rs)
-    → grown ≡ lines ++ line (i + 1) r → grown ≡ lines_of 1 (take (i + 1) rs)
-one_more_line rs i r d lines grown below is so_far push =
+    → extended ≡ lines ++ line (i + 1) r → extended ≡ lines_of 1 (take (i + 1) rs)
+one_more_line rs i r d lines extended below is so_far push =
     let next : take (i + 1) rs ≡ take i rs ++ r ∷ [] = take_more rs i d below ∙ ap (λ y. take i rs ++ y ∷ []) (sym is) in
     let number : i + 1 ≡ 1 + length (take i rs) = omega (arith, length-take i rs) in
     push ∙ ap (λ (l : List ℕ). l ++ line (i + 1) r) so_far ∙ ap (λ n. lines_of 1 (take i rs) ++ line n r) number

@@ -22,7 +22,7 @@ use Rattle.hcl_token.specs.Tokens.{Pair}
 use Rattle.hcl_token.specs.declared.kind.Kind.{Kind}
 use Rattle.hcl_token.specs.declared.kind.Kind.TheVariants as k
 use Rattle.tf_quiet.proofs.OpenBrackets.{attribute_ends, block_ends, line_block_ends}
-use Rattle.tf_quiet.proofs.TokensThere.{Stands, stands, stands_kind, here, behind, only}
+use Rattle.tf_quiet.proofs.TokensThere.{HasKindAt, has_kind_at, kind_at_is, here, following, only}
 use Rattle.tf_quiet.specs.Inner.SeenMembers.{IsLine, begins_text, is_right_attribute, AreSeen, IsLeft, IsMemberWalk, IsSeenBody}
 use Rattle.tf_quiet.specs.Inner.SeenMembers as seen
 use Rattle.tf_quiet.specs.LineEnds.{line_end_from}
@@ -122,11 +122,11 @@ module _ (pairs : List Pair) where
   has_text {e} n h x = is_false (is_empty_string e) (λ f. go (is_kind (kind_of pairs n) k.HereOpen) refl (empty_expr x f))
     where
       go : (b : Bool) → is_kind (kind_of pairs n) k.HereOpen ≡ b → Empty ts false n → ⊥
-      go true q y = let clash : k.HereOpen ≡ k.QuoteOpen = only (stands pairs n k.HereOpen q) refl y.opens in absurd (cc)
+      go true q y = let clash : k.HereOpen ≡ k.QuoteOpen = only (has_kind_at pairs n k.HereOpen q) refl y.opens in absurd (cc)
       go false q y =
           let quote = and_parts (is_kind (kind_of pairs n) k.QuoteOpen) (is_kind (kind_of pairs (n + 1)) k.QuoteLit) (or_either _ _ h q) in
-          let closes : NextIs ts false k.QuoteClose (n + 1) = subst (NextIs ts false k.QuoteClose) (behind (stands pairs n k.QuoteOpen quote.0) refl) y.closes in
-          let clash : k.QuoteLit ≡ k.QuoteClose = only (stands pairs (n + 1) k.QuoteLit quote.1) refl closes in
+          let closes : NextIs ts false k.QuoteClose (n + 1) = subst (NextIs ts false k.QuoteClose) (following (has_kind_at pairs n k.QuoteOpen quote.0) refl) y.closes in
+          let clash : k.QuoteLit ≡ k.QuoteClose = only (has_kind_at pairs (n + 1) k.QuoteLit quote.1) refl closes in
           absurd (cc)
 
   -- ---- lists of attributes
@@ -189,17 +189,17 @@ module _ (pairs : List Pair) where
   -- a line without a member
 
   line_is : (n to j : ℕ) → IsLine pairs n to → IsNewline ts n j → j ≡ to
-  line_is n _ _ (seen.bare h) (line_end p) = behind (stands_kind pairs n k.LineEnd h) refl
-  line_is n _ _ (seen.bare h) (comment p q) = let clash : k.LineEnd ≡ k.LineComment = only (stands_kind pairs n k.LineEnd h) refl p in absurd (cc)
-  line_is n _ _ (seen.comment h l) (line_end p) = let clash : k.LineComment ≡ k.LineEnd = only (stands_kind pairs n k.LineComment h) refl p in absurd (cc)
+  line_is n _ _ (seen.bare h) (line_end p) = following (kind_at_is pairs n k.LineEnd h) refl
+  line_is n _ _ (seen.bare h) (comment p q) = let clash : k.LineEnd ≡ k.LineComment = only (kind_at_is pairs n k.LineEnd h) refl p in absurd (cc)
+  line_is n _ _ (seen.comment h l) (line_end p) = let clash : k.LineComment ≡ k.LineEnd = only (kind_at_is pairs n k.LineComment h) refl p in absurd (cc)
   line_is n _ _ (seen.comment h l) (comment p q) =
       let two : n + 1 + 1 ≡ n + 2 = omega arith in
-      ap (after_next ts false) (behind (stands_kind pairs n k.LineComment h) refl) ∙ behind (stands_kind pairs (n + 1) k.LineEnd l) refl ∙ two
+      ap (after_next ts false) (following (kind_at_is pairs n k.LineComment h) refl) ∙ following (kind_at_is pairs (n + 1) k.LineEnd l) refl ∙ two
 
   -- no token of another kind comes next there
   not_line : (n to : ℕ) (t : Kind) → IsLine pairs n to → NextIs ts false t n → (k.LineEnd ≡ t → ⊥) → (k.LineComment ≡ t → ⊥) → ⊥
-  not_line n _ t (seen.bare h) p e c = e (only (stands_kind pairs n k.LineEnd h) refl p)
-  not_line n _ t (seen.comment h l) p e c = c (only (stands_kind pairs n k.LineComment h) refl p)
+  not_line n _ t (seen.bare h) p e c = e (only (kind_at_is pairs n k.LineEnd h) refl p)
+  not_line n _ t (seen.comment h l) p e c = c (only (kind_at_is pairs n k.LineComment h) refl p)
 
   line_left : {names : Bool} {depth past n : ℕ} {all : List Member} (to : ℕ) → IsLine pairs n to → IsMembers ts depth all n past → NextIs ts false k.CloseBrace past → IsLeft pairs names false false depth all to past
   line_left {n} to l no_members close = absurd (not_line n to k.CloseBrace l close (λ e. cc) (λ e. cc))
@@ -217,8 +217,8 @@ module _ (pairs : List Pair) where
       (is_typed : bytes_eq (token_text pairs n) (codes "type") ≡ typed) (is_described : bytes_eq (token_text pairs n) (codes "description") ≡ described)
       (right : is_right_attribute pairs n typed described ≡ true) (named : names ≡ true → is_snake_case (token_text pairs n) ≡ true)
       (ends : line_end_from (tokens_of pairs) 0 n ≡ Some to) where
-    abbrev name_there : Stands (tokens_of pairs) n k.Identifier
-    name_there = stands pairs n k.Identifier word
+    abbrev name_there : HasKindAt (tokens_of pairs) n k.Identifier
+    name_there = has_kind_at pairs n k.Identifier word
 
     no_other : (t : Kind) → NextIs (tokens_of pairs) false t n → (k.Identifier ≡ t → ⊥) → ⊥
     no_other t p e = e (only name_there refl p)
@@ -242,13 +242,13 @@ module _ (pairs : List Pair) where
         go false false r h = absurd (cc)
 
     labels_not : {ls : List Label} {j : ℕ} → is_kind (kind_of pairs (n + 1)) k.Equal ≡ true → IsLabels (tokens_of pairs) ls (n + 1) j → NextIs (tokens_of pairs) false k.OpenBrace j → ⊥
-    labels_not e no_labels b = let clash : k.Equal ≡ k.OpenBrace = only (stands pairs (n + 1) k.Equal e) refl b in cc
-    labels_not e (word_label p ls) b = let clash : k.Equal ≡ k.Identifier = only (stands pairs (n + 1) k.Equal e) refl p in cc
-    labels_not e (text_label p q r ls) b = let clash : k.Equal ≡ k.QuoteOpen = only (stands pairs (n + 1) k.Equal e) refl p in cc
-    labels_not e (empty_label p r ls) b = let clash : k.Equal ≡ k.QuoteOpen = only (stands pairs (n + 1) k.Equal e) refl p in cc
+    labels_not e no_labels b = let clash : k.Equal ≡ k.OpenBrace = only (has_kind_at pairs (n + 1) k.Equal e) refl b in cc
+    labels_not e (word_label p ls) b = let clash : k.Equal ≡ k.Identifier = only (has_kind_at pairs (n + 1) k.Equal e) refl p in cc
+    labels_not e (text_label p q r ls) b = let clash : k.Equal ≡ k.QuoteOpen = only (has_kind_at pairs (n + 1) k.Equal e) refl p in cc
+    labels_not e (empty_label p r ls) b = let clash : k.Equal ≡ k.QuoteOpen = only (has_kind_at pairs (n + 1) k.Equal e) refl p in cc
 
     no_block : {ls : List Label} {j : ℕ} → IsLabels (tokens_of pairs) ls (after_next (tokens_of pairs) false n) j → NextIs (tokens_of pairs) false k.OpenBrace j → (typed || described) ≡ false
-    no_block {ls} {j} l b = is_false (typed || described) (λ h. labels_not (equal h) (subst (λ (z : ℕ). IsLabels (tokens_of pairs) ls z j) (behind name_there refl) l) b)
+    no_block {ls} {j} l b = is_false (typed || described) (λ h. labels_not (equal h) (subst (λ (z : ℕ). IsLabels (tokens_of pairs) ls z j) (following name_there refl) l) b)
 
     block_seen : {more_typed more_described : Bool} {xs : List Attribute} → (typed || described) ≡ false → Seen names more_typed more_described xs → Seen names (typed || more_typed) (described || more_described) xs
     block_seen {more_typed} {more_described} {xs} h s = go typed described h
@@ -269,9 +269,9 @@ module _ (pairs : List Pair) where
         (subst (λ (m : ℕ). bytes_eq (token_text pairs m) (codes "type") ≡ typed) at is_typed)
         (subst (λ (m : ℕ). bytes_eq (token_text pairs m) (codes "description") ≡ described) at is_described)
         (λ h.
-        let equals = stands pairs (n + 1) k.Equal (equal (or_right typed described h)) in
+        let equals = has_kind_at pairs (n + 1) k.Equal (equal (or_right typed described h)) in
         let two : n + 1 + 1 ≡ n + 2 = omega arith in
-        let place : after_next (tokens_of pairs) false (after_next (tokens_of pairs) false n) ≡ n + 2 = ap (after_next (tokens_of pairs) false) (behind name_there refl) ∙ behind equals refl ∙ two in
+        let place : after_next (tokens_of pairs) false (after_next (tokens_of pairs) false n) ≡ n + 2 = ap (after_next (tokens_of pairs) false) (following name_there refl) ∙ following equals refl ∙ two in
         has_text (n + 2) (valued h) (subst (λ (m : ℕ). IsExpr (tokens_of pairs) d false e m j) place x))
         (subst (λ (m : ℕ). names ≡ true → is_snake_case (token_text pairs m) ≡ true) at named) s
 
@@ -303,11 +303,11 @@ module _ (pairs : List Pair) where
 
   none_left : {depth past : ℕ} {ms : List Member} (n : ℕ) → kind_of pairs n ≡ Some k.CloseBrace → IsMembers ts depth ms n past → ms ≡ []
   none_left n h no_members = refl
-  none_left n h (blank (line_end p) ms) = let clash : k.CloseBrace ≡ k.LineEnd = only (stands_kind pairs n k.CloseBrace h) refl p in absurd (cc)
-  none_left n h (blank (comment p q) ms) = let clash : k.CloseBrace ≡ k.LineComment = only (stands_kind pairs n k.CloseBrace h) refl p in absurd (cc)
-  none_left n h (attribute p q x e ms) = let clash : k.CloseBrace ≡ k.Identifier = only (stands_kind pairs n k.CloseBrace h) refl p in absurd (cc)
-  none_left n h (block p ls b nl bs c e ms) = let clash : k.CloseBrace ≡ k.Identifier = only (stands_kind pairs n k.CloseBrace h) refl p in absurd (cc)
-  none_left n h (line_block p ls b x c e ms) = let clash : k.CloseBrace ≡ k.Identifier = only (stands_kind pairs n k.CloseBrace h) refl p in absurd (cc)
+  none_left n h (blank (line_end p) ms) = let clash : k.CloseBrace ≡ k.LineEnd = only (kind_at_is pairs n k.CloseBrace h) refl p in absurd (cc)
+  none_left n h (blank (comment p q) ms) = let clash : k.CloseBrace ≡ k.LineComment = only (kind_at_is pairs n k.CloseBrace h) refl p in absurd (cc)
+  none_left n h (attribute p q x e ms) = let clash : k.CloseBrace ≡ k.Identifier = only (kind_at_is pairs n k.CloseBrace h) refl p in absurd (cc)
+  none_left n h (block p ls b nl bs c e ms) = let clash : k.CloseBrace ≡ k.Identifier = only (kind_at_is pairs n k.CloseBrace h) refl p in absurd (cc)
+  none_left n h (line_block p ls b x c e ms) = let clash : k.CloseBrace ≡ k.Identifier = only (kind_at_is pairs n k.CloseBrace h) refl p in absurd (cc)
 
   all_seen : {names typed described : Bool} {from to : ℕ} → IsMemberWalk pairs names from to typed described → kind_of pairs to ≡ Some k.CloseBrace
       → (depth past : ℕ) (all : List Member) → IsMembers ts depth all from past → NextIs ts false k.CloseBrace past → Seen names typed described (flat_map member_attributes all)

@@ -12,7 +12,7 @@ use Rattle.hcl_grammar.specs.declared.tree.Term.{Term}
 use Rattle.hcl_grammar.specs.Grammar.{IsExpr, plain, conditional, IsLevel, lowest, level, IsOperations, no_operations, operation, IsUnary, with_operator, post, IsTails, no_tails, tails, IsTail, by_name, legacy, attribute_splat, full_splat, index, IsTerm, number, identifier, call, tuple, object, for_tuple, for_object, quoted, heredoc, parens, IsArguments, no_arguments, last_argument, spread_argument, argument, IsItems, no_items, last_item, item, IsElems, no_elems, last_elem, elems, IsFilter, no_filter, filter}
 use Rattle.hcl_grammar.specs.Lookahead.{NextIs, IsEol, eol_line, eol_end, eol_comment}
 use Rattle.hcl_grammar.specs.Tokens.{Token, next_index, after_next}
-use Rattle.tf_quiet.proofs.QuietTokens.{comes}
+use Rattle.tf_quiet.proofs.QuietTokens.{is_next_token}
 use Rattle.tf_reuse.proofs.MoveBodies.{IsLine, EndsLine}
 use Rattle.tf_reuse.specs.OneMember.{IsOneMember}
 use Rattle.tf_reuse.specs.OneMember as alone
@@ -94,7 +94,7 @@ module _ {ts : List Token} where
   not_line : {j : ℕ} (t : Token) → slice_get ts (j - 1) ≡ Some t → t.0 ≡ k.LineEnd → Ends ts j → ⊥
   unfolding after_next
   not_line {j} t h is e =
-      let c = comes ts e.mode e.kind e.place e.is in
+      let c = is_next_token ts e.mode e.kind e.place e.is in
       let at = e.at in
       let place : j - 1 ≡ next_index ts e.mode e.place = omega (arith, at) in
       let same : Some t ≡ Some c.token = sym h ∙ (ap (slice_get ts) place ∙ c.is) in

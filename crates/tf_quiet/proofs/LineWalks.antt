@@ -7,7 +7,7 @@ use Rattle.hcl_token.specs.Tokens.{Pair}
 use Rattle.hcl_token.specs.declared.kind.Kind.{Kind}
 use Rattle.hcl_token.specs.declared.kind.Kind.TheVariants as k
 use Rattle.tf_quiet.proofs.OpenBrackets.{at_token, is_later}
-use Rattle.tf_quiet.proofs.TokensThere.{stands_kind}
+use Rattle.tf_quiet.proofs.TokensThere.{kind_at_is}
 use Rattle.tf_quiet.specs.Inner.TokenClasses.{class_of}
 use Rattle.tf_quiet.specs.declared.tokens.Class.TheVariants as class
 use Rattle.tf_quiet.specs.LineEnds.{outer, depth_after, is_line_end, line_end_by, line_end_in, line_end_from}
@@ -27,7 +27,7 @@ step_at : (pairs : List Pair) (n d : ℕ) (t : Kind) → kind_of pairs n ≡ Som
     → line_end_from (tokens_of pairs) d n ≡ line_end_by t d (Some (suc n)) (line_end_from (tokens_of pairs) (depth_after t d) (suc n))
 step_at pairs n d t h =
     let ts = tokens_of pairs in
-    let s = stands_kind pairs n t h in
+    let s = kind_at_is pairs n t h in
     at_token ts n d n s.token s.is ∙ ap (λ (z : Kind). line_end_by z d (Some (suc n)) (line_end_in (drop (suc n) ts) (depth_after z d) (suc n))) s.kind
 
 pub by_other : (t : Kind) (d : ℕ) (here rest : Option ℕ) → is_line_end t ≡ false → line_end_by t d here rest ≡ rest
@@ -45,9 +45,9 @@ ends_here pairs n d t h l z =
     ap (λ (e : ℕ). line_end_from (tokens_of pairs) e n) z ∙ step_at pairs n 0 t h
     ∙ ap (λ (u : Kind). line_end_by u 0 (Some (suc n)) (line_end_from (tokens_of pairs) (depth_after u 0) (suc n))) (line_kind t l) ∙ ap Some place
 
-pub goes_on : (pairs : List Pair) (n d : ℕ) (t : Kind) → kind_of pairs n ≡ Some t → ((rest : Option ℕ) → line_end_by t d (Some (suc n)) rest ≡ rest)
+pub line_continues : (pairs : List Pair) (n d : ℕ) (t : Kind) → kind_of pairs n ≡ Some t → ((rest : Option ℕ) → line_end_by t d (Some (suc n)) rest ≡ rest)
     → line_end_from (tokens_of pairs) (depth_after t d) (n + 1) ≡ line_end_from (tokens_of pairs) d n
-goes_on pairs n d t h o =
+line_continues pairs n d t h o =
     let place : n + 1 ≡ suc n = omega arith in
     ap (λ (i : ℕ). line_end_from (tokens_of pairs) (depth_after t d) i) place ∙ sym (step_at pairs n d t h ∙ o _)
 
@@ -127,7 +127,7 @@ other_class _ h = refl
 step : (pairs : List Pair) (n d e : ℕ) (t : Kind) → kind_of pairs n ≡ Some t → class_of t ≢ class.LineEnd → depth_after t d ≡ e → line_end_from (tokens_of pairs) e (n + 1) ≡ line_end_from (tokens_of pairs) d n
 step pairs n d e t h c s =
     ap (λ (x : ℕ). line_end_from (tokens_of pairs) x (n + 1)) (sym s)
-    ∙ goes_on pairs n d t h (λ rest. by_other t d (Some (suc n)) rest (other_class t c))
+    ∙ line_continues pairs n d t h (λ rest. by_other t d (Some (suc n)) rest (other_class t c))
 
 -- such a token is quiet, and the walk goes on with this depth
 pub record Passed (pairs : List Pair) (n d e : ℕ) : Type 0 where

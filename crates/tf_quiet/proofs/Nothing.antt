@@ -32,6 +32,6 @@ pub mapped : {X : Type 0} (f : X → List Finding) (xs : List X) → Each (λ x.
 mapped f [] a = none
 mapped f (x ∷ xs) a = append a.0 (mapped f xs a.1)
 
-pub turned : {X : Type 0} (P Q : X → Type 0) → ((x : X) → P x → Q x) → (xs : List X) → Each P xs → Each Q xs
-turned P Q t [] a = tt
-turned P Q t (x ∷ xs) a = (t x a.0, turned P Q t xs a.1)
+pub each_implies : {X : Type 0} (P Q : X → Type 0) → ((x : X) → P x → Q x) → (xs : List X) → Each P xs → Each Q xs
+each_implies P Q t [] a = tt
+each_implies P Q t (x ∷ xs) a = (t x a.0, each_implies P Q t xs a.1)

@@ -17,7 +17,7 @@ use Rattle.hcl_token.specs.Tokens.{Pair}
 use Rattle.hcl_token.specs.declared.kind.Kind.TheVariants as k
 use Rattle.tf_quiet.proofs.Nothing.{Nothing, none, choose, append}
 use Rattle.tf_quiet.proofs.QuietHeads.{spelled, first_label, none_missing, missing, found, the_block}
-use Rattle.tf_quiet.proofs.TokensThere.{Stands, stands, stands_kind, here, behind, only}
+use Rattle.tf_quiet.proofs.TokensThere.{HasKindAt, has_kind_at, kind_at_is, here, following, only}
 use Rattle.tf_quiet.specs.Inner.SeenMembers.{AreSeen, IsSeenBody, is_complete}
 use Rattle.tf_quiet.specs.QuietBlocks.{HasNoBlockFindings}
 use Rattle.tf_quiet.specs.QuietHeads.{is_snake_label}
@@ -103,31 +103,31 @@ module _ (pairs : List Pair) where
 
   no_more : {ls : List Label} {j : ℕ} (n : ℕ) → kind_of pairs n ≡ Some k.OpenBrace → IsLabels ts ls n j → j ≡ n
   no_more n h no_labels = refl
-  no_more n h (word_label p ls) = let clash : k.OpenBrace ≡ k.Identifier = only (stands_kind pairs n k.OpenBrace h) refl p in absurd (cc)
-  no_more n h (text_label p q r ls) = let clash : k.OpenBrace ≡ k.QuoteOpen = only (stands_kind pairs n k.OpenBrace h) refl p in absurd (cc)
-  no_more n h (empty_label p r ls) = let clash : k.OpenBrace ≡ k.QuoteOpen = only (stands_kind pairs n k.OpenBrace h) refl p in absurd (cc)
+  no_more n h (word_label p ls) = let clash : k.OpenBrace ≡ k.Identifier = only (kind_at_is pairs n k.OpenBrace h) refl p in absurd (cc)
+  no_more n h (text_label p q r ls) = let clash : k.OpenBrace ≡ k.QuoteOpen = only (kind_at_is pairs n k.OpenBrace h) refl p in absurd (cc)
+  no_more n h (empty_label p r ls) = let clash : k.OpenBrace ≡ k.QuoteOpen = only (kind_at_is pairs n k.OpenBrace h) refl p in absurd (cc)
 
   one_label : {ls : List Label} {j : ℕ} (n : ℕ) → is_snake_label pairs n ≡ true → is_kind (kind_of pairs (n + 2)) k.QuoteClose ≡ true → kind_of pairs (n + 3) ≡ Some k.OpenBrace
       → IsLabels ts ls n j → NextIs ts false k.OpenBrace j → j ≡ n + 3
   one_label n label close opens no_labels b =
-      let start = stands pairs n k.QuoteOpen (both _ _ label).0 in
+      let start = has_kind_at pairs n k.QuoteOpen (both _ _ label).0 in
       let clash : k.QuoteOpen ≡ k.OpenBrace = only start refl b in absurd (cc)
   one_label n label close opens (word_label p ls) b =
-      let start = stands pairs n k.QuoteOpen (both _ _ label).0 in
+      let start = has_kind_at pairs n k.QuoteOpen (both _ _ label).0 in
       let clash : k.QuoteOpen ≡ k.Identifier = only start refl p in absurd (cc)
   one_label {j} n label close opens (text_label {ls = xs} p q r ls) b =
-      let start = stands pairs n k.QuoteOpen (both _ _ label).0 in
-      let text = stands pairs (n + 1) k.QuoteLit (both _ _ (both _ _ label).1).0 in
-      let last = stands pairs (n + 2) k.QuoteClose close in
+      let start = has_kind_at pairs n k.QuoteOpen (both _ _ label).0 in
+      let text = has_kind_at pairs (n + 1) k.QuoteLit (both _ _ (both _ _ label).1).0 in
+      let last = has_kind_at pairs (n + 2) k.QuoteClose close in
       let two : n + 1 + 1 ≡ n + 2 = omega arith in
       let three : n + 2 + 1 ≡ n + 3 = omega arith in
       let e : after_next ts false (after_next ts false (after_next ts false n)) ≡ n + 3 =
-      ap (λ (i : ℕ). after_next ts false (after_next ts false i)) (behind start refl) ∙ ap (after_next ts false) (behind text refl ∙ two) ∙ (behind last refl ∙ three) in
+      ap (λ (i : ℕ). after_next ts false (after_next ts false i)) (following start refl) ∙ ap (after_next ts false) (following text refl ∙ two) ∙ (following last refl ∙ three) in
       no_more (n + 3) opens (subst (λ (i : ℕ). IsLabels ts xs i j) e ls)
   one_label n label close opens (empty_label p r ls) b =
-      let start = stands pairs n k.QuoteOpen (both _ _ label).0 in
-      let text = stands pairs (n + 1) k.QuoteLit (both _ _ (both _ _ label).1).0 in
-      let next : NextIs ts false k.QuoteClose (n + 1) = subst (NextIs ts false k.QuoteClose) (behind start refl) r in
+      let start = has_kind_at pairs n k.QuoteOpen (both _ _ label).0 in
+      let text = has_kind_at pairs (n + 1) k.QuoteLit (both _ _ (both _ _ label).1).0 in
+      let next : NextIs ts false k.QuoteClose (n + 1) = subst (NextIs ts false k.QuoteClose) (following start refl) r in
       let clash : k.QuoteLit ≡ k.QuoteClose = only text refl next in absurd (cc)
 
   -- ---- the block, whose labels end where its brace is
@@ -135,28 +135,28 @@ module _ (pairs : List Pair) where
   module _ (names typed described : Bool) (from brace : ℕ) (word : kind_of pairs from ≡ Some k.Identifier) (body : IsSeenBody pairs names brace typed described)
       (place : (ls : List Label) (j : ℕ) → IsLabels (tokens_of pairs) ls (from + 1) j → NextIs (tokens_of pairs) false k.OpenBrace j → j ≡ brace)
       (finds : (rules : RuleSet) (b : Block) (j : ℕ) → IsLabels (tokens_of pairs) b.labels (from + 1) j → AreSeen pairs names typed described (attributes b) → Nothing (found rules pairs b (token_text pairs from))) where
-    abbrev name_there : Stands (tokens_of pairs) from k.Identifier
-    name_there = stands_kind pairs from k.Identifier word
+    abbrev name_there : HasKindAt (tokens_of pairs) from k.Identifier
+    name_there = kind_at_is pairs from k.Identifier word
 
     labels_here : {ls : List Label} {j : ℕ} → IsLabels (tokens_of pairs) ls (after_next (tokens_of pairs) false from) j → IsLabels (tokens_of pairs) ls (from + 1) j
-    labels_here {ls} {j} l = subst (λ (n : ℕ). IsLabels (tokens_of pairs) ls n j) (behind name_there refl) l
+    labels_here {ls} {j} l = subst (λ (n : ℕ). IsLabels (tokens_of pairs) ls n j) (following name_there refl) l
 
-    past_brace : {ls : List Label} {j : ℕ} → IsLabels (tokens_of pairs) ls (after_next (tokens_of pairs) false from) j → NextIs (tokens_of pairs) false k.OpenBrace j → after_next (tokens_of pairs) false j ≡ brace + 1
-    past_brace {ls} {j} l b = ap (after_next (tokens_of pairs) false) (place ls j (labels_here l) b) ∙ behind (stands_kind pairs brace k.OpenBrace body.opens) refl
+    after_brace : {ls : List Label} {j : ℕ} → IsLabels (tokens_of pairs) ls (after_next (tokens_of pairs) false from) j → NextIs (tokens_of pairs) false k.OpenBrace j → after_next (tokens_of pairs) false j ≡ brace + 1
+    after_brace {ls} {j} l b = ap (after_next (tokens_of pairs) false) (place ls j (labels_here l) b) ∙ following (kind_at_is pairs brace k.OpenBrace body.opens) refl
 
     pub each_nothing : (rules : RuleSet) (depth past : ℕ) (x : Member) → IsOneMember (tokens_of pairs) depth x from past → top_level_member_findings rules pairs x ≡ []
     unfolding node.attribute node.block node.body
     each_nothing rules depth past x (alone.attribute p q e l) = simp (open_attribute) refl
     each_nothing rules depth past x (alone.block {d} {ls} {bs} {j} {n} {o} {q} p labels br nl ms c l) =
         let b = the_block (next_index (tokens_of pairs) false from) q ls (content.Body (node.body (first_token_in (tokens_of pairs) false n o) o bs)) in
-        let s = body.lines d n o bs (subst (λ (i : ℕ). IsNewline (tokens_of pairs) i n) (past_brace labels br) nl) ms c in
+        let s = body.lines d n o bs (subst (λ (i : ℕ). IsNewline (tokens_of pairs) i n) (after_brace labels br) nl) ms c in
         let same : attributes b ≡ flat_map member_attributes bs = simp (open_lines) refl in
         let seen : AreSeen pairs names typed described (attributes b) = subst (AreSeen pairs names typed described) (sym same) s in
         let nothing : Nothing (found rules pairs b (token_text pairs from)) = finds rules b j (labels_here labels) seen in
         let moved : Nothing (found rules pairs b (token_text pairs (next_index (tokens_of pairs) false from))) = subst (λ (i : ℕ). Nothing (found rules pairs b (token_text pairs i))) (sym (here name_there refl)) nothing in
         simp (open_block) (moved.is)
     each_nothing rules depth past x (alone.line_block {d} {a} {o} p labels br y c l) =
-        absurd (body.no_one_line d o a (subst (λ (i : ℕ). IsOneLineBody (tokens_of pairs) d a i o) (past_brace labels br) y) c)
+        absurd (body.no_one_line d o a (subst (λ (i : ℕ). IsOneLineBody (tokens_of pairs) d a i o) (after_brace labels br) y) c)
 
     pub is_nothing : HasNoBlockFindings pairs from
     is_nothing = record { each = each_nothing }

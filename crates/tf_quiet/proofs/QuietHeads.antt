@@ -17,7 +17,7 @@ use Rattle.hcl_token.specs.TokenizedText.{kind_of}
 use Rattle.hcl_token.specs.Tokens.{Pair}
 use Rattle.hcl_token.specs.declared.kind.Kind.TheVariants as k
 use Rattle.tf_quiet.proofs.Nothing.{Nothing, none, choose, unless, append}
-use Rattle.tf_quiet.proofs.TokensThere.{stands, here, behind, only}
+use Rattle.tf_quiet.proofs.TokensThere.{has_kind_at, here, following, only}
 use Rattle.tf_quiet.specs.QuietHeads.{is_text_label, is_snake_label, is_quiet_after_word, is_quiet_head, QuietHeadsHaveNoFindings}
 use Rattle.tf_reuse.specs.OneMember.{IsOneMember}
 use Rattle.tf_reuse.specs.OneMember as alone
@@ -75,40 +75,40 @@ module _ (pairs : List Pair) where
   unfolding node.label
   first_label kind no_labels h = none
   first_label kind (word_label {i} p ls) h =
-      let start = stands pairs i k.QuoteOpen (both _ _ h).0 in
+      let start = has_kind_at pairs i k.QuoteOpen (both _ _ h).0 in
       let clash : k.QuoteOpen ≡ k.Identifier = only start refl p in absurd (cc)
   first_label kind (text_label {i} p q r ls) h =
-      let start = stands pairs i k.QuoteOpen (both _ _ h).0 in
+      let start = has_kind_at pairs i k.QuoteOpen (both _ _ h).0 in
       let more = both _ _ (both _ _ h).1 in
-      let text = stands pairs (i + 1) k.QuoteLit more.0 in
-      let e : next_index ts false (after_next ts false i) ≡ i + 1 = ap (next_index ts false) (behind start refl) ∙ here text refl in
+      let text = has_kind_at pairs (i + 1) k.QuoteLit more.0 in
+      let e : next_index ts false (after_next ts false i) ≡ i + 1 = ap (next_index ts false) (following start refl) ∙ here text refl in
       named kind (next_index ts false (after_next ts false i)) _ _ (ap (λ (n : ℕ). is_snake_case (token_text pairs n)) e ∙ more.1)
   first_label kind (empty_label {i} p r ls) h =
-      let start = stands pairs i k.QuoteOpen (both _ _ h).0 in
-      let text = stands pairs (i + 1) k.QuoteLit (both _ _ (both _ _ h).1).0 in
-      let next : NextIs ts false k.QuoteClose (i + 1) = subst (NextIs ts false k.QuoteClose) (behind start refl) r in
+      let start = has_kind_at pairs i k.QuoteOpen (both _ _ h).0 in
+      let text = has_kind_at pairs (i + 1) k.QuoteLit (both _ _ (both _ _ h).1).0 in
+      let next : NextIs ts false k.QuoteClose (i + 1) = subst (NextIs ts false k.QuoteClose) (following start refl) r in
       let clash : k.QuoteLit ≡ k.QuoteClose = only text refl next in absurd (cc)
 
   second_label : {ls : List Label} {i j : ℕ} (kind : NameKind) → IsLabels ts ls i j → is_text_label pairs i ≡ true → is_snake_label pairs (i + 3) ≡ true → Nothing (label_findings pairs kind (slice_get ls 1))
   unfolding node.label
   second_label kind no_labels h s = none
   second_label kind (word_label {i} p ls) h s =
-      let start = stands pairs i k.QuoteOpen (both _ _ h).0 in
+      let start = has_kind_at pairs i k.QuoteOpen (both _ _ h).0 in
       let clash : k.QuoteOpen ≡ k.Identifier = only start refl p in absurd (cc)
   second_label kind (text_label {ls = xs} {i} {j} p q r ls) h s =
-      let start = stands pairs i k.QuoteOpen (both _ _ h).0 in
+      let start = has_kind_at pairs i k.QuoteOpen (both _ _ h).0 in
       let more = both _ _ (both _ _ h).1 in
-      let text = stands pairs (i + 1) k.QuoteLit more.0 in
-      let close = stands pairs (i + 2) k.QuoteClose more.1 in
+      let text = has_kind_at pairs (i + 1) k.QuoteLit more.0 in
+      let close = has_kind_at pairs (i + 2) k.QuoteClose more.1 in
       let two : i + 1 + 1 ≡ i + 2 = omega arith in
       let three : i + 2 + 1 ≡ i + 3 = omega arith in
       let e : after_next ts false (after_next ts false (after_next ts false i)) ≡ i + 3 =
-      ap (λ (n : ℕ). after_next ts false (after_next ts false n)) (behind start refl) ∙ ap (after_next ts false) (behind text refl ∙ two) ∙ (behind close refl ∙ three) in
+      ap (λ (n : ℕ). after_next ts false (after_next ts false n)) (following start refl) ∙ ap (after_next ts false) (following text refl ∙ two) ∙ (following close refl ∙ three) in
       first_label kind (subst (λ (n : ℕ). IsLabels ts xs n j) e ls) s
   second_label kind (empty_label {i} p r ls) h s =
-      let start = stands pairs i k.QuoteOpen (both _ _ h).0 in
-      let text = stands pairs (i + 1) k.QuoteLit (both _ _ (both _ _ h).1).0 in
-      let next : NextIs ts false k.QuoteClose (i + 1) = subst (NextIs ts false k.QuoteClose) (behind start refl) r in
+      let start = has_kind_at pairs i k.QuoteOpen (both _ _ h).0 in
+      let text = has_kind_at pairs (i + 1) k.QuoteLit (both _ _ (both _ _ h).1).0 in
+      let next : NextIs ts false k.QuoteClose (i + 1) = subst (NextIs ts false k.QuoteClose) (following start refl) r in
       let clash : k.QuoteLit ≡ k.QuoteClose = only text refl next in absurd (cc)
 
 -- ---- a block, by its word
@@ -180,9 +180,9 @@ module _ (rules : RuleSet) (pairs : List Pair) where
       → IsLabels (tokens_of pairs) b.labels (after_next (tokens_of pairs) false from) j → Nothing (top_level_block_findings rules pairs b)
   block_nothing {j} from b h p e labels =
       let parts = both (is_kind (kind_of pairs from) k.Identifier) (is_quiet_after_word pairs from (token_text pairs from)) h in
-      let word = stands pairs from k.Identifier parts.0 in
+      let word = has_kind_at pairs from k.Identifier parts.0 in
       let at : b.block_type ≡ from = e ∙ here word refl in
-      let ls = subst (λ (n : ℕ). IsLabels (tokens_of pairs) b.labels n j) (behind word refl) labels in
+      let ls = subst (λ (n : ℕ). IsLabels (tokens_of pairs) b.labels n j) (following word refl) labels in
       let text = token_text pairs from in
       subst (λ (n : ℕ). Nothing (found rules pairs b (token_text pairs n))) (sym at)
       (by_word rules pairs b from ls text (bytes_eq text (codes "resource")) (bytes_eq text (codes "data")) (bytes_eq text (codes "module")) refl refl refl parts.1)

@@ -15,12 +15,12 @@ use Rattle.hcl_token.specs.declared.kind.Kind.{Kind}
 use Rattle.hcl_token.specs.declared.kind.Kind.TheVariants as k
 use Rattle.tf_quiet.proofs.LineEnds.{ends_line_by}
 use Rattle.tf_quiet.proofs.QuietNodes.{spelled, body_nothing}
-use Rattle.tf_quiet.proofs.QuietRuns.{kind_same, goes_on_at}
+use Rattle.tf_quiet.proofs.QuietRuns.{kind_same, continues_at}
 use Rattle.tf_quiet.proofs.QuietTokens.{AllQuiet}
 use Rattle.tf_quiet.specs.QuietMembers.{QuietMembersHaveNoFindings}
 use Rattle.tf_quiet.specs.QuietTokens.{continues, continues_by, continues_after, is_quiet_token, AreQuiet}
 use Rattle.tf_reuse.proofs.FoundNodes.{found_member}
-use Rattle.tf_reuse.proofs.MoveBodies.{in_front, move_line_member}
+use Rattle.tf_reuse.proofs.MoveBodies.{member_first, move_line_member}
 use Rattle.tf_reuse.proofs.Window.{Here, one_place, each_same}
 use Rattle.tf_reuse.specs.MembersKeep.{SameTokens}
 use Rattle.tf_reuse.specs.Renumbering.{renumber_finding}
@@ -45,12 +45,12 @@ unfolding next_kind next_token next_index
 none_at_end ts i l =
     ap (option_map (λ (t : Token). t.0)) (outside ts (i + prefix_len (λ (t : Token). is_skipped false t.0) (drop i ts)) (omega (arith, l)))
 
-record StandsAt (pairs : List Pair) (n : ℕ) (t : Kind) : Type 0 where
+record PairHasKind (pairs : List Pair) (n : ℕ) (t : Kind) : Type 0 where
   token : Token
   is : slice_get (tokens_of pairs) n ≡ Some token
   kind : token.0 ≡ t
 
-token_at : (pairs : List Pair) (n : ℕ) (t : Kind) → kind_of pairs n ≡ Some t → StandsAt pairs n t
+token_at : (pairs : List Pair) (n : ℕ) (t : Kind) → kind_of pairs n ≡ Some t → PairHasKind pairs n t
 token_at [] n t e = absurd (cc)
 token_at (p ∷ ps) zero t e = record { token = (p.kind, p.spelling); is = refl; kind = kind_same e }
 token_at (p ∷ ps) (suc n) t e = let more = token_at ps n t e in record { token = more.token; is = more.is; kind = more.kind }
@@ -66,28 +66,28 @@ kind_is (p ∷ ps) (suc n) t e = kind_is ps n t e
 
 walks_on : (pairs : List Pair) (n : ℕ) (t : Token) → slice_get (tokens_of pairs) n ≡ Some t
     → continues_after (drop n pairs) ≡ continues_by t.0 (continues (kind_of pairs (n + 1))) (continues_after (drop (n + 1) pairs))
-walks_on pairs n t e = goes_on_at pairs n t.0 (kind_is pairs n t e)
+walks_on pairs n t e = continues_at pairs n t.0 (kind_is pairs n t e)
 
 -- ---- the tokens of a member, cut out
 
-abbrev cut : List Pair → ℕ → ℕ → List Pair
-cut pairs from count = take count (drop from pairs)
+abbrev pairs_of_range : List Pair → ℕ → ℕ → List Pair
+pairs_of_range pairs from count = take count (drop from pairs)
 
-tokens_cut : (n k : ℕ) (xs : List Pair) → tokens_of (take k (drop n xs)) ≡ take k (drop n (tokens_of xs))
-tokens_cut n k xs =
+tokens_of_range : (n k : ℕ) (xs : List Pair) → tokens_of (take k (drop n xs)) ≡ take k (drop n (tokens_of xs))
+tokens_of_range n k xs =
     let token : Pair → Token = λ (p : Pair). (p.kind, p.spelling) in
     sym (take-map token k (drop n xs)) ∙ ap (take k) (sym (drop-map token n xs))
 
-length_of_cut : (pairs : List Pair) (from count : ℕ) → from + count ≤ length (tokens_of pairs) → length (tokens_of (cut pairs from count)) ≡ count
-length_of_cut pairs from count l =
+length_of_range : (pairs : List Pair) (from count : ℕ) → from + count ≤ length (tokens_of pairs) → length (tokens_of (pairs_of_range pairs from count)) ≡ count
+length_of_range pairs from count l =
     let ts = tokens_of pairs in
-    ap length (tokens_cut from count pairs) ∙ length-take-le count (drop from ts) (rw (length-drop from ts) (omega (arith, l)))
+    ap length (tokens_of_range from count pairs) ∙ length-take-le count (drop from ts) (rw (length-drop from ts) (omega (arith, l)))
 
-same_cut : (pairs : List Pair) (from count : ℕ) → from + count ≤ length (tokens_of pairs) → count < 2 ^ 64 → SameTokens (tokens_of pairs) (tokens_of (cut pairs from count)) from 0 count
-same_cut pairs from count l fits =
+range_same_tokens : (pairs : List Pair) (from count : ℕ) → from + count ≤ length (tokens_of pairs) → count < 2 ^ 64 → SameTokens (tokens_of pairs) (tokens_of (pairs_of_range pairs from count)) from 0 count
+range_same_tokens pairs from count l fits =
     let ts = tokens_of pairs in
-    let is = tokens_cut from count pairs in
-    let length_is = length_of_cut pairs from count l in
+    let is = tokens_of_range from count pairs in
+    let length_is = length_of_range pairs from count l in
     record {
       in_old = l;
       in_new = omega (arith, length_is);
@@ -100,13 +100,13 @@ same_cut pairs from count l fits =
     take_again (suc n) [] = refl
     take_again (suc n) (x ∷ xs) = ap (λ (l : List Token). x ∷ l) (take_again n xs)
 
-module _ (pairs : List Pair) (from count : ℕ) (w : SameTokens (tokens_of pairs) (tokens_of (cut pairs from count)) from 0 count)
-    (long : length (tokens_of (cut pairs from count)) ≡ count) where
+module _ (pairs : List Pair) (from count : ℕ) (w : SameTokens (tokens_of pairs) (tokens_of (pairs_of_range pairs from count)) from 0 count)
+    (long : length (tokens_of (pairs_of_range pairs from count)) ≡ count) where
   abbrev own : List Token
-  own = tokens_of (cut pairs from count)
+  own = tokens_of (pairs_of_range pairs from count)
 
-  stands : (n : ℕ) (t : Token) → slice_get own n ≡ Some t → slice_get (tokens_of pairs) (from + n) ≡ Some t
-  stands n t h =
+  has_kind_at : (n : ℕ) (t : Token) → slice_get own n ≡ Some t → slice_get (tokens_of pairs) (from + n) ≡ Some t
+  has_kind_at n t h =
       let l = inside own n t h in
       let e : 0 + n ≡ n = omega arith in
       sym (each_same w n (omega (arith, l, long))) ∙ ap (slice_get own) e ∙ h
@@ -116,7 +116,7 @@ module _ (pairs : List Pair) (from count : ℕ) (w : SameTokens (tokens_of pairs
     walk = λ n. continues_after (drop (from + n) pairs);
     at = λ n t h.
         let l = inside own n t h in
-        let is = stands n t h in
+        let is = has_kind_at n t h in
         let known = quiet.each (from + n) (omega arith) (omega (arith, l, long)) in
         let next = kind_of pairs (from + n + 1) in
         let more = continues_after (drop (from + n + 2) pairs) in
@@ -128,7 +128,7 @@ module _ (pairs : List Pair) (from count : ℕ) (w : SameTokens (tokens_of pairs
           next = next;
           is = subst (λ (i : ℕ). is_quiet_token (Some t.0) (Some t.1) next (continues_after (drop i pairs)) ≡ true) two by_text;
           walks = walks_on pairs (from + n) t is ∙ ap (λ (i : ℕ). continues_by t.0 (continues next) (continues_after (drop i pairs))) last;
-          behind = λ u b. let e : from + n + 1 ≡ from + suc n = omega arith in ap (kind_of pairs) e ∙ kind_is pairs (from + suc n) u (stands (suc n) u b);
+          following = λ u b. let e : from + n + 1 ≡ from + suc n = omega arith in ap (kind_of pairs) e ∙ kind_is pairs (from + suc n) u (has_kind_at (suc n) u b);
         };
   }
 
@@ -138,19 +138,19 @@ quiet_members each_node rules pairs depth from to x is line fits quiet =
     let ts = tokens_of pairs in
     let end_token = token_at pairs (to - 1) k.LineEnd line in
     let inner = inside ts (to - 1) end_token.token end_token.is in
-    let before = (span_members (in_front is no_members)).forth in
+    let before = (span_members (member_first is no_members)).forth in
     let count = to - from in
     let whole : from + count ≡ to = omega (arith, before) in
-    let w = same_cut pairs from count (omega (arith, whole, inner)) (omega (arith, fits)) in
-    let sub = cut pairs from count in
-    let long : length (tokens_of sub) ≡ count = length_of_cut pairs from count (omega (arith, whole, inner)) in
-    let front : Here w from 0 = record { before = 0; within = omega arith; in_old = omega arith; in_new = omega arith } in
+    let w = range_same_tokens pairs from count (omega (arith, whole, inner)) (omega (arith, fits)) in
+    let sub = pairs_of_range pairs from count in
+    let long : length (tokens_of sub) ≡ count = length_of_range pairs from count (omega (arith, whole, inner)) in
+    let leading : Here w from 0 = record { before = 0; within = omega arith; in_old = omega arith; in_new = omega arith } in
     let end : Here w to (0 + count) = record { before = count; within = omega arith; in_old = sym whole; in_new = refl } in
-    let (y, j, hj, d', m) = move_line_member w is front (omega (arith, whole)) (ends_line_by is end_token.token end_token.is end_token.kind) in
+    let (y, j, hj, d', m) = move_line_member w is leading (omega (arith, whole)) (ends_line_by is end_token.token end_token.is end_token.kind) in
     let place : j ≡ 0 + count = one_place w hj end in
     let s = found_member rules pairs sub w m in
     let body = node.body (first_token_in (tokens_of sub) false 0 j) j (y ∷ []) in
-    let is_file : IsFile (tokens_of sub) depth (node.tree (length (tokens_of sub)) body) = file no_mark (in_front d' no_members) (at_end (none_at_end (tokens_of sub) j (omega (arith, place, long)))) in
+    let is_file : IsFile (tokens_of sub) depth (node.tree (length (tokens_of sub)) body) = file no_mark (member_first d' no_members) (at_end (none_at_end (tokens_of sub) j (omega (arith, place, long)))) in
     let nothing = body_nothing rules sub (all_quiet pairs from count w long (subst (AreQuiet pairs from) (sym whole) quiet)) body (each_node (tokens_of sub) depth (node.tree (length (tokens_of sub)) body) is_file) s.nodes' s.stand' in
     let moved = sym (ap (valid_findings (length sub)) nothing.is) ∙ s.found.is in
     record { nodes = s.nodes; preorder = s.preorder; are = sym (nothing_moved (renumber_finding from 0) (valid_findings (length pairs) (flat_map (node_findings rules pairs) s.nodes)) moved) }

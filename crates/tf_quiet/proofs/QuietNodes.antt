@@ -38,8 +38,8 @@ use Rattle.tf_rules.specs.Rules.Interpolation.{sole_interpolation, sole_part, pa
 use Rattle.tf_rules.specs.Rules.Lookup.{is_lookup, is_lookup_token, lookup_findings}
 use Rattle.tf_rules.specs.TreeLayers.{ExprKindLayer, TailLayer}
 use Rattle.tf_rules_laws.proofs.Grammar.{Each, Seen, an_expr, a_term, a_tail, Closed, all_visited, inside_in_preorder, members}
-use Rattle.tf_quiet.proofs.Nothing.{Nothing, none, choose, unless_not, append, mapped, turned}
-use Rattle.tf_quiet.proofs.QuietTokens.{AllQuiet, not_index, not_lookup, no_list_behind, no_equality_behind, Passes, not_one}
+use Rattle.tf_quiet.proofs.Nothing.{Nothing, none, choose, unless_not, append, mapped, each_implies}
+use Rattle.tf_quiet.proofs.QuietTokens.{AllQuiet, not_index, not_lookup, no_list_after, no_equality_after, Passes, not_one}
 use Rattle.tf_quiet.proofs.Walks.{pass_expr}
 use Rattle.tf_quiet.specs.QuietTokens.{is_quiet_token, is_quiet_operand, is_no_equality}
 
@@ -147,14 +147,14 @@ module _ {ts : List Token} (quiet : AllQuiet ts) where
   unfolding node.operation
   links_quiet no_operations = tt
   links_quiet (operation {m} {n} {t} {op} {x} {i} p o w ws) =
-      (λ h. is_false (is_empty_list x) (λ e. no_list_behind ts quiet m i t (comparison t n op o h).operand p (empty_level w e).opens), links_quiet ws)
+      (λ h. is_false (is_empty_list x) (λ e. no_list_after ts quiet m i t (comparison t n op o h).operand p (empty_level w e).opens), links_quiet ws)
 
   head_quiet : {d : ℕ} {m : Bool} {l : ℕ} {x : Expr} {i j : ℕ} → IsLevel ts d m l x i j → (t : Kind) (n : ℕ) (op : BinaryOperator) → NextIs ts m t j → binary_operator t ≡ Some (n, op)
       → is_equality op ≡ true → is_empty_list x ≡ false
   head_quiet {m} {x} w t n op q o h =
       is_false (is_empty_list x) (λ e.
       let y = empty_level w e in
-      let f = no_equality_behind ts quiet m y.close t y.closes (subst (NextIs ts m t) y.ends q) in
+      let f = no_equality_after ts quiet m y.close t y.closes (subst (NextIs ts m t) y.ends q) in
       let g : true ≡ false = sym f ∙ (comparison t n op o h).no in
       absurd (cc))
 
@@ -314,9 +314,9 @@ module _ (rules : RuleSet) (pairs : List Pair) (quiet : AllQuiet (tokens_of pair
   -- in a body whose nodes are derived, with its nodes in order
   pub body_nothing : (body : Body) → ((n : g.Node) → g.IsWithin n (g.body body) → Derives ts n) → (nodes : List Node) → IsPreorder (map member body.members) nodes
       → Nothing (flat_map (node_findings rules pairs) nodes)
-  body_nothing body each nodes stand =
+  body_nothing body each nodes is_in_preorder =
       let root = g.body body in
       let inside = inside_in_preorder root root g.itself in
       let roots = members (S root each) IsNoIndex (closed root each) body.members inside in
-      let seen = all_visited (S root each) IsNoIndex (closed root each) stand roots in
-      mapped (node_findings rules pairs) nodes (turned (Seen (S root each) IsNoIndex) (λ n. Nothing (node_findings rules pairs n)) (node_nothing root each) nodes seen)
+      let seen = all_visited (S root each) IsNoIndex (closed root each) is_in_preorder roots in
+      mapped (node_findings rules pairs) nodes (each_implies (Seen (S root each) IsNoIndex) (λ n. Nothing (node_findings rules pairs n)) (node_nothing root each) nodes seen)

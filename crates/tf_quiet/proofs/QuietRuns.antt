@@ -28,21 +28,21 @@ one_more pairs from n a q = record {
 pub kind_same : {t u : Kind} → Some t ≡ Some u → t ≡ u
 kind_same e = cc
 
-pub goes_on_at : (pairs : List Pair) (n : ℕ) (t : Kind) → kind_of pairs n ≡ Some t
+pub continues_at : (pairs : List Pair) (n : ℕ) (t : Kind) → kind_of pairs n ≡ Some t
     → continues_after (drop n pairs) ≡ continues_by t (continues (kind_of pairs (n + 1))) (continues_after (drop (n + 1) pairs))
-goes_on_at [] n t e = absurd (cc)
-goes_on_at (p ∷ ps) zero t e = ap (λ (z : Kind). continues_by z (continues (kind_of ps 0)) (continues_after ps)) (kind_same e)
-goes_on_at (p ∷ ps) (suc n) t e =
+continues_at [] n t e = absurd (cc)
+continues_at (p ∷ ps) zero t e = ap (λ (z : Kind). continues_by z (continues (kind_of ps 0)) (continues_after ps)) (kind_same e)
+continues_at (p ∷ ps) (suc n) t e =
     let r : suc (n + 1) ≡ suc n + 1 = omega arith in
-    goes_on_at ps n t e ∙ ap (λ (i : ℕ). continues_by t (continues (kind_of (p ∷ ps) i)) (continues_after (drop i (p ∷ ps)))) r
+    continues_at ps n t e ∙ ap (λ (i : ℕ). continues_by t (continues (kind_of (p ∷ ps) i)) (continues_after (drop i (p ∷ ps)))) r
 
-pub goes_on_over : (t : Kind) (more rest : Bool) → t ≢ k.SeqClose → t ≢ k.QuoteOpen → t ≢ k.HereOpen → t ≢ k.InterpOpen → t ≢ k.DirectiveOpen → continues_by t more rest ≡ rest
-goes_on_over k.SeqClose more rest a b c d e = absurd (a refl)
-goes_on_over k.QuoteOpen more rest a b c d e = absurd (b refl)
-goes_on_over k.HereOpen more rest a b c d e = absurd (c refl)
-goes_on_over k.InterpOpen more rest a b c d e = absurd (d refl)
-goes_on_over k.DirectiveOpen more rest a b c d e = absurd (e refl)
-goes_on_over _ more rest a b c d e = refl
+pub continues_over : (t : Kind) (more rest : Bool) → t ≢ k.SeqClose → t ≢ k.QuoteOpen → t ≢ k.HereOpen → t ≢ k.InterpOpen → t ≢ k.DirectiveOpen → continues_by t more rest ≡ rest
+continues_over k.SeqClose more rest a b c d e = absurd (a refl)
+continues_over k.QuoteOpen more rest a b c d e = absurd (b refl)
+continues_over k.HereOpen more rest a b c d e = absurd (c refl)
+continues_over k.InterpOpen more rest a b c d e = absurd (d refl)
+continues_over k.DirectiveOpen more rest a b c d e = absurd (e refl)
+continues_over _ more rest a b c d e = refl
 
 pub stops_over : (t : Kind) (more rest : Bool) → ((t ≡ k.QuoteOpen) ⊎ ((t ≡ k.HereOpen) ⊎ ((t ≡ k.InterpOpen) ⊎ (t ≡ k.DirectiveOpen)))) → continues_by t more rest ≡ false
 stops_over t more rest (inl e) = rw e refl
@@ -50,11 +50,11 @@ stops_over t more rest (inr (inl e)) = rw e refl
 stops_over t more rest (inr (inr (inl e))) = rw e refl
 stops_over t more rest (inr (inr (inr e))) = rw e refl
 
-pub none_behind : (pairs : List Pair) (n : ℕ) → length pairs ≤ n → continues_after (drop n pairs) ≡ false
-none_behind [] zero l = refl
-none_behind [] (suc n) l = refl
-none_behind (p ∷ ps) zero l = absurd (omega (arith, l))
-none_behind (p ∷ ps) (suc n) l = none_behind ps n (omega (arith, l))
+pub no_run_continues : (pairs : List Pair) (n : ℕ) → length pairs ≤ n → continues_after (drop n pairs) ≡ false
+no_run_continues [] zero l = refl
+no_run_continues [] (suc n) l = refl
+no_run_continues (p ∷ ps) zero l = absurd (omega (arith, l))
+no_run_continues (p ∷ ps) (suc n) l = no_run_continues ps n (omega (arith, l))
 
 -- ---- runs
 

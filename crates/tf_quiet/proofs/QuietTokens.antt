@@ -17,7 +17,7 @@ pub record QuietAt (ts : List Token) (walk : ℕ → Bool) (n : ℕ) (t : Token)
   pub next : Option Kind
   pub is : is_quiet_token (Some t.0) (Some t.1) next (walk (n + 2)) ≡ true
   pub walks : walk n ≡ continues_by t.0 (continues next) (walk (n + 1))
-  pub behind : (u : Token) → slice_get ts (suc n) ≡ Some u → next ≡ Some u.0
+  pub following : (u : Token) → slice_get ts (suc n) ≡ Some u → next ≡ Some u.0
 
 -- each token of a list is
 pub record AllQuiet (ts : List Token) : Type 0 where
@@ -54,39 +54,39 @@ skipped_is_quiet m k.LineEnd s o w h = refl
 skipped_is_quiet m k.LineComment s o w h = refl
 skipped_is_quiet m _ s o w h = absurd (cc)
 
-text_stands : (t : Kind) (w : Bool) → is_quiet_after_quote (Some t) w ≡ true → (m : Bool) → is_skipped m t ≡ false
-text_stands k.QuoteLit w h m = refl
-text_stands k.QuoteClose w h m = refl
-text_stands k.DirectiveOpen w h m = refl
-text_stands k.InterpOpen w h m = refl
-text_stands _ w h m = absurd (cc)
+text_not_skipped : (t : Kind) (w : Bool) → is_quiet_after_quote (Some t) w ≡ true → (m : Bool) → is_skipped m t ≡ false
+text_not_skipped k.QuoteLit w h m = refl
+text_not_skipped k.QuoteClose w h m = refl
+text_not_skipped k.DirectiveOpen w h m = refl
+text_not_skipped k.InterpOpen w h m = refl
+text_not_skipped _ w h m = absurd (cc)
 
-more_stands : (t : Kind) → continues (Some t) ≡ true → (m : Bool) → is_skipped m t ≡ false
-more_stands k.QuoteLit h m = refl
-more_stands k.InterpOpen h m = refl
-more_stands k.DirectiveOpen h m = refl
-more_stands _ h m = absurd (cc)
+more_not_skipped : (t : Kind) → continues (Some t) ≡ true → (m : Bool) → is_skipped m t ≡ false
+more_not_skipped k.QuoteLit h m = refl
+more_not_skipped k.InterpOpen h m = refl
+more_not_skipped k.DirectiveOpen h m = refl
+more_not_skipped _ h m = absurd (cc)
 
-operand_stands : (t : Kind) → is_quiet_operand (Some t) ≡ true → (m : Bool) → is_skipped m t ≡ false
-operand_stands k.InlineComment h m = absurd (cc)
-operand_stands k.LineEnd h m = absurd (cc)
-operand_stands k.LineComment h m = absurd (cc)
-operand_stands _ h m = refl
+operand_not_skipped : (t : Kind) → is_quiet_operand (Some t) ≡ true → (m : Bool) → is_skipped m t ≡ false
+operand_not_skipped k.InlineComment h m = absurd (cc)
+operand_not_skipped k.LineEnd h m = absurd (cc)
+operand_not_skipped k.LineComment h m = absurd (cc)
+operand_not_skipped _ h m = refl
 
 -- ---- the token that comes next
 
-pub record Comes (ts : List Token) (m : Bool) (t : Kind) (i : ℕ) : Type 0 where
+pub record IsNextToken (ts : List Token) (m : Bool) (t : Kind) (i : ℕ) : Type 0 where
   pub token : Token
   pub is : slice_get ts (next_index ts m i) ≡ Some token
   pub kind : token.0 ≡ t
 
-token_by : (ts : List Token) (m : Bool) (t : Kind) (i : ℕ) (o : Option Token) → slice_get ts (next_index ts m i) ≡ o → option_map (λ (t : Token). t.0) o ≡ Some t → Comes ts m t i
+token_by : (ts : List Token) (m : Bool) (t : Kind) (i : ℕ) (o : Option Token) → slice_get ts (next_index ts m i) ≡ o → option_map (λ (t : Token). t.0) o ≡ Some t → IsNextToken ts m t i
 token_by ts m t i None h e = absurd (cc)
 token_by ts m t i (Some u) h e = record { token = u; is = h; kind = let f : Some u.0 ≡ Some t = e in cc }
 
-pub comes : (ts : List Token) (m : Bool) (t : Kind) (i : ℕ) → NextIs ts m t i → Comes ts m t i
+pub is_next_token : (ts : List Token) (m : Bool) (t : Kind) (i : ℕ) → NextIs ts m t i → IsNextToken ts m t i
 unfolding next_kind next_token
-comes ts m t i e = token_by ts m t i (slice_get ts (next_index ts m i)) refl e
+is_next_token ts m t i e = token_by ts m t i (slice_get ts (next_index ts m i)) refl e
 
 -- where there is no token, there is none after it
 beyond : (ts : List Token) (i n : ℕ) → slice_get ts i ≡ None → slice_get ts (i + n) ≡ None
@@ -164,7 +164,7 @@ module _ (ts : List Token) (quiet : AllQuiet ts) where
 
   pub not_index : (m : Bool) (i : ℕ) → NextIs ts m k.DotIndex i → ⊥
   not_index m i p =
-      let c = comes ts m k.DotIndex i p in
+      let c = is_next_token ts m k.DotIndex i p in
       let q = quiet.at (next_index ts m i) c.token c.is in
       let f : false ≡ true = subst (λ (z : Kind). is_quiet_token (Some z) (Some c.token.1) q.next (quiet.walk (next_index ts m i + 2)) ≡ true) c.kind q.is in
       absurd (cc)
@@ -177,7 +177,7 @@ module _ (ts : List Token) (quiet : AllQuiet ts) where
 
   pub not_lookup : (m : Bool) (i : ℕ) → NextIs ts m k.Identifier i → Word m i
   not_lookup m i p =
-      let c = comes ts m k.Identifier i p in
+      let c = is_next_token ts m k.Identifier i p in
       let q = quiet.at (next_index ts m i) c.token c.is in
       let f : not (is_lookup_token (Some c.token.1)) ≡ true = subst (λ (z : Kind). is_quiet_token (Some z) (Some c.token.1) q.next (quiet.walk (next_index ts m i + 2)) ≡ true) c.kind q.is in
       record { token = c.token; is = c.is; other = not_true (is_lookup_token (Some c.token.1)) f }
@@ -189,15 +189,15 @@ module _ (ts : List Token) (quiet : AllQuiet ts) where
   quiet_operand m n next f known r =
       clash ts m k.OpenBracket n (slice_get ts n) refl (λ u e.
       let g : is_quiet_operand (Some u.0) ≡ true = subst (λ (z : Option Kind). is_quiet_operand z ≡ true) (known u e) f in
-      (operand_stands u.0 g m, λ same. let h : false ≡ true = subst (λ (z : Kind). is_quiet_operand (Some z) ≡ true) same g in absurd (cc))) r
+      (operand_not_skipped u.0 g m, λ same. let h : false ≡ true = subst (λ (z : Kind). is_quiet_operand (Some z) ≡ true) same g in absurd (cc))) r
 
-  pub no_list_behind : (m : Bool) (i : ℕ) (t : Kind) → ((s : Option (List ℕ)) (o : Option Kind) (w : Bool) → is_quiet_token (Some t) s o w ≡ is_quiet_operand o) → NextIs ts m t i → NextIs ts m k.OpenBracket (after_next ts m i) → ⊥
+  pub no_list_after : (m : Bool) (i : ℕ) (t : Kind) → ((s : Option (List ℕ)) (o : Option Kind) (w : Bool) → is_quiet_token (Some t) s o w ≡ is_quiet_operand o) → NextIs ts m t i → NextIs ts m k.OpenBracket (after_next ts m i) → ⊥
   unfolding after_next
-  no_list_behind m i t operator p r =
-      let c = comes ts m t i p in
+  no_list_after m i t operator p r =
+      let c = is_next_token ts m t i p in
       let q = quiet.at (next_index ts m i) c.token c.is in
       let f = subst (λ (z : Kind). is_quiet_token (Some z) (Some c.token.1) q.next (quiet.walk (next_index ts m i + 2)) ≡ true) c.kind q.is in
-      quiet_operand m (suc (next_index ts m i)) q.next (sym (operator (Some c.token.1) q.next (quiet.walk (next_index ts m i + 2))) ∙ f) q.behind r
+      quiet_operand m (suc (next_index ts m i)) q.next (sym (operator (Some c.token.1) q.next (quiet.walk (next_index ts m i + 2))) ∙ f) q.following r
 
   -- right after a token of which this is known there is no comparison
   no_operator : (n : ℕ) (t : Kind) (a u : Token) → slice_get ts n ≡ Some a → slice_get ts (suc n) ≡ Some u → u.0 ≡ t
@@ -205,13 +205,13 @@ module _ (ts : List Token) (quiet : AllQuiet ts) where
   no_operator n t a u e f kind before =
       let q = quiet.at n a e in
       let g = sym (before (Some a.1) q.next (quiet.walk (n + 2))) ∙ q.is in
-      subst (λ (z : Kind). is_no_equality (Some z) ≡ true) kind (subst (λ (z : Option Kind). is_no_equality z ≡ true) (q.behind u f) g)
+      subst (λ (z : Kind). is_no_equality (Some z) ≡ true) kind (subst (λ (z : Option Kind). is_no_equality z ≡ true) (q.following u f) g)
 
-  behind_place : (m : Bool) (t : Kind) (a : Token) (n : ℕ) → slice_get ts n ≡ Some a → a.0 ≡ k.CloseBracket → (u : Token) (at : ℕ) → next_index ts m (suc n) ≡ at → slice_get ts at ≡ Some u → u.0 ≡ t
+  kind_after_place : (m : Bool) (t : Kind) (a : Token) (n : ℕ) → slice_get ts n ≡ Some a → a.0 ≡ k.CloseBracket → (u : Token) (at : ℕ) → next_index ts m (suc n) ≡ at → slice_get ts at ≡ Some u → u.0 ≡ t
       → (suc n < at) ⊎ (suc n ≡ at) → is_no_equality (Some t) ≡ true
-  behind_place m t a n e closes u at next f kind (inr same) =
+  kind_after_place m t a n e closes u at next f kind (inr same) =
       no_operator n t a u e (ap (slice_get ts) same ∙ f) kind (λ s o w. ap (λ (z : Kind). is_quiet_token (Some z) s o w) closes)
-  behind_place m t a n e closes u at next f kind (inl l) =
+  kind_after_place m t a n e closes u at next f kind (inl l) =
       let d = dropped ts m (suc n) (at - 1) (omega (arith, l)) (omega (arith, l, next)) in
       let last : suc (at - 1) ≡ at = omega (arith, l) in
       no_operator (at - 1) t d.token u d.is (ap (slice_get ts) last ∙ f) kind (λ s o w. skipped_is_quiet m d.token.0 s o w d.skipped)
@@ -224,12 +224,12 @@ module _ (ts : List Token) (quiet : AllQuiet ts) where
   not_before m i = elim (below_or_not i (next_index ts m i)) [ inl l ↦ inl l | inr l ↦ inr (let f = forth m i in omega (arith, l, f)) ]
 
   -- no comparison follows the end of a list, and what is dropped
-  pub no_equality_behind : (m : Bool) (i : ℕ) (t : Kind) → NextIs ts true k.CloseBracket i → NextIs ts m t (after_next ts true i) → is_no_equality (Some t) ≡ true
+  pub no_equality_after : (m : Bool) (i : ℕ) (t : Kind) → NextIs ts true k.CloseBracket i → NextIs ts m t (after_next ts true i) → is_no_equality (Some t) ≡ true
   unfolding after_next
-  no_equality_behind m i t p r =
-      let c = comes ts true k.CloseBracket i p in
-      let u = comes ts m t (suc (next_index ts true i)) r in
-      behind_place m t c.token (next_index ts true i) c.is c.kind u.token (next_index ts m (suc (next_index ts true i))) refl u.is u.kind (not_before m (suc (next_index ts true i)))
+  no_equality_after m i t p r =
+      let c = is_next_token ts true k.CloseBracket i p in
+      let u = is_next_token ts m t (suc (next_index ts true i)) r in
+      kind_after_place m t c.token (next_index ts true i) c.is c.kind u.token (next_index ts m (suc (next_index ts true i))) refl u.is u.kind (not_before m (suc (next_index ts true i)))
 
   -- ---- a walk through an interpolation
 
@@ -263,7 +263,7 @@ module _ (ts : List Token) (quiet : AllQuiet ts) where
   unfolding after_next
   one m i t f p = record {
     on = λ h.
-        let c = comes ts m t i p in
+        let c = is_next_token ts m t i p in
         let n = next_index ts m i in
         let q = quiet.at n c.token c.is in
         let e : quiet.walk n ≡ quiet.walk (n + 1) = q.walks ∙ passed c.token.0 (continues q.next) (quiet.walk (n + 1)) (ap is_passed c.kind ∙ f) in
@@ -275,7 +275,7 @@ module _ (ts : List Token) (quiet : AllQuiet ts) where
   pub stop : (m : Bool) (i j : ℕ) (t : Kind) → ((more rest : Bool) → continues_by t more rest ≡ false) → NextIs ts m t i → Passes i j
   stop m i j t f p = record {
     on = λ h.
-        let c = comes ts m t i p in
+        let c = is_next_token ts m t i p in
         let n = next_index ts m i in
         let q = quiet.at n c.token c.is in
         let e : quiet.walk n ≡ false = q.walks ∙ (ap (λ (z : Kind). continues_by z (continues q.next) (quiet.walk (n + 1))) c.kind ∙ f (continues q.next) (quiet.walk (n + 1))) in
@@ -284,20 +284,20 @@ module _ (ts : List Token) (quiet : AllQuiet ts) where
   }
 
   -- after the end of the interpolation quoted text goes on, where the walk came there
-  goes_behind : (m : Bool) (n : ℕ) (next : Option Kind) → continues next ≡ true → ((u : Token) → slice_get ts n ≡ Some u → next ≡ Some u.0) → NextIs ts m k.QuoteClose n → ⊥
-  goes_behind m n next f known r =
+  continues_no_quote : (m : Bool) (n : ℕ) (next : Option Kind) → continues next ≡ true → ((u : Token) → slice_get ts n ≡ Some u → next ≡ Some u.0) → NextIs ts m k.QuoteClose n → ⊥
+  continues_no_quote m n next f known r =
       clash ts m k.QuoteClose n (slice_get ts n) refl (λ u e.
       let g : continues (Some u.0) ≡ true = subst (λ (z : Option Kind). continues z ≡ true) (known u e) f in
-      (more_stands u.0 g m, λ same. let h : false ≡ true = subst (λ (z : Kind). continues (Some z) ≡ true) same g in absurd (cc))) r
+      (more_not_skipped u.0 g m, λ same. let h : false ≡ true = subst (λ (z : Kind). continues (Some z) ≡ true) same g in absurd (cc))) r
 
-  no_quote_behind : (m : Bool) (j : ℕ) → quiet.walk j ≡ true → NextIs ts true k.SeqClose j → NextIs ts m k.QuoteClose (after_next ts true j) → ⊥
+  no_quote_after : (m : Bool) (j : ℕ) → quiet.walk j ≡ true → NextIs ts true k.SeqClose j → NextIs ts m k.QuoteClose (after_next ts true j) → ⊥
   unfolding after_next
-  no_quote_behind m j h p r =
-      let c = comes ts true k.SeqClose j p in
+  no_quote_after m j h p r =
+      let c = is_next_token ts true k.SeqClose j p in
       let n = next_index ts true j in
       let q = quiet.at n c.token c.is in
       let e : quiet.walk n ≡ continues q.next = q.walks ∙ ap (λ (z : Kind). continues_by z (continues q.next) (quiet.walk (n + 1))) c.kind in
-      goes_behind m (suc n) q.next (sym e ∙ to_next true j h) q.behind r
+      continues_no_quote m (suc n) q.next (sym e ∙ to_next true j h) q.following r
 
   -- the walk begins after an interpolation that begins right after a quote
   begins_by : (m : Bool) (n : ℕ) (next : Option Kind) (w : Bool) → is_quiet_after_quote next w ≡ true → ((u : Token) → slice_get ts n ≡ Some u → next ≡ Some u.0)
@@ -305,22 +305,22 @@ module _ (ts : List Token) (quiet : AllQuiet ts) where
   begins_by m n next w f known None e r = absurd (none_next ts m k.InterpOpen n e r)
   begins_by m n next w f known (Some u) e r =
       let g : is_quiet_after_quote (Some u.0) w ≡ true = subst (λ (z : Option Kind). is_quiet_after_quote z w ≡ true) (known u e) f in
-      let d = text_stands u.0 w g m in
+      let d = text_not_skipped u.0 w g m in
       let same = some_next ts m k.InterpOpen n u e d r in
       (subst (λ (z : Kind). is_quiet_after_quote (Some z) w ≡ true) same g, next_here ts m n u e d)
 
   begins : (m : Bool) (i : ℕ) → NextIs ts m k.QuoteOpen i → NextIs ts m k.InterpOpen (after_next ts m i) → quiet.walk (after_next ts m (after_next ts m i)) ≡ true
   unfolding after_next
   begins m i p r =
-      let c = comes ts m k.QuoteOpen i p in
+      let c = is_next_token ts m k.QuoteOpen i p in
       let n = next_index ts m i in
       let q = quiet.at n c.token c.is in
       let f : is_quiet_after_quote q.next (quiet.walk (n + 2)) ≡ true = subst (λ (z : Kind). is_quiet_token (Some z) (Some c.token.1) q.next (quiet.walk (n + 2)) ≡ true) c.kind q.is in
-      let b = begins_by m (suc n) q.next (quiet.walk (n + 2)) f q.behind (slice_get ts (suc n)) refl r in
+      let b = begins_by m (suc n) q.next (quiet.walk (n + 2)) f q.following (slice_get ts (suc n)) refl r in
       let e : n + 2 ≡ suc (next_index ts m (suc n)) = omega (arith, b.1) in
       subst (λ (z : ℕ). quiet.walk z ≡ true) e b.0
 
   -- a quoted text is not one interpolation, if a walk passes what is in that
   pub not_one : (m : Bool) (i j : ℕ) → NextIs ts m k.QuoteOpen i → NextIs ts m k.InterpOpen (after_next ts m i) → Passes (after_next ts m (after_next ts m i)) j
       → NextIs ts true k.SeqClose j → NextIs ts m k.QuoteClose (after_next ts true j) → ⊥
-  not_one m i j p r inner q c = no_quote_behind m j (inner.on (begins m i p r)) q c
+  not_one m i j p r inner q c = no_quote_after m j (inner.on (begins m i p r)) q c

@@ -97,8 +97,8 @@ module _ (old new : List Pair) {from to count : ℕ} (w : SameTokens (tokens_of 
   at : {n n' : ℕ} → Same w n n' → Here w n n'
   at h = record { before = h.before; within = omega (arith, h.within); in_old = h.in_old; in_new = h.in_new }
 
-  behind : {n n' : ℕ} → Same w n n' → Here w (n + 1) (n' + 1)
-  behind h = record { before = h.before + 1; within = omega (arith, h.within); in_old = omega (arith, h.in_old); in_new = omega (arith, h.in_new) }
+  following : {n n' : ℕ} → Same w n n' → Here w (n + 1) (n' + 1)
+  following h = record { before = h.before + 1; within = omega (arith, h.within); in_old = omega (arith, h.in_old); in_new = omega (arith, h.in_new) }
 
   pub word_moves : {n n' : ℕ} → Same w n n' → token_text new n' ≡ token_text old n
   word_moves h = ap (λ (o : Option (List ℕ)). unwrap_or o []) (spelling_moved old new w h)
@@ -179,7 +179,7 @@ module _ (old new : List Pair) {from to count : ℕ} (w : SameTokens (tokens_of 
 
   locals_moves : {xs xs' : List Attribute} → SameAttributes xs xs' → Moves old new from to (flat_map (local_findings old) xs) (flat_map (local_findings new) xs')
   locals_moves none = moves.none
-  locals_moves (more h e r) = append (naming_moves Local (moves_as.one_number h) (at h) (behind h)) (locals_moves r)
+  locals_moves (more h e r) = append (naming_moves Local (moves_as.one_number h) (at h) (following h)) (locals_moves r)
 
   -- ---- blocks
 
@@ -198,7 +198,7 @@ module _ (old new : List Pair) {from to count : ℕ} (w : SameTokens (tokens_of 
 
   missing_moves : (rule : Rule) (b b' : Block) → SameBlock b b' → {o o' : Option ℕ} → MovedNumber (Here w) (Same w) o o'
       → Moves old new from to (missing_finding rule b o) (missing_finding rule b' o')
-  missing_moves rule b b' s n = finding_moves old new w rule (at s.name) (behind s.name) (ap (λ (m : Option ℕ). message None m) (number_moves n)) no_fix
+  missing_moves rule b b' s n = finding_moves old new w rule (at s.name) (following s.name) (ap (λ (m : Option ℕ). message None m) (number_moves n)) no_fix
 
   untyped_moves : (rules : RuleSet) (b b' : Block) → SameBlock b b' → (l l' : Label) → MovedNumber (Here w) (Same w) l.name l'.name
       → Moves old new from to (untyped_findings rules old b l) (untyped_findings rules new b' l')

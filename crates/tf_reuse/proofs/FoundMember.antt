@@ -31,6 +31,6 @@ keeps_found rules old new {from} {to} w m found a =
     let s = found_member rules old new w m in
     record {
       nodes = s.nodes';
-      preorder = s.stand';
+      preorder = s.is_preorder';
       are = ap (map (renumber_finding from to)) (a.are ∙ ap (λ ns. valid_findings (length old) (flat_map (node_findings rules old) ns)) (one_list a.preorder s.preorder)) ∙ sym s.found.is;
     }

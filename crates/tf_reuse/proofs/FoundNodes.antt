@@ -29,7 +29,7 @@ use Rattle.tf_reuse.proofs.RenumberedNodes as moved
 use Rattle.tf_reuse.proofs.RenumberedNodes.{MovedExpr, MovedForm, MovedLinks, MovedTails, MovedTail, MovedTerm, MovedShape, MovedExprs, MovedElems, MovedIntro, MovedFilter, MovedTemplate, MovedParts, MovedPart, MovedElse, MovedOnLine, MovedMember, MovedContent, MovedMembers}
 use Rattle.tf_reuse.proofs.Renumbering.{Moves, append}
 use Rattle.tf_reuse.proofs.Renumbering as moves
-use Rattle.tf_reuse.proofs.RenumberedFindings.{splat_behind_moved, at_expr, at_term, at_tail}
+use Rattle.tf_reuse.proofs.RenumberedFindings.{splat_after_moved, at_expr, at_term, at_tail}
 use Rattle.tf_reuse.proofs.Window.{Here, Same}
 use Rattle.tf_reuse.specs.MembersKeep.{SameTokens}
 use Rattle.tf_rules.specs.declared.rule_set.RuleSet.{RuleSet}
@@ -40,7 +40,7 @@ pub record SameFound (rules : RuleSet) (old new : List Pair) (from to : ℕ) (ns
   pub nodes : List Node
   pub nodes' : List Node
   pub preorder : IsPreorder ns nodes
-  pub stand' : IsPreorder ns' nodes'
+  pub is_preorder' : IsPreorder ns' nodes'
   pub found : Moves old new from to (flat_map (node_findings rules old) nodes) (flat_map (node_findings rules new) nodes')
 
 -- what is in the nodes of two lists
@@ -50,7 +50,7 @@ preorder_both {ys} (nodes.visit {n} {ns} {inside} {others} a c) b = rw (append_a
 
 module _ {rules : RuleSet} {old new : List Pair} {from to : ℕ} where
   pub none : SameFound rules old new from to [] []
-  none = record { nodes = []; nodes' = []; preorder = nodes.no_nodes; stand' = nodes.no_nodes; found = moves.none }
+  none = record { nodes = []; nodes' = []; preorder = nodes.no_nodes; is_preorder' = nodes.no_nodes; found = moves.none }
 
   pub both : {ns ns' ms ms' : List Node} → SameFound rules old new from to ns ns' → SameFound rules old new from to ms ms'
       → SameFound rules old new from to (ns ++ ms) (ns' ++ ms')
@@ -58,7 +58,7 @@ module _ {rules : RuleSet} {old new : List Pair} {from to : ℕ} where
     nodes = a.nodes ++ b.nodes;
     nodes' = a.nodes' ++ b.nodes';
     preorder = preorder_both a.preorder b.preorder;
-    stand' = preorder_both a.stand' b.stand';
+    is_preorder' = preorder_both a.is_preorder' b.is_preorder';
     found = rw (flat_map-append (node_findings rules new) a.nodes' b.nodes', flat_map-append (node_findings rules old) a.nodes b.nodes) (append a.found b.found);
   }
 
@@ -69,7 +69,7 @@ module _ {rules : RuleSet} {old new : List Pair} {from to : ℕ} where
     nodes = n ∷ (a.nodes ++ []);
     nodes' = n' ∷ (a.nodes' ++ []);
     preorder = nodes.visit a.preorder nodes.no_nodes;
-    stand' = nodes.visit a.stand' nodes.no_nodes;
+    is_preorder' = nodes.visit a.is_preorder' nodes.no_nodes;
     found = append e (rw (append-nil a.nodes', append-nil a.nodes) a.found);
   }
 
@@ -124,7 +124,7 @@ module _ (rules : RuleSet) (old new : List Pair) {from to count : ℕ} (w : Same
     found_tails splat moved.no_tails = none
     found_tails splat (moved.tails {x} {x'} {xs} {xs'} a b) =
         both (tail_found splat a (found_in_tail a))
-        (subst (λ (s : Bool). SameFound rules old new from to (nodes_of_tails (splat_after splat (out-Tail x)) xs) (nodes_of_tails s xs')) (sym (splat_behind_moved splat a))
+        (subst (λ (s : Bool). SameFound rules old new from to (nodes_of_tails (splat_after splat (out-Tail x)) xs) (nodes_of_tails s xs')) (sym (splat_after_moved splat a))
         (found_tails (splat_after splat (out-Tail x)) b))
 
     found_in_tail : {x x' : Tail} → MovedTail (Here w) (Same w) x x' → SameFound rules old new from to (tail_children (out-Tail x)) (tail_children (out-Tail x'))

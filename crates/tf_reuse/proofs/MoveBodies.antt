@@ -22,13 +22,13 @@ use Rattle.tf_reuse.proofs.MoveExpressions.{move_expr}
 use Rattle.tf_reuse.proofs.MoveLines.{move_line}
 use Rattle.tf_reuse.proofs.RenumberedNodes.{MovedExpr, MovedLabels, MovedOnLine, MovedMember, MovedMembers}
 use Rattle.tf_reuse.proofs.RenumberedNodes as moved
-use Rattle.tf_reuse.proofs.Window.{Here, Same, Comes, starts, starts_here, afters, nexts, some_next, comes_end, comes_within, earlier, firsts}
+use Rattle.tf_reuse.proofs.Window.{Here, Same, NextIsWithin, starts, starts_here, afters, nexts, some_next, next_within_end, next_within, earlier, firsts}
 
 -- one member in front of others
-pub in_front : {ts : List Token} {d : ℕ} {x : Member} {ms : List Member} {i n l : ℕ} → IsOneMember ts d x i n → IsMembers ts d ms n l → IsMembers ts d (x ∷ ms) i l
-in_front (alone.attribute p q x el) r = attribute p q x el r
-in_front (alone.block p ls br nl bs cl el) r = block p ls br nl bs cl el r
-in_front (alone.line_block p ls br x cl el) r = line_block p ls br x cl el r
+pub member_first : {ts : List Token} {d : ℕ} {x : Member} {ms : List Member} {i n l : ℕ} → IsOneMember ts d x i n → IsMembers ts d ms n l → IsMembers ts d (x ∷ ms) i l
+member_first (alone.attribute p q x el) r = attribute p q x el r
+member_first (alone.block p ls br nl bs cl el) r = block p ls br nl bs cl el r
+member_first (alone.line_block p ls br x cl el) r = line_block p ls br x cl el r
 
 -- a line end ends it, not the end of the text
 abbrev pub IsLine : {ts : List Token} {i j : ℕ} → IsEol ts i j → Type 0
@@ -57,24 +57,24 @@ module _ {old new : List Token} {from to count : ℕ} (w : SameTokens old new fr
   unfolding after_next
   begins i = omega arith
 
-  goes : (i : ℕ) → i < after_next old false i
+  advances : (i : ℕ) → i < after_next old false i
   unfolding after_next next_index
-  goes i = omega arith
+  advances i = omega arith
 
   -- what comes next is one of the tokens, if what comes after it is
-  back : (i : ℕ) → Comes w false (after_next old false i) → Comes w false i
-  back i c = earlier w false i (after_next old false i) (omega (arith, goes i)) c
+  back : (i : ℕ) → NextIsWithin w false (after_next old false i) → NextIsWithin w false i
+  back i c = earlier w false i (after_next old false i) (omega (arith, advances i)) c
 
-  at : (t : Kind) {i i' : ℕ} → Here w i i' → Comes w false i → NextIs old false t i → NextIs new false t i'
+  at : (t : Kind) {i i' : ℕ} → Here w i i' → NextIsWithin w false i → NextIs old false t i → NextIs new false t i'
   at t h c p = nexts w false h c ∙ p
 
   -- ---- ends of lines
 
-  eol_comes : {i j : ℕ} (el : IsEol old i j) → j ≤ from + count → IsLine el → Comes w false i
-  eol_comes (eol_line (line_end {i} q)) l n = comes_within w false i l
-  eol_comes (eol_line (comment {i} p q)) l n = back i (comes_within w false (after_next old false i) l)
-  eol_comes (eol_end e) l n = absurd n
-  eol_comes (eol_comment p e) l n = absurd n
+  eol_next_within : {i j : ℕ} (el : IsEol old i j) → j ≤ from + count → IsLine el → NextIsWithin w false i
+  eol_next_within (eol_line (line_end {i} q)) l n = next_within w false i l
+  eol_next_within (eol_line (comment {i} p q)) l n = back i (next_within w false (after_next old false i) l)
+  eol_next_within (eol_end e) l n = absurd n
+  eol_next_within (eol_comment p e) l n = absurd n
 
   pub move_eol : {i i' j : ℕ} (el : IsEol old i j) → Here w i i' → j ≤ from + count → IsLine el → (j' : ℕ) × Here w j j' × IsEol new i' j'
   move_eol (eol_line q) h l n = let (j', hj, q') = move_line w q h l in (j', hj, eol_line q')
@@ -83,7 +83,7 @@ module _ {old new : List Token} {from to count : ℕ} (w : SameTokens old new fr
 
   -- ---- labels
 
-  pub move_labels : {ls : List Label} {i i' j : ℕ} → IsLabels old ls i j → Here w i i' → Comes w false j
+  pub move_labels : {ls : List Label} {i i' j : ℕ} → IsLabels old ls i j → Here w i i' → NextIsWithin w false j
       → (ls' : List Label) × (j' : ℕ) × Here w j j' × IsLabels new ls' i' j' × MovedLabels (Here w) (Same w) ls ls'
   move_labels {i'} no_labels h c = ([], i', h, no_labels, moved.no_labels)
   move_labels {i'} (word_label {i} {j} p r) h c =
@@ -110,7 +110,7 @@ module _ {old new : List Token} {from to count : ℕ} (w : SameTokens old new fr
         j',
         hj,
         text_label {ls = ls'} {j = j'} (at k.QuoteOpen h c0 p) (at k.QuoteLit h1 c1 q) (at k.QuoteClose h2 c2 s) r',
-        moved.labels {ls' = ls'} (starts_here w false h c0) h3 (omega (arith, begins i, goes i1, goes i2)) (moved.one_number (starts w false h1 c1)) x,
+        moved.labels {ls' = ls'} (starts_here w false h c0) h3 (omega (arith, begins i, advances i1, advances i2)) (moved.one_number (starts w false h1 c1)) x,
       )
   move_labels {i'} (empty_label {i} {j} p q r) h c =
       let i1 = after_next old false i in
@@ -123,10 +123,10 @@ module _ {old new : List Token} {from to count : ℕ} (w : SameTokens old new fr
         j',
         hj,
         empty_label {ls = ls'} {j = j'} (at k.QuoteOpen h c0 p) (at k.QuoteClose h1 c1 q) r',
-        moved.labels {ls' = ls'} (starts_here w false h c0) h2 (omega (arith, begins i, goes i1)) moved.no_number x,
+        moved.labels {ls' = ls'} (starts_here w false h c0) h2 (omega (arith, begins i, advances i1)) moved.no_number x,
       )
 
-  pub move_on_line : {d : ℕ} {o : Option Attribute} {i i' j : ℕ} → IsOneLineBody old d o i j → Here w i i' → Comes w false j
+  pub move_on_line : {d : ℕ} {o : Option Attribute} {i i' j : ℕ} → IsOneLineBody old d o i j → Here w i i' → NextIsWithin w false j
       → (o' : Option Attribute) × (j' : ℕ) × Here w j j' × IsOneLineBody new d o' i' j' × MovedOnLine (Here w) (Same w) o o'
   move_on_line {i'} nothing h c = (None, i', h, nothing, moved.nothing)
   move_on_line {i'} (one {i} {j} p q x) h c =
@@ -140,7 +140,7 @@ module _ {old new : List Token} {from to count : ℕ} (w : SameTokens old new fr
         j',
         hj,
         one {e = e'} {j = j'} (at k.Identifier h c0 p) (at k.Equal h1 c1 q) x',
-        moved.one {j' = j'} {e' = e'} (starts_here w false h c0) hj (omega (arith, begins i, goes i1, on)) m,
+        moved.one {j' = j'} {e' = e'} (starts_here w false h c0) hj (omega (arith, begins i, advances i1, on)) m,
       )
 
   -- ---- members
@@ -155,7 +155,7 @@ module _ {old new : List Token} {from to count : ℕ} (w : SameTokens old new fr
       → Here w i i' → n ≤ from + count → IsLine el → MovesMember d (member.Attribute (node.attribute (next_index old false i) n e)) i' n
   move_attribute {i} {i'} {j} p q x el h l some =
       let i1 = after_next old false i in
-      let cj = eol_comes el l some in
+      let cj = eol_next_within el l some in
       let on = (span_expr x).forth in
       let c1 = back i1 (earlier w false (after_next old false i1) j on cj) in
       let c0 = back i c1 in
@@ -166,24 +166,24 @@ module _ {old new : List Token} {from to count : ℕ} (w : SameTokens old new fr
         n',
         hn,
         alone.attribute {e = e'} {j = j'} {n = n'} (at k.Identifier h c0 p) (at k.Equal h1 c1 q) x' el',
-        moved.attribute {j' = n'} {e' = e'} (starts_here w false h c0) hn (omega (arith, begins i, goes i1, on, (span_eol el).forth)) m,
+        moved.attribute {j' = n'} {e' = e'} (starts_here w false h c0) hn (omega (arith, begins i, advances i1, on, (span_eol el).forth)) m,
       )
 
   -- a block whose body, as it is in the braces, is moved
   move_block : {d : ℕ} {ls : List Label} {bs : List Member} {i i' j n o q : ℕ} → NextIs old false k.Identifier i → IsLabels old ls (after_next old false i) j → NextIs old false k.OpenBrace j
-      → IsNewline old (after_next old false j) n → n ≤ o → (Comes w false o → (n' : ℕ) → Here w n n' → MovesMembers d bs n' o) → NextIs old false k.CloseBrace o → (el : IsEol old (after_next old false o) q)
+      → IsNewline old (after_next old false j) n → n ≤ o → (NextIsWithin w false o → (n' : ℕ) → Here w n n' → MovesMembers d bs n' o) → NextIs old false k.CloseBrace o → (el : IsEol old (after_next old false o) q)
       → Here w i i' → q ≤ from + count → IsLine el
       → MovesMember (suc d) (node.block (next_index old false i) q ls (content.Body (node.body (first_token_in old false n o) o bs))) i' q
   move_block {i} {i'} {j} {n} {o} p ls br nl on inner cl el h l some =
       let i1 = after_next old false i in
       let j1 = after_next old false j in
-      let co = back o (eol_comes el l some) in
+      let co = back o (eol_next_within el l some) in
       let cn = earlier w false n o on co in
       let line = (span_line nl).forth in
       let cj = back j (earlier w false j1 n (omega (arith, line)) cn) in
       let c0 = back i (earlier w false i1 j (span_labels ls).forth cj) in
       let (ls', j', hj, labels', lm) = move_labels ls (afters w false h c0) cj in
-      let (n', hn, nl') = move_line w nl (afters w false hj cj) (comes_end w false n cn) in
+      let (n', hn, nl') = move_line w nl (afters w false hj cj) (next_within_end w false n cn) in
       let (bs', o', ho, bs'', bm) = inner co n' hn in
       let (q', hq, el') = move_eol {i' = after_next new false o'} el (afters w false {i' = o'} ho co) l some in (
         node.block (next_index new false i') q' ls' (content.Body (node.body (first_token_in new false n' o') o' bs')),
@@ -191,7 +191,7 @@ module _ {old new : List Token} {from to count : ℕ} (w : SameTokens old new fr
         hq,
         alone.block {ls = ls'} {bs = bs'} {j = j'} {n = n'} {o = o'} {q = q'} (at k.Identifier h c0 p) labels' (at k.OpenBrace hj cj br) nl' bs'' (at k.CloseBrace {i' = o'} ho co cl) el',
         moved.block {j' = q'} {ls' = ls'} {x' = content.Body (node.body (first_token_in new false n' o') o' bs')} (starts_here w false h c0) hq
-            (omega (arith, begins i, (span_labels ls).forth, goes j, line, on, goes o, (span_eol el).forth)) lm
+            (omega (arith, begins i, (span_labels ls).forth, advances j, line, on, advances o, (span_eol el).forth)) lm
             (moved.body {i' = first_token_in new false n' o'} {j' = o'} {ms' = bs'} (firsts w false {i' = n'} {j' = o'} hn ho on co) ho bm),
       )
 
@@ -201,7 +201,7 @@ module _ {old new : List Token} {from to count : ℕ} (w : SameTokens old new fr
   move_line_block {i} {i'} {j} {o} p ls br x cl el h l some =
       let i1 = after_next old false i in
       let j1 = after_next old false j in
-      let co = back o (eol_comes el l some) in
+      let co = back o (eol_next_within el l some) in
       let on = (span_on_line x).forth in
       let cj = back j (earlier w false j1 o on co) in
       let c0 = back i (earlier w false i1 j (span_labels ls).forth cj) in
@@ -212,28 +212,28 @@ module _ {old new : List Token} {from to count : ℕ} (w : SameTokens old new fr
         q',
         hq,
         alone.line_block {ls = ls'} {a = a'} {j = j'} {o = o'} {q = q'} (at k.Identifier h c0 p) labels' (at k.OpenBrace hj cj br) x' (at k.CloseBrace {i' = o'} ho co cl) el',
-        moved.block {j' = q'} {ls' = ls'} {x' = content.OneLine a'} (starts_here w false h c0) hq (omega (arith, begins i, (span_labels ls).forth, goes j, on, goes o, (span_eol el).forth)) lm (moved.on_line {o' = a'} am),
+        moved.block {j' = q'} {ls' = ls'} {x' = content.OneLine a'} (starts_here w false h c0) hq (omega (arith, begins i, (span_labels ls).forth, advances j, on, advances o, (span_eol el).forth)) lm (moved.on_line {o' = a'} am),
       )
 
   -- a member that is moved, and those after it
   then : {d : ℕ} {x : Member} {ms : List Member} {i' n l : ℕ} → MovesMember d x i' n → ((n' : ℕ) → Here w n n' → MovesMembers d ms n' l) → MovesMembers d (x ∷ ms) i' l
-  then (y, n', hn, y', m) more = let (ns, l', hl, ns', ms) = more n' hn in (y ∷ ns, l', hl, in_front y' ns', moved.members m ms)
+  then (y, n', hn, y', m) more = let (ns, l', hl, ns', ms) = more n' hn in (y ∷ ns, l', hl, member_first y' ns', moved.members m ms)
 
-  pub move_members : {d : ℕ} {ms : List Member} {i i' j : ℕ} → IsMembers old d ms i j → Here w i i' → Comes w false j → MovesMembers d ms i' j
+  pub move_members : {d : ℕ} {ms : List Member} {i i' j : ℕ} → IsMembers old d ms i j → Here w i i' → NextIsWithin w false j → MovesMembers d ms i' j
   move_members {i'} no_members h c = ([], i', h, no_members, moved.no_members)
   move_members (blank {j} {l} q r) h c =
-      let (j', hj, q') = move_line w q h (omega (arith, (span_members r).forth, comes_end w false l c)) in
+      let (j', hj, q') = move_line w q h (omega (arith, (span_members r).forth, next_within_end w false l c)) in
       let (ns, l', hl, r', m) = move_members r hj c in
       (ns, l', hl, blank q' r', m)
   move_members (attribute {n} {l} p q x el r) h c =
       let cn = earlier w false n l (span_members r).forth c in
-      then (move_attribute p q x el h (comes_end w false n cn) (is_line el (some_next w false n cn))) (λ n' hn. move_members r hn c)
+      then (move_attribute p q x el h (next_within_end w false n cn) (is_line el (some_next w false n cn))) (λ n' hn. move_members r hn c)
   move_members (block {q} {l} p ls br nl bs cl el r) h c =
       let cq = earlier w false q l (span_members r).forth c in
-      then (move_block p ls br nl (span_members bs).forth (λ co n' hn. move_members bs hn co) cl el h (comes_end w false q cq) (is_line el (some_next w false q cq))) (λ n' hn. move_members r hn c)
+      then (move_block p ls br nl (span_members bs).forth (λ co n' hn. move_members bs hn co) cl el h (next_within_end w false q cq) (is_line el (some_next w false q cq))) (λ n' hn. move_members r hn c)
   move_members (line_block {q} {l} p ls br x cl el r) h c =
       let cq = earlier w false q l (span_members r).forth c in
-      then (move_line_block p ls br x cl el h (comes_end w false q cq) (is_line el (some_next w false q cq))) (λ n' hn. move_members r hn c)
+      then (move_line_block p ls br x cl el h (next_within_end w false q cq) (is_line el (some_next w false q cq))) (λ n' hn. move_members r hn c)
 
   pub move_line_member : {d : ℕ} {x : Member} {i i' j : ℕ} (is : IsOneMember old d x i j) → Here w i i' → j ≤ from + count → EndsLine is
       → (y : Member) × (j' : ℕ) × Here w j j' × IsOneMember new d y i' j' × MovedMember (Here w) (Same w) x y

@@ -18,7 +18,7 @@ use Rattle.hcl_grammar.specs.Tokens.{Token, is_skipped, next_index, next_token, 
 use Rattle.hcl_grammar_laws.proofs.Spans.{span_lines, span_sep, span_names, span_second, span_dots, span_keyword, span_expr, span_level, span_links, span_unary, span_tails, span_arguments, span_items, span_elems, span_elem, span_intro, span_filter, span_parts}
 use Rattle.tf_reuse.proofs.RenumberedNodes as moved
 use Rattle.tf_reuse.proofs.MoveLines.{passed, not_before, less, begins_sep, begins_keyword, inside, just, at, no_next, word, no_word, move_lines, move_sep, move_names, move_second, move_dots, move_keyword}
-use Rattle.tf_reuse.proofs.Window.{Here, Same, Comes, starts, starts_here, afters, comes_end, comes_within, before, earlier, earlier_than, firsts}
+use Rattle.tf_reuse.proofs.Window.{Here, Same, NextIsWithin, starts, starts_here, afters, next_within_end, next_within, before, earlier, earlier_than, firsts}
 use Rattle.tf_reuse.specs.MembersKeep.{SameTokens}
 
 -- the first token of these is not past the last
@@ -69,28 +69,28 @@ module _ {old new : List Token} {from to count : ℕ} (w : SameTokens old new fr
   moved_tailed h g b v (moved.tails x xs) = moved.moved_expr h g b (moved.tailed v (moved.tails x xs))
 
   -- something comes before the end of a list in brackets or in braces, whatever is dropped
-  comes_items : {d : ℕ} {es : List Expr} {i j : ℕ} → IsItems old d es i j → j ≤ from + count → Comes w true i
-  comes_items (no_items {i} p) b = comes_within w true i b
-  comes_items (last_item {i} {j} e p) b = earlier w true i j (span_expr e).forth (comes_within w true j b)
-  comes_items (item {i} {j} {l} e p xs) b = earlier w true i j (span_expr e).forth (inside w true j l (omega (arith, (span_items xs).forth)) b)
+  items_next_within : {d : ℕ} {es : List Expr} {i j : ℕ} → IsItems old d es i j → j ≤ from + count → NextIsWithin w true i
+  items_next_within (no_items {i} p) b = next_within w true i b
+  items_next_within (last_item {i} {j} e p) b = earlier w true i j (span_expr e).forth (next_within w true j b)
+  items_next_within (item {i} {j} {l} e p xs) b = earlier w true i j (span_expr e).forth (inside w true j l (omega (arith, (span_items xs).forth)) b)
 
-  closes : (i : ℕ) → NextIs old false k.CloseBrace i → after_next old false i ≤ from + count → Comes w true i
+  closes : (i : ℕ) → NextIs old false k.CloseBrace i → after_next old false i ≤ from + count → NextIsWithin w true i
   unfolding next_kind next_token after_next
   closes i p b = go (slice_get old (next_index old false i)) refl p
     where
-      go : (o : Option Token) → slice_get old (next_index old false i) ≡ o → option_map (λ (t : Token). t.0) o ≡ Some k.CloseBrace → Comes w true i
+      go : (o : Option Token) → slice_get old (next_index old false i) ≡ o → option_map (λ (t : Token). t.0) o ≡ Some k.CloseBrace → NextIsWithin w true i
       go None e h = let clash : None ≡ Some k.CloseBrace = h in absurd (cc)
       go (Some t) e h =
           let kind : t.0 ≡ k.CloseBrace = cc in
           earlier_than w true i (next_index old false i) t (not_before old false i) e (ap (is_skipped true) kind) (omega (arith, b))
 
-  comes_elems : {d : ℕ} {xs : List Elem} {i j : ℕ} → IsElems old d xs i j → j ≤ from + count → Comes w true i
-  comes_elems (no_elems {i} p) b = closes i p b
-  comes_elems (last_elem {i} {j} e p) b = earlier w true i j (span_elem e).forth (closes j p b)
-  comes_elems (elems {i} {n} e s xs) b = earlier w true i n (omega (arith, (span_elem e).forth, (span_sep s).forth)) (comes_elems xs b)
+  elems_next_within : {d : ℕ} {xs : List Elem} {i j : ℕ} → IsElems old d xs i j → j ≤ from + count → NextIsWithin w true i
+  elems_next_within (no_elems {i} p) b = closes i p b
+  elems_next_within (last_elem {i} {j} e p) b = earlier w true i j (span_elem e).forth (closes j p b)
+  elems_next_within (elems {i} {n} e s xs) b = earlier w true i n (omega (arith, (span_elem e).forth, (span_sep s).forth)) (elems_next_within xs b)
 
   mutual
-    pub move_expr : {d : ℕ} {m : Bool} {e : Expr} {i i' j : ℕ} → IsExpr old d m e i j → Here w i i' → Comes w m j
+    pub move_expr : {d : ℕ} {m : Bool} {e : Expr} {i i' j : ℕ} → IsExpr old d m e i j → Here w i i' → NextIsWithin w m j
         → (e' : Expr) × (j' : ℕ) × Here w j j' × IsExpr new d m e' i' j' × moved.MovedExpr (Here w) (Same w) e e'
     move_expr (plain p) h c = let (e', j', hj, p', v) = move_level p h c in (e', j', hj, plain p', v)
     move_expr (conditional {m} {i} {j} {n} {l} p a x b y) h c =
@@ -103,7 +103,7 @@ module _ {old new : List Token} {from to count : ℕ} (w : SameTokens old new fr
         let (y1, l', hl, y', t) = move_expr y (afters w m hn cn) c in
         (_, l', hl, conditional p' (at w m hj cj a) x' (at w m hn cn b) y', moved.moved_expr (starts_here w m h ci) hl (less old m i l fine) (moved.conditional v u t))
 
-    pub move_level : {d : ℕ} {m : Bool} {n : ℕ} {e : Expr} {i i' j : ℕ} → IsLevel old d m n e i j → Here w i i' → Comes w m j
+    pub move_level : {d : ℕ} {m : Bool} {n : ℕ} {e : Expr} {i i' j : ℕ} → IsLevel old d m n e i j → Here w i i' → NextIsWithin w m j
         → (e' : Expr) × (j' : ℕ) × Here w j j' × IsLevel new d m n e' i' j' × moved.MovedExpr (Here w) (Same w) e e'
     move_level (lowest p) h c = let (e', j', hj, p', v) = move_unary p h c in (e', j', hj, lowest p', v)
     move_level (level {m} {i} {j} {l} p q) h c =
@@ -114,7 +114,7 @@ module _ {old new : List Token} {from to count : ℕ} (w : SameTokens old new fr
         let (xs', l', hl, q', vs) = move_links q hj c in
         (_, l', hl, level p' q', moved_chain (starts_here w m h ci) hl (less old m i l fine) v vs)
 
-    pub move_links : {d : ℕ} {m : Bool} {n : ℕ} {xs : List Operation} {i i' j : ℕ} → IsOperations old d m n xs i j → Here w i i' → Comes w m j
+    pub move_links : {d : ℕ} {m : Bool} {n : ℕ} {xs : List Operation} {i i' j : ℕ} → IsOperations old d m n xs i j → Here w i i' → NextIsWithin w m j
         → (xs' : List Operation) × (j' : ℕ) × Here w j j' × IsOperations new d m n xs' i' j' × moved.MovedLinks (Here w) (Same w) xs xs'
     move_links no_operations h c = (_, _, h, no_operations, moved.no_links)
     move_links (operation {m} {op} {i} {j} {l} a o p q) h c =
@@ -124,7 +124,7 @@ module _ {old new : List Token} {from to count : ℕ} (w : SameTokens old new fr
         let (xs', l', hl, q', vs) = move_links q hj c in
         (_, l', hl, operation (at w m h ci a) o p' q', moved.links op v vs)
 
-    pub move_unary : {d : ℕ} {m : Bool} {e : Expr} {i i' j : ℕ} → IsUnary old d m e i j → Here w i i' → Comes w m j
+    pub move_unary : {d : ℕ} {m : Bool} {e : Expr} {i i' j : ℕ} → IsUnary old d m e i j → Here w i i' → NextIsWithin w m j
         → (e' : Expr) × (j' : ℕ) × Here w j j' × IsUnary new d m e' i' j' × moved.MovedExpr (Here w) (Same w) e e'
     move_unary (with_operator {m} {op} {i} {j} a o x) h c =
         let fine = (span_unary x).forth in
@@ -136,7 +136,7 @@ module _ {old new : List Token} {from to count : ℕ} (w : SameTokens old new fr
         let fine : after_next old m i ≤ l = omega (arith, begins_term p, (span_tails q).forth) in
         let ci = before w m m i l fine c in
         let (x', j', hj, p', v) = move_term p h cj in
-        let (xs', l', hl, q', vs) = move_tails q hj (comes_end w m l c) in
+        let (xs', l', hl, q', vs) = move_tails q hj (next_within_end w m l c) in
         (_, l', hl, post p' q', moved_tailed (starts_here w m h ci) hl (less old m i l fine) v vs)
 
     pub move_tails : {d : ℕ} {m : Bool} {xs : List Tail} {i i' j : ℕ} → IsTails old d m xs i j → Here w i i' → j ≤ from + count
@@ -150,30 +150,30 @@ module _ {old new : List Token} {from to count : ℕ} (w : SameTokens old new fr
     pub move_tail : {d : ℕ} {m : Bool} {x : Tail} {i i' j : ℕ} → IsTail old d m x i j → Here w i i' → j ≤ from + count
         → (x' : Tail) × (j' : ℕ) × Here w j j' × IsTail new d m x' i' j' × moved.MovedTail (Here w) (Same w) x x'
     move_tail (by_name {m} {i} p q) h b =
-        let c1 = comes_within w m (after_next old m i) b in
+        let c1 = next_within w m (after_next old m i) b in
         let c0 = just w m m i c1 in
         let h1 = afters w m h c0 in
         (_, _, afters w m h1 c1, by_name (at w m h c0 p) (at w m h1 c1 q), moved.by_name (starts w m h1 c1))
-    move_tail (legacy {m} {i} p) h b = let c = comes_within w m i b in (_, _, afters w m h c, legacy (at w m h c p), moved.legacy (starts w m h c))
+    move_tail (legacy {m} {i} p) h b = let c = next_within w m i b in (_, _, afters w m h c, legacy (at w m h c p), moved.legacy (starts w m h c))
     move_tail (attribute_splat {m} {i} p q) h b =
-        let c1 = comes_within w m (after_next old m i) b in
+        let c1 = next_within w m (after_next old m i) b in
         let c0 = just w m m i c1 in
         let h1 = afters w m h c0 in
         (_, _, afters w m h1 c1, attribute_splat (at w m h c0 p) (at w m h1 c1 q), moved.attribute_splat)
     move_tail (full_splat {m} {i} p q r) h b =
-        let c2 = comes_within w true (after_next old true (after_next old m i)) b in
+        let c2 = next_within w true (after_next old true (after_next old m i)) b in
         let c1 = just w true true (after_next old m i) c2 in
         let c0 = just w true m i c1 in
         let h1 = afters w m h c0 in
         let h2 = afters w true h1 c1 in
         (_, _, afters w true h2 c2, full_splat (at w m h c0 p) (at w true h1 c1 q) (at w true h2 c2 r), moved.full_splat)
     move_tail (index {m} {i} {j} p x q) h b =
-        let cj = comes_within w true j b in
+        let cj = next_within w true j b in
         let ci = before w true m i j (span_expr x).forth cj in
         let (e', j', hj, x', v) = move_expr x (afters w m h ci) cj in
         (_, _, afters w true hj cj, index (at w m h ci p) x' (at w true hj cj q), moved.index v)
 
-    pub move_term : {d : ℕ} {m : Bool} {x : Term} {i i' j : ℕ} → IsTerm old d m x i j → Here w i i' → Comes w m j
+    pub move_term : {d : ℕ} {m : Bool} {x : Term} {i i' j : ℕ} → IsTerm old d m x i j → Here w i i' → NextIsWithin w m j
         → (x' : Term) × (j' : ℕ) × Here w j j' × IsTerm new d m x' i' j' × moved.MovedTerm (Here w) (Same w) x x'
     move_term (number {m} {i} p) h c =
         let ci = just w m m i c in
@@ -184,31 +184,31 @@ module _ {old new : List Token} {from to count : ℕ} (w : SameTokens old new fr
         let h1 = afters w m h ci in
         (_, _, h1, identifier (at w m h ci p) (no_next w m h1 c q) (no_next w m h1 c r), moved.moved_term (starts_here w m h ci) h1 (less old m i (after_next old m i) (omega arith)) moved.identifier)
     move_term (call {m} {expand_final} {i} {j} {l} p ns q xs) h c =
-        let b = comes_end w m l c in
+        let b = next_within_end w m l c in
         let cj = inside w m j l (omega (arith, (span_arguments xs).forth)) b in
         let fine : after_next old m i ≤ l = begins_term (call p ns q xs) in
         let ci = before w m m i l fine c in
-        let (ns1, j', hj, ns', u) = move_names w ns (afters w m h ci) (comes_end w m j cj) in
+        let (ns1, j', hj, ns', u) = move_names w ns (afters w m h ci) (next_within_end w m j cj) in
         let (es1, l', hl, xs', v) = move_arguments xs (afters w m hj cj) b in
         (_, l', hl, call (at w m h ci p) ns' (at w m hj cj q) xs', moved.moved_term (starts_here w m h ci) hl (less old m i l fine) (moved.call expand_final (moved.numbers (starts w m h ci) u) v))
     move_term (tuple {m} {i} {j} p n xs) h c =
-        let b = comes_end w m j c in
+        let b = next_within_end w m j c in
         let fine : after_next old m i ≤ j = begins_term (tuple p n xs) in
         let ci = before w m m i j fine c in
         let h1 = afters w m h ci in
         let (es1, j', hj, xs', v) = move_items xs h1 b in
-        (_, j', hj, tuple (at w m h ci p) (no_word w true h1 (comes_items xs b) n) xs', moved.moved_term (starts_here w m h ci) hj (less old m i j fine) (moved.tuple v))
+        (_, j', hj, tuple (at w m h ci p) (no_word w true h1 (items_next_within xs b) n) xs', moved.moved_term (starts_here w m h ci) hj (less old m i j fine) (moved.tuple v))
     move_term (object {m} {i} {j} {l} p n ls xs) h c =
-        let b = comes_end w m l c in
+        let b = next_within_end w m l c in
         let fine : after_next old m i ≤ l = begins_term (object p n ls xs) in
         let ci = before w m m i l fine c in
         let h1 = afters w m h ci in
-        let cw = earlier w true (after_next old m i) j (span_lines ls).forth (comes_elems xs b) in
+        let cw = earlier w true (after_next old m i) j (span_lines ls).forth (elems_next_within xs b) in
         let (j', hj, ls') = move_lines w ls h1 (omega (arith, b, (span_elems xs).forth)) in
         let (xs1, l', hl, xs', v) = move_elems xs hj b in
         (_, l', hl, object (at w m h ci p) (no_word w true h1 cw n) ls' xs', moved.moved_term (starts_here w m h ci) hl (less old m i l fine) (moved.object v))
     move_term (for_tuple {m} {i} {j} {n} {l} p y a x f) h c =
-        let b = comes_end w m l c in
+        let b = next_within_end w m l c in
         let cn = inside w true n l (begins_filter f) b in
         let cj = before w true true j n (span_expr x).forth cn in
         let fine : after_next old m i ≤ l = begins_term (for_tuple p y a x f) in
@@ -218,7 +218,7 @@ module _ {old new : List Token} {from to count : ℕ} (w : SameTokens old new fr
         let (f1, l', hl, f', vf) = move_filter f hn b in
         (_, l', hl, for_tuple (at w m h ci p) y' (at w true hj cj a) x' f', moved.moved_term (starts_here w m h ci) hl (less old m i l fine) (moved.for_tuple vy vx vf))
     move_term (for_object {m} {grouped} {i} {j} {n} {o} {q} {l} p y a x r u s f) h c =
-        let b = comes_end w m l c in
+        let b = next_within_end w m l c in
         let cq = inside w true q l (begins_filter f) b in
         let co = earlier w true o q (span_dots s).forth cq in
         let cn = before w true true n o (span_expr u).forth co in
@@ -228,7 +228,7 @@ module _ {old new : List Token} {from to count : ℕ} (w : SameTokens old new fr
         let (y1, j', hj, y', vy) = move_intro y (afters w m h ci) cj in
         let (x1, n', hn, x', vx) = move_expr x (afters w true hj cj) cn in
         let (u1, o', ho, u', vu) = move_expr u (afters w true hn cn) co in
-        let (q', hq, s') = move_dots w s ho (comes_end w true q cq) in
+        let (q', hq, s') = move_dots w s ho (next_within_end w true q cq) in
         let (f1, l', hl, f', vf) = move_filter f hq b in (
           _,
           l',
@@ -240,7 +240,7 @@ module _ {old new : List Token} {from to count : ℕ} (w : SameTokens old new fr
         let cj = just w m m j c in
         let ci = before w m m i j (span_parts ps).forth cj in
         let h1 = afters w m h ci in
-        let (ps1, j', hj, ps', v) = move_parts ps h1 (comes_end w m j cj) in
+        let (ps1, j', hj, ps', v) = move_parts ps h1 (next_within_end w m j cj) in
         let hl = afters w m hj cj in (
           _,
           _,
@@ -252,7 +252,7 @@ module _ {old new : List Token} {from to count : ℕ} (w : SameTokens old new fr
         let cj = just w m m j c in
         let ci = before w m m i j (span_parts ps).forth cj in
         let h1 = afters w m h ci in
-        let (ps1, j', hj, ps', v) = move_parts ps h1 (comes_end w m j cj) in
+        let (ps1, j', hj, ps', v) = move_parts ps h1 (next_within_end w m j cj) in
         let hl = afters w m hj cj in (
           _,
           _,
@@ -269,13 +269,13 @@ module _ {old new : List Token} {from to count : ℕ} (w : SameTokens old new fr
 
     pub move_arguments : {d : ℕ} {es : List Expr} {s : Bool} {i i' j : ℕ} → IsArguments old d es s i j → Here w i i' → j ≤ from + count
         → (es' : List Expr) × (j' : ℕ) × Here w j j' × IsArguments new d es' s i' j' × moved.MovedExprs (Here w) (Same w) es es'
-    move_arguments (no_arguments {i} p) h b = let c = comes_within w true i b in (_, _, afters w true h c, no_arguments (at w true h c p), moved.no_exprs)
+    move_arguments (no_arguments {i} p) h b = let c = next_within w true i b in (_, _, afters w true h c, no_arguments (at w true h c p), moved.no_exprs)
     move_arguments (last_argument {j} x p) h b =
-        let c = comes_within w true j b in
+        let c = next_within w true j b in
         let (e', j', hj, x', v) = move_expr x h c in
         (_, _, afters w true hj c, last_argument x' (at w true hj c p), moved.exprs v moved.no_exprs)
     move_arguments (spread_argument {j} x p q) h b =
-        let c1 = comes_within w true (after_next old true j) b in
+        let c1 = next_within w true (after_next old true j) b in
         let c0 = just w true true j c1 in
         let (e', j', hj, x', v) = move_expr x h c0 in
         let h1 = afters w true hj c0 in
@@ -288,9 +288,9 @@ module _ {old new : List Token} {from to count : ℕ} (w : SameTokens old new fr
 
     pub move_items : {d : ℕ} {es : List Expr} {i i' j : ℕ} → IsItems old d es i j → Here w i i' → j ≤ from + count
         → (es' : List Expr) × (j' : ℕ) × Here w j j' × IsItems new d es' i' j' × moved.MovedExprs (Here w) (Same w) es es'
-    move_items (no_items {i} p) h b = let c = comes_within w true i b in (_, _, afters w true h c, no_items (at w true h c p), moved.no_exprs)
+    move_items (no_items {i} p) h b = let c = next_within w true i b in (_, _, afters w true h c, no_items (at w true h c p), moved.no_exprs)
     move_items (last_item {j} x p) h b =
-        let c = comes_within w true j b in
+        let c = next_within w true j b in
         let (e', j', hj, x', v) = move_expr x h c in
         (_, _, afters w true hj c, last_item x' (at w true hj c p), moved.exprs v moved.no_exprs)
     move_items (item {j} {l} x p xs) h b =
@@ -301,9 +301,9 @@ module _ {old new : List Token} {from to count : ℕ} (w : SameTokens old new fr
 
     pub move_elems : {d : ℕ} {xs : List Elem} {i i' j : ℕ} → IsElems old d xs i j → Here w i i' → j ≤ from + count
         → (xs' : List Elem) × (j' : ℕ) × Here w j j' × IsElems new d xs' i' j' × moved.MovedElems (Here w) (Same w) xs xs'
-    move_elems (no_elems {i} p) h b = let c = comes_within w false i b in (_, _, afters w false h c, no_elems (at w false h c p), moved.no_elems)
+    move_elems (no_elems {i} p) h b = let c = next_within w false i b in (_, _, afters w false h c, no_elems (at w false h c p), moved.no_elems)
     move_elems (last_elem {j} x p) h b =
-        let c = comes_within w false j b in
+        let c = next_within w false j b in
         let (x1, j', hj, x', v) = move_elem x h c in
         (_, _, afters w false hj c, last_elem x' (at w false hj c p), v _ _ moved.no_elems)
     move_elems (elems {j} {n} {l} x s xs) h b =
@@ -315,7 +315,7 @@ module _ {old new : List Token} {from to count : ℕ} (w : SameTokens old new fr
         (_, l', hl, elems x' s' xs', v _ _ vs)
 
     -- an element, in front of others
-    pub move_elem : {d : ℕ} {x : Elem} {i i' j : ℕ} → IsElem old d x i j → Here w i i' → Comes w false j
+    pub move_elem : {d : ℕ} {x : Elem} {i i' j : ℕ} → IsElem old d x i j → Here w i i' → NextIsWithin w false j
         → (x' : Elem) × (j' : ℕ) × Here w j j' × IsElem new d x' i' j' × ((xs xs' : List Elem) → moved.MovedElems (Here w) (Same w) xs xs' → moved.MovedElems (Here w) (Same w) (x ∷ xs) (x' ∷ xs'))
     move_elem (by_equals {j} {l} x p y) h c =
         let cj = before w false false j l (span_expr y).forth c in
@@ -328,11 +328,11 @@ module _ {old new : List Token} {from to count : ℕ} (w : SameTokens old new fr
         let (y1, l', hl, y', u) = move_expr y (afters w false hj cj) c in
         (_, l', hl, by_colon x' (at w false hj cj p) y', λ xs xs' vs. moved.elems v u vs)
 
-    pub move_intro : {d : ℕ} {x : Intro} {i i' j : ℕ} → IsIntro old d x i j → Here w i i' → Comes w true j
+    pub move_intro : {d : ℕ} {x : Intro} {i i' j : ℕ} → IsIntro old d x i j → Here w i i' → NextIsWithin w true j
         → (x' : Intro) × (j' : ℕ) × Here w j j' × IsIntro new d x' i' j' × moved.MovedIntro (Here w) (Same w) x x'
     move_intro (intro {i} {j} {l} p q s r x) h c =
         let cj = before w true true j l (span_expr x).forth c in
-        let bj = comes_end w true j cj in
+        let bj = next_within_end w true j cj in
         let c1 = inside w true (after_next old true i) j (span_second s).forth bj in
         let c0 = just w true true i c1 in
         let h1 = afters w true h c0 in
@@ -342,9 +342,9 @@ module _ {old new : List Token} {from to count : ℕ} (w : SameTokens old new fr
 
     pub move_filter : {d : ℕ} {close : Kind} {o : Option Expr} {i i' j : ℕ} → IsFilter old d close o i j → Here w i i' → j ≤ from + count
         → (o' : Option Expr) × (j' : ℕ) × Here w j j' × IsFilter new d close o' i' j' × moved.MovedFilter (Here w) (Same w) o o'
-    move_filter (no_filter {i} p) h b = let c = comes_within w true i b in (_, _, afters w true h c, no_filter (at w true h c p), moved.no_filter)
+    move_filter (no_filter {i} p) h b = let c = next_within w true i b in (_, _, afters w true h c, no_filter (at w true h c p), moved.no_filter)
     move_filter (filter {i} {j} r x p) h b =
-        let cj = comes_within w true j b in
+        let cj = next_within w true j b in
         let ci = before w true true i j (span_expr x).forth cj in
         let (e', j', hj, x', v) = move_expr x (afters w true h ci) cj in
         (_, _, afters w true hj cj, filter (word w true h ci r) x' (at w true hj cj p), moved.filter v)
@@ -359,10 +359,10 @@ module _ {old new : List Token} {from to count : ℕ} (w : SameTokens old new fr
 
     pub move_part : {d : ℕ} {m : Bool} {x : Part} {i i' j : ℕ} → IsPart old d m x i j → Here w i i' → j ≤ from + count
         → (x' : Part) × (j' : ℕ) × Here w j j' × IsPart new d m x' i' j' × moved.MovedPart (Here w) (Same w) x x'
-    move_part (quote_text {m} {i} p) h b = let c = comes_within w m i b in (_, _, afters w m h c, quote_text (at w m h c p), moved.literal (starts w m h c))
-    move_part (here_text {m} {i} p) h b = let c = comes_within w m i b in (_, _, afters w m h c, here_text (at w m h c p), moved.literal (starts w m h c))
+    move_part (quote_text {m} {i} p) h b = let c = next_within w m i b in (_, _, afters w m h c, quote_text (at w m h c p), moved.literal (starts w m h c))
+    move_part (here_text {m} {i} p) h b = let c = next_within w m i b in (_, _, afters w m h c, here_text (at w m h c p), moved.literal (starts w m h c))
     move_part (interp {m} {i} {j} p x q) h b =
-        let cj = comes_within w true j b in
+        let cj = next_within w true j b in
         let ci = before w true m i j (span_expr x).forth cj in
         let (e', j', hj, x', v) = move_expr x (afters w m h ci) cj in
         (_, _, afters w true hj cj, interp (at w m h ci p) x' (at w true hj cj q), moved.interp v)
@@ -374,7 +374,7 @@ module _ {old new : List Token} {from to count : ℕ} (w : SameTokens old new fr
         let h1 = afters w m h ci in
         let (x1, j', hj, x', v) = move_expr x (afters w true h1 c1) cj in
         let h2 = afters w true hj cj in
-        let (ps1, n', hn, ps', vs) = move_parts ps h2 (comes_end w m n cn) in
+        let (ps1, n', hn, ps', vs) = move_parts ps h2 (next_within_end w m n cn) in
         let (e1, l', hl, e', ve) = move_else e hn b in (
           _,
           l',
@@ -388,7 +388,7 @@ module _ {old new : List Token} {from to count : ℕ} (w : SameTokens old new fr
         let ci = before w true m i j (omega (arith, (span_intro y).forth)) cj in
         let (y1, j', hj, y', v) = move_intro y (afters w m h ci) cj in
         let h2 = afters w true hj cj in
-        let (ps1, n', hn, ps', vs) = move_parts ps h2 (comes_end w m n cn) in
+        let (ps1, n', hn, ps', vs) = move_parts ps h2 (next_within_end w m n cn) in
         let (l', hl, e') = move_keyword w e hn b in
         (_, l', hl, for_directive (at w m h ci p) y' (at w true hj cj q) ps' e', moved.for_directive (starts_here w m h ci) hl v (moved.template (firsts w m h2 hn (span_parts ps).forth cn) hn vs))
 
@@ -397,7 +397,7 @@ module _ {old new : List Token} {from to count : ℕ} (w : SameTokens old new fr
     move_else (no_else e) h b = let (j', hj, e') = move_keyword w e h b in (_, j', hj, no_else e', moved.no_else)
     move_else (has_else {m} {i} {j} {n} {l} p ps e) h b =
         let cn = inside w m n l (begins_keyword e) b in
-        let bn = comes_end w m n cn in
+        let bn = next_within_end w m n cn in
         let (j', hj, p') = move_keyword w p h (omega (arith, bn, (span_parts ps).forth)) in
         let (ps1, n', hn, ps', vs) = move_parts ps hj bn in
         let (l', hl, e') = move_keyword w e hn b in

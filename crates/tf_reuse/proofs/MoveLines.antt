@@ -5,7 +5,7 @@ use Rattle.hcl_grammar.specs.Lookahead.{NextIs, NextIsWord, NextIsNotWord, IsNew
 use Rattle.hcl_grammar.specs.Tokens.{Token, next_index, next_kind, after_next}
 use Rattle.hcl_grammar_laws.proofs.Spans.{span_lines, span_names}
 use Rattle.tf_reuse.proofs.RenumberedNodes as moved
-use Rattle.tf_reuse.proofs.Window.{Here, Same, Comes, starts, afters, tokens, nexts, comes_within, before}
+use Rattle.tf_reuse.proofs.Window.{Here, Same, NextIsWithin, starts, afters, tokens, nexts, next_within, before}
 use Rattle.tf_reuse.specs.MembersKeep.{SameTokens}
 
 module _ (ts : List Token) where
@@ -36,29 +36,29 @@ begins_keyword {ts} (keyword {m} {i} p q r) = omega (arith, passed ts true (afte
 
 module _ {old new : List Token} {from to count : ℕ} (w : SameTokens old new from to count) where
   -- a token that is before place j
-  pub inside : (m : Bool) (i j : ℕ) → after_next old m i ≤ j → j ≤ from + count → Comes w m i
-  inside m i j l b = comes_within w m i (omega (arith, l, b))
+  pub inside : (m : Bool) (i j : ℕ) → after_next old m i ≤ j → j ≤ from + count → NextIsWithin w m i
+  inside m i j l b = next_within w m i (omega (arith, l, b))
 
   -- a token right before the next
-  pub just : (m n : Bool) (i : ℕ) → Comes w m (after_next old n i) → Comes w n i
+  pub just : (m n : Bool) (i : ℕ) → NextIsWithin w m (after_next old n i) → NextIsWithin w n i
   just m n i c = before w m n i (after_next old n i) (omega arith) c
 
-  pub at : (m : Bool) {t : Kind} {i i' : ℕ} → Here w i i' → Comes w m i → NextIs old m t i → NextIs new m t i'
+  pub at : (m : Bool) {t : Kind} {i i' : ℕ} → Here w i i' → NextIsWithin w m i → NextIs old m t i → NextIs new m t i'
   at m h c p = nexts w m h c ∙ p
 
-  pub no_next : (m : Bool) {o : Option Kind} {i i' : ℕ} → Here w i i' → Comes w m i → next_kind old m i ≢ o → next_kind new m i' ≢ o
+  pub no_next : (m : Bool) {o : Option Kind} {i i' : ℕ} → Here w i i' → NextIsWithin w m i → next_kind old m i ≢ o → next_kind new m i' ≢ o
   no_next m h c p = λ e. p (sym (nexts w m h c) ∙ e)
 
-  pub word : (m : Bool) {v : List ℕ} {i i' : ℕ} → Here w i i' → Comes w m i → NextIsWord old m v i → NextIsWord new m v i'
+  pub word : (m : Bool) {v : List ℕ} {i i' : ℕ} → Here w i i' → NextIsWithin w m i → NextIsWord old m v i → NextIsWord new m v i'
   word m h c p = tokens w m h c ∙ p
 
-  pub no_word : (m : Bool) {v : List ℕ} {i i' : ℕ} → Here w i i' → Comes w m i → NextIsNotWord old m v i → NextIsNotWord new m v i'
+  pub no_word : (m : Bool) {v : List ℕ} {i i' : ℕ} → Here w i i' → NextIsWithin w m i → NextIsNotWord old m v i → NextIsNotWord new m v i'
   no_word m h c p = λ e. p (sym (tokens w m h c) ∙ e)
 
   pub move_line : {i i' j : ℕ} → IsNewline old i j → Here w i i' → j ≤ from + count → (j' : ℕ) × Here w j j' × IsNewline new i' j'
-  move_line (line_end {i} p) h b = let c = comes_within w false i b in (_, afters w false h c, line_end (at false h c p))
+  move_line (line_end {i} p) h b = let c = next_within w false i b in (_, afters w false h c, line_end (at false h c p))
   move_line (comment {i} p q) h b =
-      let c1 = comes_within w false (after_next old false i) b in
+      let c1 = next_within w false (after_next old false i) b in
       let c0 = just false false i c1 in
       let h1 = afters w false h c0 in
       (_, afters w false h1 c1, comment (at false h c0 p) (at false h1 c1 q))
@@ -94,18 +94,18 @@ module _ {old new : List Token} {from to count : ℕ} (w : SameTokens old new fr
       → (o' : Option ℕ) × (j' : ℕ) × Here w j j' × IsSecondName new o' i' j' × moved.MovedNumber (Here w) (Same w) o o'
   move_second no_second h b = (_, _, h, no_second, moved.no_number)
   move_second (second {i} p q) h b =
-      let c1 = comes_within w true (after_next old true i) b in
+      let c1 = next_within w true (after_next old true i) b in
       let c0 = just true true i c1 in
       let h1 = afters w true h c0 in
       (_, _, afters w true h1 c1, second (at true h c0 p) (at true h1 c1 q), moved.one_number (starts w true h1 c1))
 
   pub move_dots : {s : Bool} {i i' j : ℕ} → IsEllipsis old s i j → Here w i i' → j ≤ from + count → (j' : ℕ) × Here w j j' × IsEllipsis new s i' j'
   move_dots no_ellipsis h b = (_, h, no_ellipsis)
-  move_dots (ellipsis {i} p) h b = let c = comes_within w true i b in (_, afters w true h c, ellipsis (at true h c p))
+  move_dots (ellipsis {i} p) h b = let c = next_within w true i b in (_, afters w true h c, ellipsis (at true h c p))
 
   pub move_keyword : {m : Bool} {v : List ℕ} {i i' j : ℕ} → IsKeyword old m v i j → Here w i i' → j ≤ from + count → (j' : ℕ) × Here w j j' × IsKeyword new m v i' j'
   move_keyword (keyword {m} {i} p q r) h b =
-      let c2 = comes_within w true (after_next old true (after_next old m i)) b in
+      let c2 = next_within w true (after_next old true (after_next old m i)) b in
       let c1 = just true true (after_next old m i) c2 in
       let c0 = just true m i c1 in
       let h1 = afters w m h c0 in

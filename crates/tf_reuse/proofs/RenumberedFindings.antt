@@ -28,7 +28,7 @@ use Rattle.tf_rules.specs.RuleSets.{has_rule}
 use Rattle.tf_rules.specs.Trivia.{token_range, has_trivia, is_here_close}
 use Rattle.tf_reuse.proofs.RenumberedNodes as moved
 use Rattle.tf_reuse.proofs.RenumberedNodes.{MovedNumbers, MovedExpr, MovedForm, MovedLinks, MovedTails, MovedTail, MovedTerm, MovedShape, MovedExprs, MovedParts, MovedFilter}
-use Rattle.tf_reuse.proofs.RenumberedTrivia.{here_of, behind_of, eq_moved, spelling_moved, trivia_moved, break_moved, inner_break_moved, here_close_moved}
+use Rattle.tf_reuse.proofs.RenumberedTrivia.{here_of, here_after, eq_moved, spelling_moved, trivia_moved, break_moved, inner_break_moved, here_close_moved}
 use Rattle.tf_reuse.proofs.Window.{Here, Same}
 use Rattle.tf_reuse.specs.MembersKeep.{SameTokens}
 use Rattle.tf_reuse.proofs.Renumbering.{Moves, SameFix, either, append, both, fix_when, keeps, skip, no_kept, tokens as same_tokens, no_fix, finding_moves, neither_fits}
@@ -104,12 +104,12 @@ module _ {R T : ℕ → ℕ → Type 0} where
   has_splat_moved moved.no_tails = refl
   has_splat_moved (moved.tails a b) = rw (splat_moved a, has_splat_moved b) refl
 
-  pub splat_behind_moved : (splat : Bool) {x x' : Tail} → MovedTail R T x x' → splat_after splat (out-Tail x') ≡ splat_after splat (out-Tail x)
-  splat_behind_moved splat (moved.by_name t) = simp (open_name) refl
-  splat_behind_moved splat (moved.legacy t) = simp (open_legacy) refl
-  splat_behind_moved splat moved.attribute_splat = refl
-  splat_behind_moved splat moved.full_splat = refl
-  splat_behind_moved splat (moved.index a) = simp (open_index) refl
+  pub splat_after_moved : (splat : Bool) {x x' : Tail} → MovedTail R T x x' → splat_after splat (out-Tail x') ≡ splat_after splat (out-Tail x)
+  splat_after_moved splat (moved.by_name t) = simp (open_name) refl
+  splat_after_moved splat (moved.legacy t) = simp (open_legacy) refl
+  splat_after_moved splat moved.attribute_splat = refl
+  splat_after_moved splat moved.full_splat = refl
+  splat_after_moved splat (moved.index a) = simp (open_index) refl
 
   indexable_moved : {x x' : ExprKind} → MovedForm R T x x' → is_indexable_kind (out-ExprKind x') ≡ is_indexable_kind (out-ExprKind x)
   indexable_moved (moved.conditional a b c) = simp (open_conditional) refl
@@ -157,8 +157,8 @@ at_call pairs i j ns es s = simp (open_call) (simp (call_names, call_spread, cal
 abbrev inside : ℕ → ℕ → Fix
 inside first past = keep_one Nothing (kept (first + 2) (past - 2) Nothing)
 
-too_narrow : (i j : ℕ) → j < i + 5 → nat_lt (i + 2) (j - 2) ≡ false
-too_narrow i j l = grind arith
+span_too_short : (i j : ℕ) → j < i + 5 → nat_lt (i + 2) (j - 2) ≡ false
+span_too_short i j l = grind arith
 
 not_second : (a b c : Bool) → b ≡ false → (a && (b && c)) ≡ false
 not_second true true c e = absurd (cc)
@@ -167,7 +167,7 @@ not_second false b c e = refl
 
 -- braces that hold nothing
 unfit : (i j : ℕ) → j < i + 5 → is_fix_valid i j (Some (inside i j)) ≡ false
-unfit i j l = not_second (nat_lt i (i + 2)) (nat_lt (i + 2) (j - 2)) (nat_lt i (j - 2) && nat_lt (j - 2) j) (too_narrow i j l)
+unfit i j l = not_second (nat_lt i (i + 2)) (nat_lt (i + 2) (j - 2)) (nat_lt i (j - 2) && nat_lt (j - 2) j) (span_too_short i j l)
 
 module _ (old new : List Pair) {from to count : ℕ} (w : SameTokens (tokens_of old) (tokens_of new) from to count) where
   index_moved : (splat : Bool) {x x' : Tail} → MovedTail (Here w) (Same w) x x'
@@ -175,16 +175,16 @@ module _ (old new : List Pair) {from to count : ℕ} (w : SameTokens (tokens_of 
   index_moved splat (moved.by_name t) = simp (open_name) moves.none
   index_moved splat (moved.legacy t) =
       let fix = fix_when old new w refl (same_tokens Index (skip (skip no_kept))) in
-      simp (open_legacy) (finding_moves old new w DeprecatedIndex (here_of old new w t) (behind_of old new w t) refl fix)
+      simp (open_legacy) (finding_moves old new w DeprecatedIndex (here_of old new w t) (here_after old new w t) refl fix)
   index_moved splat moved.attribute_splat = simp (open_attribute_splat) moves.none
   index_moved splat moved.full_splat = simp (open_full_splat) moves.none
   index_moved splat (moved.index a) = simp (open_index) moves.none
 
   -- ---- comparisons with an empty list
 
-  mendable_moved : {e e' : Expr} {b b' p p' a a' c c' : ℕ} → MovedExpr (Here w) (Same w) e e' → Here w b b' → Here w p p' → b < p → Here w a a' → Here w c c'
+  fixable_moved : {e e' : Expr} {b b' p p' a a' c c' : ℕ} → MovedExpr (Here w) (Same w) e e' → Here w b b' → Here w p p' → b < p → Here w a a' → Here w c c'
       → is_comparison_fixable new e' p' a' c' ≡ is_comparison_fixable old e p a c
-  mendable_moved {e} {e'} {p} {p'} {a} {a'} {c} {c'} m h g l f k =
+  fixable_moved {e} {e'} {p} {p'} {a} {a'} {c} {c'} m h g l f k =
       let x : (e'.past == e'.first + 2) ≡ (e.past == e.first + 2) = eq_moved old new w 2 (first_here m) (past_here m) in
       let y : has_trivia (token_range new a' c') ≡ has_trivia (token_range old a c) = trivia_moved old new w f k in
       let z : is_here_close new (p' - 1) ≡ is_here_close old (p - 1) = here_close_moved old new w h g l in
@@ -202,8 +202,8 @@ module _ (old new : List Pair) {from to count : ℕ} (w : SameTokens (tokens_of 
       → MovedExpr (Here w) (Same w) e e' → Moves old new from to (operation_findings old i is_first left (node.operation op e)) (operation_findings new i' is_first left' (node.operation op e'))
   unfolding node.operation
   link_moved is_first op h a b =
-      let p = mendable_moved b (first_here a) (past_here a) (some_token a) (past_here a) (first_here b) in
-      let q = mendable_moved a (first_here b) (past_here b) (some_token b) (past_here a) (first_here b) in
+      let p = fixable_moved b (first_here a) (past_here a) (some_token a) (past_here a) (first_here b) in
+      let q = fixable_moved a (first_here b) (past_here b) (some_token b) (past_here a) (first_here b) in
       let one = comparison_moves (is_equal op) h (past_here b) h (past_here a) p in
       let two_arguments = comparison_moves (is_equal op) h (past_here b) (first_here b) (past_here b) q in
       either {b = is_equality op} {b' = is_equality op} refl
@@ -233,18 +233,18 @@ module _ (old new : List Pair) {from to count : ℕ} (w : SameTokens (tokens_of 
       let b : Here w _ _ = record { before = g.before - 2; within = omega (arith, g.within); in_old = omega (arith, l, h.in_old, g.in_old); in_new = omega (arith, l, h.in_old, h.in_new, g.in_old, g.in_new) } in
       same_tokens Nothing (keeps Nothing a b (skip no_kept))
 
-  narrow_moves : {i i' j j' : ℕ} {f f' : Bool} → Here w i i' → Here w j j' → f' ≡ f → j < i + 5
+  short_span_moves : {i i' j j' : ℕ} {f f' : Bool} → Here w i i' → Here w j j' → f' ≡ f → j < i + 5
       → Moves old new from to (finding_at DeprecatedInterpolation i j plain_message (when f (inside i j))) (finding_at DeprecatedInterpolation i' j' plain_message (when f' (inside i' j')))
-  narrow_moves {i} {i'} {j} {j'} {f = true} {f' = true} h g e l =
+  short_span_moves {i} {i'} {j} {j'} {f = true} {f' = true} h g e l =
       neither_fits DeprecatedInterpolation (unfit i j l) (unfit i' j' (omega (arith, l, h.in_old, h.in_new, g.in_old, g.in_new)))
-  narrow_moves {f = false} {f' = false} h g e l = finding_moves old new w DeprecatedInterpolation h g refl no_fix
-  narrow_moves {f = true} {f' = false} h g e l = absurd (cc)
-  narrow_moves {f = false} {f' = true} h g e l = absurd (cc)
+  short_span_moves {f = false} {f' = false} h g e l = finding_moves old new w DeprecatedInterpolation h g refl no_fix
+  short_span_moves {f = true} {f' = false} h g e l = absurd (cc)
+  short_span_moves {f = false} {f' = true} h g e l = absurd (cc)
 
   by_width : (wide : Bool) {i i' j j' : ℕ} {f f' : Bool} → nat_le (i + 5) j ≡ wide → Here w i i' → Here w j j' → f' ≡ f
       → Moves old new from to (finding_at DeprecatedInterpolation i j plain_message (when f (inside i j))) (finding_at DeprecatedInterpolation i' j' plain_message (when f' (inside i' j')))
   by_width true {i} {i'} {j} t h g e = finding_moves old new w DeprecatedInterpolation h g refl (fix_when old new w e (inside_moved h g (leb-true (i + 5) j t)))
-  by_width false {i} {i'} {j} t h g e = narrow_moves h g e (leb-false (i + 5) j t)
+  by_width false {i} {i'} {j} t h g e = short_span_moves h g e (leb-false (i + 5) j t)
 
   interpolation_moved : (role : Role) {i i' j j' : ℕ} {o o' : Option Expr} → Here w i i' → Here w j j' → MovedFilter (Here w) (Same w) o o'
       → Moves old new from to (interpolation_findings old role i j o) (interpolation_findings new role i' j' o')

@@ -47,8 +47,8 @@ get_take (suc n) (suc k) (x ∷ xs) l = get_take n k xs (omega (arith, l))
 abbrev pub token_of : Pair → Token
 token_of p = (p.kind, p.spelling)
 
-tokens_cut : (n k : ℕ) (xs : List Pair) → tokens_of (take k (drop n xs)) ≡ take k (drop n (tokens_of xs))
-tokens_cut n k xs = sym (take-map token_of k (drop n xs)) ∙ ap (take k) (sym (drop-map token_of n xs))
+tokens_of_range : (n k : ℕ) (xs : List Pair) → tokens_of (take k (drop n xs)) ≡ take k (drop n (tokens_of xs))
+tokens_of_range n k xs = sym (take-map token_of k (drop n xs)) ∙ ap (take k) (sym (drop-map token_of n xs))
 
 head_is : {x y : Token} {xs ys : List Token} → x ∷ xs ≡ y ∷ ys → y ≡ x
 head_is e = cc
@@ -84,8 +84,8 @@ same_break comments depth (x ∷ xs) (y ∷ ys) e =
     rw (k, more) refl
 
 -- some of the tokens from number `from` on
-cut_in : (count n k from : ℕ) (xs : List Token) → n + k ≤ count → take k (drop (from + n) xs) ≡ take k (drop n (take count (drop from xs)))
-cut_in count n k from xs l =
+take_drop_take : (count n k from : ℕ) (xs : List Token) → n + k ≤ count → take k (drop (from + n) xs) ≡ take k (drop n (take count (drop from xs)))
+take_drop_take count n k from xs l =
     let c : count ≡ n + (count - n) = omega (arith, l) in
     let a : drop n (take count (drop from xs)) ≡ take (count - n) (drop n (drop from xs)) =
     ap (λ (c : ℕ). drop n (take c (drop from xs))) c ∙ drop-take n (count - n) (drop from xs) in
@@ -108,8 +108,8 @@ module _ (old new : List Pair) {from to count : ℕ} (w : SameTokens (tokens_of 
   pub here_of : {i j : ℕ} → Same w i j → Here w i j
   here_of {i} {j} h = record { before = h.before; within = omega (arith, h.within); in_old = h.in_old; in_new = h.in_new }
 
-  pub behind_of : {i j : ℕ} → Same w i j → Here w (i + 1) (j + 1)
-  behind_of {i} {j} h = record { before = h.before + 1; within = omega (arith, h.within); in_old = omega (arith, h.in_old); in_new = omega (arith, h.in_new) }
+  pub here_after : {i j : ℕ} → Same w i j → Here w (i + 1) (j + 1)
+  here_after {i} {j} h = record { before = h.before + 1; within = omega (arith, h.within); in_old = omega (arith, h.in_old); in_new = omega (arith, h.in_new) }
 
   pub lt_moved : {i i' j j' : ℕ} → Here w i i' → Here w j j' → nat_lt i' j' ≡ nat_lt i j
   lt_moved h g = rw (h.in_old, h.in_new, g.in_old, g.in_new) (lt_test from to h.before g.before)
@@ -135,9 +135,9 @@ module _ (old new : List Pair) {from to count : ℕ} (w : SameTokens (tokens_of 
   kind_moved {n} {n'} h = (same_parts (slice_get old n) (slice_get new n') (sym (slice_get-map token_of new n') ∙ (token_moved h ∙ slice_get-map token_of old n))).0
 
   -- k tokens from the n-th on of those that are the same
-  cut_moved : (n k : ℕ) → n + k ≤ count → tokens_of (take k (drop (from + n) old)) ≡ tokens_of (take k (drop (to + n) new))
-  cut_moved n k l = tokens_cut (from + n) k old ∙ (cut_in count n k from (tokens_of old) l
-      ∙ (ap (λ (l : List Token). take k (drop n l)) w.same ∙ (sym (cut_in count n k to (tokens_of new) l) ∙ sym (tokens_cut (to + n) k new))))
+  tokens_moved : (n k : ℕ) → n + k ≤ count → tokens_of (take k (drop (from + n) old)) ≡ tokens_of (take k (drop (to + n) new))
+  tokens_moved n k l = tokens_of_range (from + n) k old ∙ (take_drop_take count n k from (tokens_of old) l
+      ∙ (ap (λ (l : List Token). take k (drop n l)) w.same ∙ (sym (take_drop_take count n k to (tokens_of new) l) ∙ sym (tokens_of_range (to + n) k new))))
 
   span_moved : {i i' j j' : ℕ} → Here w i i' → Here w j j' → tokens_of (token_range old i j) ≡ tokens_of (token_range new i' j')
   span_moved h g =
@@ -146,14 +146,14 @@ module _ (old new : List Pair) {from to count : ℕ} (w : SameTokens (tokens_of 
       let l : a + (b - a) ≤ count = omega (arith, h.within, g.within) in
       let e : (from + b) - (from + a) ≡ b - a = omega arith in
       let e' : (to + b) - (to + a) ≡ b - a = omega arith in
-      rw (h.in_old, h.in_new, g.in_old, g.in_new) (rw (e, e') (cut_moved a (b - a) l))
+      rw (h.in_old, h.in_new, g.in_old, g.in_new) (rw (e, e') (tokens_moved a (b - a) l))
 
   maybe_moved : (a k : ℕ) → (k ≡ 0) ⊎ ((a + 2) + k ≤ count) → tokens_of (take k (drop (from + a + 2) old)) ≡ tokens_of (take k (drop (to + a + 2) new))
   maybe_moved a k (inl z) = rw z refl
   maybe_moved a k (inr l) =
       let p : from + a + 2 ≡ from + (a + 2) = omega arith in
       let q : to + a + 2 ≡ to + (a + 2) = omega arith in
-      rw (p, q) (cut_moved (a + 2) k l)
+      rw (p, q) (tokens_moved (a + 2) k l)
 
   -- but for two at either end
   inner_moved : {i i' j j' : ℕ} → Here w i i' → Here w j j' → tokens_of (token_range old (i + 2) (j - 2)) ≡ tokens_of (token_range new (i' + 2) (j' - 2))

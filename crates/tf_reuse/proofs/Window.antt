@@ -10,28 +10,28 @@ use Rattle.hcl_grammar_laws.proofs.Neat.{kept_at}
 use Rattle.tf_reuse.specs.MembersKeep.{SameTokens}
 
 -- lists with the same n elements in front: an answer of prefix_len below n is that of both
-front : (p : Token → Bool) (n : ℕ) (xs ys : List Token) → take n xs ≡ take n ys → prefix_len p xs < n → prefix_len p ys ≡ prefix_len p xs
-front p zero xs ys e l = absurd (omega arith)
-front p (suc n) [] [] e l = refl
-front p (suc n) [] (y ∷ ys) e l = absurd (cc)
-front p (suc n) (x ∷ xs) [] e l = absurd (cc)
-front p (suc n) (x ∷ xs) (y ∷ ys) e l =
+leading : (p : Token → Bool) (n : ℕ) (xs ys : List Token) → take n xs ≡ take n ys → prefix_len p xs < n → prefix_len p ys ≡ prefix_len p xs
+leading p zero xs ys e l = absurd (omega arith)
+leading p (suc n) [] [] e l = refl
+leading p (suc n) [] (y ∷ ys) e l = absurd (cc)
+leading p (suc n) (x ∷ xs) [] e l = absurd (cc)
+leading p (suc n) (x ∷ xs) (y ∷ ys) e l =
     let same : x ≡ y = cc in
     let rest : take n xs ≡ take n ys = cc in
-    ap (λ (z : Token). cond (p z) (1 + prefix_len p ys) 0) (sym same) ∙ go (p x) l (front p n xs ys rest)
+    ap (λ (z : Token). cond (p z) (1 + prefix_len p ys) 0) (sym same) ∙ go (p x) l (leading p n xs ys rest)
   where
     go : (b : Bool) → cond b (1 + prefix_len p xs) 0 < suc n → (prefix_len p xs < n → prefix_len p ys ≡ prefix_len p xs) → cond b (1 + prefix_len p ys) 0 ≡ cond b (1 + prefix_len p xs) 0
     go true l h = ap (λ (k : ℕ). 1 + k) (h (omega (arith, l)))
     go false l h = refl
 
 -- and each of these elements is
-gets : (n k : ℕ) (xs ys : List Token) → take n xs ≡ take n ys → k < n → slice_get ys k ≡ slice_get xs k
-gets zero k xs ys e l = absurd (omega arith)
-gets (suc n) k [] [] e l = refl
-gets (suc n) k [] (y ∷ ys) e l = absurd (cc)
-gets (suc n) k (x ∷ xs) [] e l = absurd (cc)
-gets (suc n) zero (x ∷ xs) (y ∷ ys) e l = let same : x ≡ y = cc in ap Some (sym same)
-gets (suc n) (suc k) (x ∷ xs) (y ∷ ys) e l = let rest : take n xs ≡ take n ys = cc in gets n k xs ys rest (omega (arith, l))
+slice_get_of_take : (n k : ℕ) (xs ys : List Token) → take n xs ≡ take n ys → k < n → slice_get ys k ≡ slice_get xs k
+slice_get_of_take zero k xs ys e l = absurd (omega arith)
+slice_get_of_take (suc n) k [] [] e l = refl
+slice_get_of_take (suc n) k [] (y ∷ ys) e l = absurd (cc)
+slice_get_of_take (suc n) k (x ∷ xs) [] e l = absurd (cc)
+slice_get_of_take (suc n) zero (x ∷ xs) (y ∷ ys) e l = let same : x ≡ y = cc in ap Some (sym same)
+slice_get_of_take (suc n) (suc k) (x ∷ xs) (y ∷ ys) e l = let rest : take n xs ≡ take n ys = cc in slice_get_of_take n k xs ys rest (omega (arith, l))
 
 drop_drop : (n k : ℕ) (xs : List Token) → drop k (drop n xs) ≡ drop (n + k) xs
 drop_drop zero k xs = let e : k ≡ 0 + k = omega arith in ap (λ (z : ℕ). drop z xs) e
@@ -87,12 +87,12 @@ module _ {old new : List Token} {from to count : ℕ} (w : SameTokens old new fr
     pub in_new : j ≡ to + before
 
   -- what comes next in the old list is one of these tokens
-  abbrev pub Comes : Bool → ℕ → Type 0
-  Comes m i = next_index old m i < from + count
+  abbrev pub NextIsWithin : Bool → ℕ → Type 0
+  NextIsWithin m i = next_index old m i < from + count
 
   -- each of the tokens is the same
   pub each_same : (k : ℕ) → k < count → slice_get new (to + k) ≡ slice_get old (from + k)
-  each_same k l = sym (get_drop to k new) ∙ gets count k (drop from old) (drop to new) w.same l ∙ get_drop from k old
+  each_same k l = sym (get_drop to k new) ∙ slice_get_of_take count k (drop from old) (drop to new) w.same l ∙ get_drop from k old
 
   -- after k of the tokens the other n are the same
   rest_same : (k n : ℕ) → k + n ≡ count → take n (drop (from + k) old) ≡ take n (drop (to + k) new)
@@ -101,9 +101,9 @@ module _ {old new : List Token} {from to count : ℕ} (w : SameTokens old new fr
       ap (take n) (sym (drop_drop from k old)) ∙ sym (drop-take k n (drop from old)) ∙ ap (drop k) all ∙ drop-take k n (drop to new) ∙ ap (take n) (drop_drop to k new)
 
   run_same : (p : Token → Bool) (k : ℕ) → k ≤ count → from + k + prefix_len p (drop (from + k) old) < from + count → prefix_len p (drop (to + k) new) ≡ prefix_len p (drop (from + k) old)
-  run_same p k l h = front p (count - k) (drop (from + k) old) (drop (to + k) new) (rest_same k (count - k) (omega (arith, l))) (omega (arith, l, h))
+  run_same p k l h = leading p (count - k) (drop (from + k) old) (drop (to + k) new) (rest_same k (count - k) (omega (arith, l))) (omega (arith, l, h))
 
-  pub starts : (m : Bool) {i i' : ℕ} → Here i i' → Comes m i → Same (next_index old m i) (next_index new m i')
+  pub starts : (m : Bool) {i i' : ℕ} → Here i i' → NextIsWithin m i → Same (next_index old m i) (next_index new m i')
   unfolding next_index
   starts m {i} {i'} h c =
       let p : Token → Bool = λ (t : Token). is_skipped m t.0 in
@@ -119,26 +119,26 @@ module _ {old new : List Token} {from to count : ℕ} (w : SameTokens old new fr
   pub same_here : {i j : ℕ} → Same i j → Here i j
   same_here s = record { before = s.before; within = omega (arith, s.within); in_old = s.in_old; in_new = s.in_new }
 
-  pub starts_here : (m : Bool) {i i' : ℕ} → Here i i' → Comes m i → Here (next_index old m i) (next_index new m i')
+  pub starts_here : (m : Bool) {i i' : ℕ} → Here i i' → NextIsWithin m i → Here (next_index old m i) (next_index new m i')
   starts_here m h c = same_here (starts m h c)
 
-  pub afters : (m : Bool) {i i' : ℕ} → Here i i' → Comes m i → Here (after_next old m i) (after_next new m i')
+  pub afters : (m : Bool) {i i' : ℕ} → Here i i' → NextIsWithin m i → Here (after_next old m i) (after_next new m i')
   unfolding after_next
   afters m h c =
       let s = starts m h c in
       record { before = suc s.before; within = omega (arith, s.within); in_old = omega (arith, s.in_old); in_new = omega (arith, s.in_new) }
 
-  pub tokens : (m : Bool) {i i' : ℕ} → Here i i' → Comes m i → next_token new m i' ≡ next_token old m i
+  pub tokens : (m : Bool) {i i' : ℕ} → Here i i' → NextIsWithin m i → next_token new m i' ≡ next_token old m i
   unfolding next_token
   tokens m {i} {i'} h c =
       let s = starts m h c in
       ap (slice_get new) s.in_new ∙ each_same s.before s.within ∙ ap (slice_get old) (sym s.in_old)
 
-  pub nexts : (m : Bool) {i i' : ℕ} → Here i i' → Comes m i → next_kind new m i' ≡ next_kind old m i
+  pub nexts : (m : Bool) {i i' : ℕ} → Here i i' → NextIsWithin m i → next_kind new m i' ≡ next_kind old m i
   unfolding next_kind
   nexts m h c = ap (option_map (λ (t : Token). t.0)) (tokens m h c)
 
-  pub some_next : (m : Bool) (i : ℕ) → Comes m i → next_kind old m i ≢ None
+  pub some_next : (m : Bool) (i : ℕ) → NextIsWithin m i → next_kind old m i ≢ None
   unfolding next_kind next_token
   some_next m i c = go (slice_get old (next_index old m i)) (found old (next_index old m i) (omega (arith, c, w.in_old)))
     where
@@ -146,30 +146,30 @@ module _ {old new : List Token} {from to count : ℕ} (w : SameTokens old new fr
       go None h e = h refl
       go (Some t) h e = let clash : Some t.0 ≡ None = e in absurd (cc)
 
-  pub comes_end : (m : Bool) (j : ℕ) → Comes m j → j ≤ from + count
+  pub next_within_end : (m : Bool) (j : ℕ) → NextIsWithin m j → j ≤ from + count
   unfolding next_index
-  comes_end m j c = omega (arith, c)
+  next_within_end m j c = omega (arith, c)
 
-  pub comes_within : (m : Bool) (i : ℕ) → after_next old m i ≤ from + count → Comes m i
+  pub next_within : (m : Bool) (i : ℕ) → after_next old m i ≤ from + count → NextIsWithin m i
   unfolding after_next
-  comes_within m i l = omega (arith, l)
+  next_within m i l = omega (arith, l)
 
-  pub before : (m n : Bool) (i j : ℕ) → after_next old n i ≤ j → Comes m j → Comes n i
-  before m n i j l c = comes_within n i (omega (arith, l, comes_end m j c))
+  pub before : (m n : Bool) (i j : ℕ) → after_next old n i ≤ j → NextIsWithin m j → NextIsWithin n i
+  before m n i j l c = next_within n i (omega (arith, l, next_within_end m j c))
 
-  pub earlier : (m : Bool) (i j : ℕ) → i ≤ j → Comes m j → Comes m i
+  pub earlier : (m : Bool) (i j : ℕ) → i ≤ j → NextIsWithin m j → NextIsWithin m i
   unfolding next_index
   earlier m i j l c = omega (arith, later (λ (t : Token). is_skipped m t.0) i j old l, c)
 
   -- a token that is not dropped is at n
-  pub earlier_than : (m : Bool) (i n : ℕ) (t : Token) → i ≤ n → slice_get old n ≡ Some t → is_skipped m t.0 ≡ false → n < from + count → Comes m i
+  pub earlier_than : (m : Bool) (i n : ℕ) (t : Token) → i ≤ n → slice_get old n ≡ Some t → is_skipped m t.0 ≡ false → n < from + count → NextIsWithin m i
   unfolding next_index
   earlier_than m i n t l e d b = let p : Token → Bool = λ (t : Token). is_skipped m t.0 in omega (arith, later p i n old l, kept_at p old n t e d, b)
 
   pub one_place : {i j l : ℕ} → Here i j → Here i l → j ≡ l
   one_place a b = omega (arith, a.in_old, a.in_new, b.in_old, b.in_new)
 
-  pub firsts : (m : Bool) {i i' j j' : ℕ} → Here i i' → Here j j' → i ≤ j → Comes m j → Here (first_token_in old m i j) (first_token_in new m i' j')
+  pub firsts : (m : Bool) {i i' j j' : ℕ} → Here i i' → Here j j' → i ≤ j → NextIsWithin m j → Here (first_token_in old m i j) (first_token_in new m i' j')
   unfolding first_token_in
   firsts m {i} {i'} {j} {j'} h g l c =
       let to_new : i ≡ j → i' ≡ j' = λ e. omega (arith, e, h.in_old, h.in_new, g.in_old, g.in_new) in

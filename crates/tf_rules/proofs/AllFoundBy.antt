@@ -41,8 +41,8 @@ each f h (x ∷ xs) = both (h x) (each f h xs)
 -- of a rule other than that on comments; where it has a fix, one has a step for it
 pub one : {pairs : List Pair} {rule : Rule} {first past : ℕ} {message : Message} {fix : Option Fix} → is_comment_rule rule ≡ false → is_comment_fix fix ≡ false
     → (is_fixable fix ≡ true → has_fix rule ≡ true) → From pairs rule (finding_at rule first past message fix)
-one other no_slashes mended =
-    record { are = (record { rule_is = refl; inside = no_slashes ∙ sym other; has_slashes = λ e. absurd (false≢true (sym no_slashes ∙ e)); has_fix = mended }, tt) }
+one other no_slashes has_fixed_finding =
+    record { are = (record { rule_is = refl; inside = no_slashes ∙ sym other; has_slashes = λ e. absurd (false≢true (sym no_slashes ∙ e)); has_fix = has_fixed_finding }, tt) }
 
 -- one without a fix
 pub plainly : {pairs : List Pair} {rule : Rule} {first past : ℕ} {message : Message} → is_comment_rule rule ≡ false → From pairs rule (finding_at rule first past message None)

@@ -25,11 +25,11 @@ or_false : (a : Bool) → (a || false) ≡ a
 or_false true = refl
 or_false false = refl
 
-grow : (after : Bool) (c : ℕ) (gs : List (List ℕ)) → groups_after after (add_to_first c gs) ≡ (is_lower_or_digit c && groups_after false gs)
-grow true c [] = and_true (is_lower_or_digit c)
-grow true c (g ∷ gs) = and_assoc (is_lower_or_digit c) (list_all is_lower_or_digit g) (list_all is_group gs)
-grow false c [] = and_true (is_lower_or_digit c)
-grow false c (g ∷ gs) = and_assoc (is_lower_or_digit c) (list_all is_lower_or_digit g) (list_all is_group gs)
+groups_add_to_first : (after : Bool) (c : ℕ) (gs : List (List ℕ)) → groups_after after (add_to_first c gs) ≡ (is_lower_or_digit c && groups_after false gs)
+groups_add_to_first true c [] = and_true (is_lower_or_digit c)
+groups_add_to_first true c (g ∷ gs) = and_assoc (is_lower_or_digit c) (list_all is_lower_or_digit g) (list_all is_group gs)
+groups_add_to_first false c [] = and_true (is_lower_or_digit c)
+groups_add_to_first false c (g ∷ gs) = and_assoc (is_lower_or_digit c) (list_all is_lower_or_digit g) (list_all is_group gs)
 
 at_byte : (here after : Bool) (c : ℕ) (cs : List ℕ) → (c == 95) ≡ here → ((b : Bool) → is_valid_rest b cs ≡ groups_after b (split_underscores cs))
     → ((is_lower_or_digit c || (here && not after)) && is_valid_rest here cs) ≡ groups_after after (if here then [] ∷ split_underscores cs else add_to_first c (split_underscores cs))
@@ -37,7 +37,7 @@ at_byte true true c cs e more = let same : c ≡ 95 = search rules in rw same re
 at_byte true false c cs e more = let same : c ≡ 95 = search rules in rw same (more true)
 at_byte false after c cs e more =
     ap (λ b. b && is_valid_rest false cs) (or_false (is_lower_or_digit c))
-    ∙ (ap (λ b. is_lower_or_digit c && b) (more false) ∙ sym (grow after c (split_underscores cs)))
+    ∙ (ap (λ b. is_lower_or_digit c && b) (more false) ∙ sym (groups_add_to_first after c (split_underscores cs)))
 
 rest_groups : (after : Bool) (cs : List ℕ) → is_valid_rest after cs ≡ groups_after after (split_underscores cs)
 rest_groups true [] = refl
@@ -49,7 +49,7 @@ first_byte : (here : Bool) (c : ℕ) (cs : List ℕ) → (c == 95) ≡ here → 
 first_byte true c cs e lower = let same : c ≡ 95 = search rules in absurd (cc (same, lower))
 first_byte false c cs e lower =
     rest_groups false cs
-    ∙ sym (grow true c (split_underscores cs) ∙ ap (λ b. (b || (nat_le 48 c && nat_le c 57)) && groups_after false (split_underscores cs)) lower)
+    ∙ sym (groups_add_to_first true c (split_underscores cs) ∙ ap (λ b. (b || (nat_le 48 c && nat_le c 57)) && groups_after false (split_underscores cs)) lower)
 
 if_lower : (b : Bool) (c : ℕ) (cs : List ℕ) → is_lower c ≡ b → (b && is_valid_rest false cs) ≡ (b && list_all is_group (split_underscores (c ∷ cs)))
 if_lower false c cs e = refl

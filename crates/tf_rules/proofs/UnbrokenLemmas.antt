@@ -49,7 +49,7 @@ has_none (suc n) comments depth pairs i past left all = elim (slice_get_cases pa
       let below : i < past = omega (arith, left) in
       let told : Some x.kind ≡ kind_of pairs i = sym (ap (option_map (λ (p : Pair). p.kind)) found) in
       let here = none_without comments x.kind (all.each i (omega arith) below x.kind told) in
-      let behind = has_none n comments (depth_after x.kind depth) pairs (i + 1) past (omega (arith, left)) (fewer pairs i past (i + 1) past (omega arith) (omega arith) all) in
-      break_step comments depth pairs i past x.kind below told ∙ neither (depth == 0) (is_line_break comments x.kind) (has_line_break comments (depth_after x.kind depth) (token_range pairs (i + 1) past)) here behind
+      let following = has_none n comments (depth_after x.kind depth) pairs (i + 1) past (omega (arith, left)) (fewer pairs i past (i + 1) past (omega arith) (omega arith) all) in
+      break_step comments depth pairs i past x.kind below told ∙ neither (depth == 0) (is_line_break comments x.kind) (has_line_break comments (depth_after x.kind depth) (token_range pairs (i + 1) past)) here following
   | inr (beyond, missing) ↦ rw (left, drop_all i pairs beyond) refl
 ]

@@ -343,12 +343,12 @@ determines (nodes.visit {n} {ns} {inside} {others} a b) (nodes.visit {n = m} {ns
     let parted = determines a c (ap (λ p. p.1) h) (map node_key others ++ zs) (map node_key more ++ us) (sym (map-append node_key inside others zs) ∙ (t ∙ map-append node_key within more us)) in
     let rest = determines b d (omega (arith, l)) zs us parted.1 in
     let first : n ≡ m = none_forgotten n m (ap (λ p. p.0) h) parted.0 in
-    let behind : ns ≡ ms = rest.0 in
+    let following : ns ≡ ms = rest.0 in
     ((let all : n ∷ ns ≡ m ∷ ms = cc in all), rest.1)
 
 map-nil : {A : Type 0} (xs : List A) → xs ≡ xs ++ []
 map-nil [] = refl
 map-nil (x ∷ xs) = ap (λ l. x ∷ l) (map-nil xs)
 
-pub tree_told : PreorderDeterminesTree
-tree_told ns ms xs ys l a b e = (determines a b l [] [] (sym (map-nil (map node_key xs)) ∙ (e ∙ map-nil (map node_key ys)))).0
+pub tree_determined : PreorderDeterminesTree
+tree_determined ns ms xs ys l a b e = (determines a b l [] [] (sym (map-nil (map node_key xs)) ∙ (e ∙ map-nil (map node_key ys)))).0

@@ -125,9 +125,9 @@ mapped : {X : Type 0} {count : ℕ} (f : X → List Finding) (xs : List X) → E
 mapped f [] a = none
 mapped f (x ∷ xs) a = append a.0 (mapped f xs a.1)
 
-turned : {X : Type 0} (P Q : X → Type 0) → ((x : X) → P x → Q x) → (xs : List X) → Each P xs → Each Q xs
-turned P Q t [] a = tt
-turned P Q t (x ∷ xs) a = (t x a.0, turned P Q t xs a.1)
+each_implies : {X : Type 0} (P Q : X → Type 0) → ((x : X) → P x → Q x) → (xs : List X) → Each P xs → Each Q xs
+each_implies P Q t [] a = tt
+each_implies P Q t (x ∷ xs) a = (t x a.0, each_implies P Q t xs a.1)
 
 -- ---- comments
 
@@ -148,12 +148,12 @@ link_kept : (pairs : List Pair) (first : ℕ) (is_first : Bool) (left : Expr) (l
 link_kept pairs first is_first left l a b c d =
     let past = l.operand.past in
     let equal = is_equal l.operator in
-    let mends = is_comparison_fixable pairs l.operand left.past left.past l.operand.first in
-    let right = keep (length pairs) EmptyListEquality first past plain_message (when mends (length_fix first left.past equal)) (omega (arith, a, b, c)) d
-    (fits first past mends (length_fix first left.past equal) (compared first past first left.past equal (omega arith) a (omega (arith, b, c)))) in
-    let mends_left = is_comparison_fixable pairs left past left.past l.operand.first in
-    let other = keep (length pairs) EmptyListEquality first past plain_message (when mends_left (length_fix l.operand.first past equal)) (omega (arith, a, b, c)) d
-    (fits first past mends_left (length_fix l.operand.first past equal) (compared first past l.operand.first past equal (omega (arith, a, b)) c (omega arith))) in
+    let fixes_node = is_comparison_fixable pairs l.operand left.past left.past l.operand.first in
+    let right = keep (length pairs) EmptyListEquality first past plain_message (when fixes_node (length_fix first left.past equal)) (omega (arith, a, b, c)) d
+    (fits first past fixes_node (length_fix first left.past equal) (compared first past first left.past equal (omega arith) a (omega (arith, b, c)))) in
+    let fixes_left = is_comparison_fixable pairs left past left.past l.operand.first in
+    let other = keep (length pairs) EmptyListEquality first past plain_message (when fixes_left (length_fix l.operand.first past equal)) (omega (arith, a, b, c)) d
+    (fits first past fixes_left (length_fix l.operand.first past equal) (compared first past l.operand.first past equal (omega (arith, a, b)) c (omega arith))) in
     choose (is_equality l.operator) (choose (is_empty_list l.operand) right (choose (is_first && is_empty_list left) other none)) none
 
 chain_kept : (pairs : List Pair) (first : ℕ) (is_first : Bool) (left : Expr) (ls : List Operation) (past : ℕ) → first < left.past → Rising left.past ls past → past ≤ length pairs
@@ -236,8 +236,8 @@ module _ (rules : RuleSet) (pairs : List Pair) (ts : List Token) (count : length
   on_line_named : (a : Attribute) → Derives ts (g.one_line_attribute a) → a.name < length pairs
   on_line_named a (g.is_one_line_attribute w) = let n = name_on_line w a refl in omega (arith, n, count)
 
-  block_begun : (b : Block) → Derives ts (g.block b) → b.block_type < length pairs
-  block_begun b (g.is_block w) = let n = word_within w b refl in omega (arith, n, count)
+  block_type_within : (b : Block) → Derives ts (g.block b) → b.block_type < length pairs
+  block_type_within b (g.is_block w) = let n = word_within w b refl in omega (arith, n, count)
 
   name_kept : (named : NameKind) (name : Option ℕ) (first past : ℕ) → first < past → past ≤ length pairs → AreKept (length pairs) (naming_finding pairs named name first past)
   name_kept named name first past a b =
@@ -299,7 +299,7 @@ module _ (rules : RuleSet) (pairs : List Pair) (ts : List Token) (count : length
         let inside = inside_in_preorder root (g.block b) s in
         let labels = first_each S (map g.label b.labels) (g.content_nodes (out-Content b.content)) inside in
         let content = last_each S (map g.label b.labels) (g.content_nodes (out-Content b.content)) inside in
-        let begun = block_begun b (each (g.block b) s) in
+        let begun = block_type_within b (each (g.block b) s) in
         let names = mapped (local_findings pairs) (attributes b) (of_content (out-Content b.content) content) in
         append (choose (has_rule rules NamingConvention)
         (append (declared_kept b labels (declared_name (token_text pairs b.block_type))) (choose (bytes_eq (token_text pairs b.block_type) (codes "locals")) names none)) none)
@@ -328,7 +328,7 @@ count_tokens [] = refl
 count_tokens (p ∷ ps) = ap suc (count_tokens ps)
 
 pub none_dropped : NodesSpanTheirTokens → NoFindingIsDropped
-none_dropped each_node text tree parses rules nodes stand =
+none_dropped each_node text tree parses rules nodes is_in_preorder =
     let pairs = parses.pairs in
     let ts = tokens_of pairs in
     let root = g.body tree.body in
@@ -337,8 +337,8 @@ none_dropped each_node text tree parses rules nodes stand =
     let shut = closed rules pairs ts count root each in
     let inside = inside_in_preorder root root g.itself in
     let roots = members (S rules pairs ts count root each) (IsLegacyWithin ts) shut tree.body.members inside in
-    let seen = all_visited (S rules pairs ts count root each) (IsLegacyWithin ts) shut stand roots in
+    let seen = all_visited (S rules pairs ts count root each) (IsLegacyWithin ts) shut is_in_preorder roots in
     let at_nodes = mapped (node_findings rules pairs) nodes
-    (turned (Seen (S rules pairs ts count root each) (IsLegacyWithin ts)) (λ n. AreKept (length pairs) (node_findings rules pairs n)) (node_kept rules pairs ts count root each) nodes seen) in
+    (each_implies (Seen (S rules pairs ts count root each) (IsLegacyWithin ts)) (λ n. AreKept (length pairs) (node_findings rules pairs n)) (node_kept rules pairs ts count root each) nodes seen) in
     let at_blocks = mapped (top_level_member_findings rules pairs) tree.body.members (members_kept rules pairs ts count root each tree.body.members inside) in
     (append at_nodes (append at_blocks (choose (has_rule rules CommentSyntax) (comments_kept pairs 0 pairs (omega arith)) none))).is

@@ -162,17 +162,17 @@ module _ {ns : List Node} (closed : (n : Node) → In n ns → AllIn ns (childre
   within (a_for {x} {d} e i) = let a = of_part x (Part-F.For d) e i in (an_intro a.0, (a_template a.1, tt))
 
   mutual
-    stands : {x p : g.Node} → Known ns p → g.IsWithin x p → Known ns x
-    stands h g.itself = h
-    stands h (g.within a) = among (within h) a
+    known_within : {x p : g.Node} → Known ns p → g.IsWithin x p → Known ns x
+    known_within h g.itself = h
+    known_within h (g.within a) = among (within h) a
 
     among : {x : g.Node} {ps : List g.Node} → AllKnown ns ps → g.IsWithinOneOf x ps → Known ns x
-    among a (g.in_first s) = stands a.0 s
+    among a (g.in_first s) = known_within a.0 s
     among a (g.in_rest s) = among a.1 s
 
 one_of : {x : g.Node} {n : Node} {ns : List Node} → IsSameNode x n → In n ns → IsAmong x ns
 one_of s inside.here = here s
-one_of s (inside.behind i) = there (one_of s i)
+one_of s (inside.following i) = there (one_of s i)
 
 found : {ns : List Node} {x : g.Node} → Known ns x → is_in_both x ≡ true → IsAmong x ns
 found (a_body a) e = absurd (cc)
@@ -187,5 +187,5 @@ found (a_template a) e = absurd (cc)
 found (an_if h i) e = one_of (same_if h) i
 found (a_for h i) e = one_of (same_for h) i
 
-pub each_is_gone_through : EveryNodeIsVisited
-each_is_gone_through b ns s x e w = found (stands (parts_in s) (a_body (roots_in s)) w) e
+pub each_is_visited : EveryNodeIsVisited
+each_is_visited b ns s x e w = found (known_within (parts_in s) (a_body (roots_in s)) w) e

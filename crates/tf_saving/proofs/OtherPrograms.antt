@@ -86,7 +86,7 @@ HoldsAfter IsOn step d fate (Err end) = IsOn step
 -- from such steps a run leads to such steps while the checks stay the same, and renames nothing
 record RenamesNothing (checks : Checks) (IsOn : Step → Type 0) : Type 0 where
   nothing : (step : Step) → IsOn step → IsNoRename (call_of step)
-  goes : (step : Step) (d : Disk) (fate : Fate) → d.checks ≡ checks → IsOn step → HoldsAfter IsOn step d fate (call_of step)
+  holds_after : (step : Step) (d : Disk) (fate : Fate) → d.checks ≡ checks → IsOn step → HoldsAfter IsOn step d fate (call_of step)
 
 unchanged_stepped : (checks : Checks) (IsOn : Step → Type 0) (s : Contents) (m : State) (fate : Fate) (call : Result Syscall End) → IsNoRename call → m.disk.checks ≡ checks → HoldsAfter IsOn m.step m.disk fate call
     → let n = stepped_by call s m fate in IsUnchanged m.disk n.disk × (n.disk.checks ≡ checks) × IsOn n.step
@@ -96,7 +96,7 @@ unchanged_stepped checks IsOn s m fate (Ok call) n e h = (fate_unchanged call s 
 unchanged_next : (checks : Checks) (IsOn : Step → Type 0) → RenamesNothing checks IsOn → (s : Contents) (m : State) (fate : Fate) → m.disk.checks ≡ checks → IsOn m.step
     → let n = stepped s m fate in IsUnchanged m.disk n.disk × (n.disk.checks ≡ checks) × IsOn n.step
 unchanged_next checks IsOn puts s m (AnotherSyncs part) e h = (done_unchanged (SyncDirectory part) s m.disk tt, done_checks (SyncDirectory part) s m.disk ∙ e, h)
-unchanged_next checks IsOn puts s m fate e h = unchanged_stepped checks IsOn s m fate (call_of m.step) (puts.nothing m.step h) e (puts.goes m.step m.disk fate e h)
+unchanged_next checks IsOn puts s m fate e h = unchanged_stepped checks IsOn s m fate (call_of m.step) (puts.nothing m.step h) e (puts.holds_after m.step m.disk fate e h)
 
 unchanged_run : (checks : Checks) (IsOn : Step → Type 0) → RenamesNothing checks IsOn → (s : Contents) (fates : List Fate) (m : State) → m.disk.checks ≡ checks → IsOn m.step
     → let n = run s fates m in IsUnchanged m.disk n.disk × IsOn n.step
@@ -183,40 +183,40 @@ leaving_puts_nothing CompareInPlace h = tt
 leaving_puts_nothing (Ended end) h = tt
 leaving_puts_nothing step h = absurd h
 
-leaving_goes : (checks : Checks) → checks.is_unchanged ≡ false → (step : Step) (d : Disk) (fate : Fate) → d.checks ≡ checks → IsLeaving step → HoldsAfter IsLeaving step d fate (call_of step)
-leaving_goes checks c OpenJournal d fate e h = on_chosen (IsLeaving) (reply (Open Journal) d fate) OpenText OpenText (Ended (Error Journal)) tt tt tt
-leaving_goes checks c OpenText d fate e h = on_chosen (IsLeaving) (reply (Open Text) d fate) SyncEarlierRename (Ended (Error Text)) (Ended (Error Text)) tt tt tt
-leaving_goes checks c SyncEarlierRename d fate e h = on_unless (IsLeaving) (reply (SyncDirectory Journal) d fate) CreateText CompareInPlace (Ended (Error Journal)) tt tt tt
-leaving_goes checks c CreateText d fate e h = on_unless (IsLeaving) (reply (CreateNew Text) d fate) CopyTextAttributes CompareInPlace (RemoveJournal (Error Text)) tt tt tt
-leaving_goes checks c CopyTextAttributes d fate e h = on_unless (IsLeaving) (reply (CopyAttributes Text) d fate) WriteText (RemoveText InPlace) (RemoveText (Error Text)) tt tt tt
-leaving_goes checks c SyncTextName d fate e h = on_unless (IsLeaving) (reply (SyncDirectory Text) d fate) CreateJournal (RemoveText InPlace) (RemoveText (Error Text)) tt tt tt
-leaving_goes checks c CreateJournal d fate e h = on_unless (IsLeaving) (reply (CreateNew Journal) d fate) CopyJournalAttributes (RemoveText InPlace) (RemoveJournal (Error Journal)) tt tt tt
-leaving_goes checks c CopyJournalAttributes d fate e h = on_unless (IsLeaving) (reply (CopyAttributes Journal) d fate) WriteJournal (RemoveJournal InPlace) (RemoveJournal (Error Journal)) tt tt tt
-leaving_goes checks c WriteJournal d fate e h = on_chosen (IsLeaving) (reply (Write Journal) d fate) SyncJournal (RemoveJournal (Error Journal)) (RemoveJournal (Error Journal)) tt tt tt
-leaving_goes checks c SyncJournal d fate e h = on_chosen (IsLeaving) (reply (Sync Journal) d fate) SyncJournalName (RemoveJournal (Error Journal)) (RemoveJournal (Error Journal)) tt tt tt
-leaving_goes checks c WriteText d fate e h = on_chosen (IsLeaving) (reply (Write Text) d fate) SyncText (RemoveText (Error Text)) (RemoveText (Error Text)) tt tt tt
-leaving_goes checks c SyncText d fate e h = on_chosen (IsLeaving) (reply (Sync Text) d fate) SyncTextName (RemoveText (Error Text)) (RemoveText (Error Text)) tt tt tt
-leaving_goes checks c SyncJournalName d fate e h = on_unless (IsLeaving) (reply (SyncDirectory Journal) d fate) CompareNewJournal (RemoveJournal InPlace) (RemoveJournal (Error Journal)) tt tt tt
-leaving_goes checks c CompareNewJournal d fate e h = on_chosen (IsLeaving) (reply (CompareNew Journal) d fate) CompareNewText (RemoveJournal (Error Journal)) (RemoveJournal (Error Journal)) tt tt tt
-leaving_goes checks c CompareNewText d fate e h = on_chosen (IsLeaving) (reply (CompareNew Text) d fate) CompareText (RemoveJournal (Error Text)) (RemoveJournal (Error Text)) tt tt tt
-leaving_goes checks c CompareText d Succeeds e h = on_changed IsLeaving d.checks.is_unchanged RenameText (RemoveJournal (Error Text)) (RemoveJournal (Error Text)) (ap (λ (l : Checks). l.is_unchanged) e ∙ c) tt
-leaving_goes checks c CompareText d Fails e h = tt
-leaving_goes checks c CompareText d IsRuledOut e h = tt
-leaving_goes checks c CompareText d FailsOnceDone e h = tt
-leaving_goes checks c CompareText d (AnotherSyncs part) e h = tt
-leaving_goes checks c (RemoveJournal end) d fate e h = on_chosen (IsLeaving) (reply (Remove Journal) d fate) (SyncRemoval end) (SyncRemoval end) (finish end) h h (on_restored (IsLeaving) end h tt (λ other. tt))
-leaving_goes checks c (SyncRemoval end) d fate e h = on_chosen (IsLeaving) (reply (SyncDirectory Journal) d fate) (RemoveText end) (finish end) (finish end) h (on_restored (IsLeaving) end h tt (λ other. tt)) (on_restored (IsLeaving) end h tt (λ other. tt))
-leaving_goes checks c (RemoveText end) d fate e h = on_restored (IsLeaving) end h tt (λ other. tt)
-leaving_goes checks c CompareInPlace d Succeeds e h = on_changed IsLeaving d.checks.is_unchanged (Ended InPlace) (Ended (Error Text)) (Ended (Error Text)) (ap (λ (l : Checks). l.is_unchanged) e ∙ c) tt
-leaving_goes checks c CompareInPlace d Fails e h = tt
-leaving_goes checks c CompareInPlace d IsRuledOut e h = tt
-leaving_goes checks c CompareInPlace d FailsOnceDone e h = tt
-leaving_goes checks c CompareInPlace d (AnotherSyncs part) e h = tt
-leaving_goes checks c (Ended end) d fate e h = h
-leaving_goes checks c step d fate e h = absurd h
+leaving_step : (checks : Checks) → checks.is_unchanged ≡ false → (step : Step) (d : Disk) (fate : Fate) → d.checks ≡ checks → IsLeaving step → HoldsAfter IsLeaving step d fate (call_of step)
+leaving_step checks c OpenJournal d fate e h = on_chosen (IsLeaving) (reply (Open Journal) d fate) OpenText OpenText (Ended (Error Journal)) tt tt tt
+leaving_step checks c OpenText d fate e h = on_chosen (IsLeaving) (reply (Open Text) d fate) SyncEarlierRename (Ended (Error Text)) (Ended (Error Text)) tt tt tt
+leaving_step checks c SyncEarlierRename d fate e h = on_unless (IsLeaving) (reply (SyncDirectory Journal) d fate) CreateText CompareInPlace (Ended (Error Journal)) tt tt tt
+leaving_step checks c CreateText d fate e h = on_unless (IsLeaving) (reply (CreateNew Text) d fate) CopyTextAttributes CompareInPlace (RemoveJournal (Error Text)) tt tt tt
+leaving_step checks c CopyTextAttributes d fate e h = on_unless (IsLeaving) (reply (CopyAttributes Text) d fate) WriteText (RemoveText InPlace) (RemoveText (Error Text)) tt tt tt
+leaving_step checks c SyncTextName d fate e h = on_unless (IsLeaving) (reply (SyncDirectory Text) d fate) CreateJournal (RemoveText InPlace) (RemoveText (Error Text)) tt tt tt
+leaving_step checks c CreateJournal d fate e h = on_unless (IsLeaving) (reply (CreateNew Journal) d fate) CopyJournalAttributes (RemoveText InPlace) (RemoveJournal (Error Journal)) tt tt tt
+leaving_step checks c CopyJournalAttributes d fate e h = on_unless (IsLeaving) (reply (CopyAttributes Journal) d fate) WriteJournal (RemoveJournal InPlace) (RemoveJournal (Error Journal)) tt tt tt
+leaving_step checks c WriteJournal d fate e h = on_chosen (IsLeaving) (reply (Write Journal) d fate) SyncJournal (RemoveJournal (Error Journal)) (RemoveJournal (Error Journal)) tt tt tt
+leaving_step checks c SyncJournal d fate e h = on_chosen (IsLeaving) (reply (Sync Journal) d fate) SyncJournalName (RemoveJournal (Error Journal)) (RemoveJournal (Error Journal)) tt tt tt
+leaving_step checks c WriteText d fate e h = on_chosen (IsLeaving) (reply (Write Text) d fate) SyncText (RemoveText (Error Text)) (RemoveText (Error Text)) tt tt tt
+leaving_step checks c SyncText d fate e h = on_chosen (IsLeaving) (reply (Sync Text) d fate) SyncTextName (RemoveText (Error Text)) (RemoveText (Error Text)) tt tt tt
+leaving_step checks c SyncJournalName d fate e h = on_unless (IsLeaving) (reply (SyncDirectory Journal) d fate) CompareNewJournal (RemoveJournal InPlace) (RemoveJournal (Error Journal)) tt tt tt
+leaving_step checks c CompareNewJournal d fate e h = on_chosen (IsLeaving) (reply (CompareNew Journal) d fate) CompareNewText (RemoveJournal (Error Journal)) (RemoveJournal (Error Journal)) tt tt tt
+leaving_step checks c CompareNewText d fate e h = on_chosen (IsLeaving) (reply (CompareNew Text) d fate) CompareText (RemoveJournal (Error Text)) (RemoveJournal (Error Text)) tt tt tt
+leaving_step checks c CompareText d Succeeds e h = on_changed IsLeaving d.checks.is_unchanged RenameText (RemoveJournal (Error Text)) (RemoveJournal (Error Text)) (ap (λ (l : Checks). l.is_unchanged) e ∙ c) tt
+leaving_step checks c CompareText d Fails e h = tt
+leaving_step checks c CompareText d IsRuledOut e h = tt
+leaving_step checks c CompareText d FailsOnceDone e h = tt
+leaving_step checks c CompareText d (AnotherSyncs part) e h = tt
+leaving_step checks c (RemoveJournal end) d fate e h = on_chosen (IsLeaving) (reply (Remove Journal) d fate) (SyncRemoval end) (SyncRemoval end) (finish end) h h (on_restored (IsLeaving) end h tt (λ other. tt))
+leaving_step checks c (SyncRemoval end) d fate e h = on_chosen (IsLeaving) (reply (SyncDirectory Journal) d fate) (RemoveText end) (finish end) (finish end) h (on_restored (IsLeaving) end h tt (λ other. tt)) (on_restored (IsLeaving) end h tt (λ other. tt))
+leaving_step checks c (RemoveText end) d fate e h = on_restored (IsLeaving) end h tt (λ other. tt)
+leaving_step checks c CompareInPlace d Succeeds e h = on_changed IsLeaving d.checks.is_unchanged (Ended InPlace) (Ended (Error Text)) (Ended (Error Text)) (ap (λ (l : Checks). l.is_unchanged) e ∙ c) tt
+leaving_step checks c CompareInPlace d Fails e h = tt
+leaving_step checks c CompareInPlace d IsRuledOut e h = tt
+leaving_step checks c CompareInPlace d FailsOnceDone e h = tt
+leaving_step checks c CompareInPlace d (AnotherSyncs part) e h = tt
+leaving_step checks c (Ended end) d fate e h = h
+leaving_step checks c step d fate e h = absurd h
 
 leaving_puts : (checks : Checks) → checks.is_unchanged ≡ false → RenamesNothing checks IsLeaving
-leaving_puts checks c = record { nothing = leaving_puts_nothing; goes = leaving_goes checks c }
+leaving_puts checks c = record { nothing = leaving_puts_nothing; holds_after = leaving_step checks c }
 
 leaving_ends : (end : End) → IsLeaving (Ended end) → IsError end
 leaving_ends (Error part) h = tt
@@ -273,37 +273,37 @@ keeping_puts_nothing part (Ended end) h = tt
 keeping_puts_nothing Text CompareNewText h = tt
 keeping_puts_nothing part step h = absurd h
 
-keeping_goes : (checks : Checks) (part : SavedFile) → checks.is_ours part ≡ false → (step : Step) (d : Disk) (fate : Fate) → d.checks ≡ checks → IsKeeping part step → HoldsAfter (IsKeeping part) step d fate (call_of step)
-keeping_goes checks part c CreateText d fate e h = on_unless (IsKeeping part) (reply (CreateNew Text) d fate) CopyTextAttributes CompareInPlace (RemoveJournal (Error Text)) tt tt tt
-keeping_goes checks part c CopyTextAttributes d fate e h = on_unless (IsKeeping part) (reply (CopyAttributes Text) d fate) WriteText (RemoveText InPlace) (RemoveText (Error Text)) tt tt tt
-keeping_goes checks part c SyncTextName d fate e h = on_unless (IsKeeping part) (reply (SyncDirectory Text) d fate) CreateJournal (RemoveText InPlace) (RemoveText (Error Text)) tt tt tt
-keeping_goes checks part c CreateJournal d fate e h = on_unless (IsKeeping part) (reply (CreateNew Journal) d fate) CopyJournalAttributes (RemoveText InPlace) (RemoveJournal (Error Journal)) tt tt tt
-keeping_goes checks part c CopyJournalAttributes d fate e h = on_unless (IsKeeping part) (reply (CopyAttributes Journal) d fate) WriteJournal (RemoveJournal InPlace) (RemoveJournal (Error Journal)) tt tt tt
-keeping_goes checks part c WriteJournal d fate e h = on_chosen (IsKeeping part) (reply (Write Journal) d fate) SyncJournal (RemoveJournal (Error Journal)) (RemoveJournal (Error Journal)) tt tt tt
-keeping_goes checks part c SyncJournal d fate e h = on_chosen (IsKeeping part) (reply (Sync Journal) d fate) SyncJournalName (RemoveJournal (Error Journal)) (RemoveJournal (Error Journal)) tt tt tt
-keeping_goes checks part c WriteText d fate e h = on_chosen (IsKeeping part) (reply (Write Text) d fate) SyncText (RemoveText (Error Text)) (RemoveText (Error Text)) tt tt tt
-keeping_goes checks part c SyncText d fate e h = on_chosen (IsKeeping part) (reply (Sync Text) d fate) SyncTextName (RemoveText (Error Text)) (RemoveText (Error Text)) tt tt tt
-keeping_goes checks part c SyncJournalName d fate e h = on_unless (IsKeeping part) (reply (SyncDirectory Journal) d fate) CompareNewJournal (RemoveJournal InPlace) (RemoveJournal (Error Journal)) tt tt tt
-keeping_goes checks Text c CompareNewJournal d fate e h = on_chosen (IsKeeping Text) (reply (CompareNew Journal) d fate) CompareNewText (RemoveJournal (Error Journal)) (RemoveJournal (Error Journal)) tt tt tt
-keeping_goes checks Journal c CompareNewJournal d Succeeds e h = on_changed (IsKeeping Journal) (d.checks.is_ours Journal) CompareNewText (RemoveJournal (Error Journal)) (RemoveJournal (Error Journal)) (ap (λ (l : Checks). l.is_ours Journal) e ∙ c) tt
-keeping_goes checks Journal c CompareNewJournal d Fails e h = tt
-keeping_goes checks Journal c CompareNewJournal d IsRuledOut e h = tt
-keeping_goes checks Journal c CompareNewJournal d FailsOnceDone e h = tt
-keeping_goes checks Journal c CompareNewJournal d (AnotherSyncs other) e h = tt
-keeping_goes checks Text c CompareNewText d Succeeds e h = on_changed (IsKeeping Text) (d.checks.is_ours Text) CompareText (RemoveJournal (Error Text)) (RemoveJournal (Error Text)) (ap (λ (l : Checks). l.is_ours Text) e ∙ c) tt
-keeping_goes checks Text c CompareNewText d Fails e h = tt
-keeping_goes checks Text c CompareNewText d IsRuledOut e h = tt
-keeping_goes checks Text c CompareNewText d FailsOnceDone e h = tt
-keeping_goes checks Text c CompareNewText d (AnotherSyncs other) e h = tt
-keeping_goes checks part c (RemoveJournal end) d fate e h = on_chosen (IsKeeping part) (reply (Remove Journal) d fate) (SyncRemoval end) (SyncRemoval end) (finish end) h h (on_restored (IsKeeping part) end h tt (λ other. tt))
-keeping_goes checks part c (SyncRemoval end) d fate e h = on_chosen (IsKeeping part) (reply (SyncDirectory Journal) d fate) (RemoveText end) (finish end) (finish end) h (on_restored (IsKeeping part) end h tt (λ other. tt)) (on_restored (IsKeeping part) end h tt (λ other. tt))
-keeping_goes checks part c (RemoveText end) d fate e h = on_restored (IsKeeping part) end h tt (λ other. tt)
-keeping_goes checks part c CompareInPlace d fate e h = on_chosen (IsKeeping part) (reply Compare d fate) (Ended InPlace) (Ended (Error Text)) (Ended (Error Text)) tt tt tt
-keeping_goes checks part c (Ended end) d fate e h = h
-keeping_goes checks part c step d fate e h = absurd h
+keeping_step : (checks : Checks) (part : SavedFile) → checks.is_ours part ≡ false → (step : Step) (d : Disk) (fate : Fate) → d.checks ≡ checks → IsKeeping part step → HoldsAfter (IsKeeping part) step d fate (call_of step)
+keeping_step checks part c CreateText d fate e h = on_unless (IsKeeping part) (reply (CreateNew Text) d fate) CopyTextAttributes CompareInPlace (RemoveJournal (Error Text)) tt tt tt
+keeping_step checks part c CopyTextAttributes d fate e h = on_unless (IsKeeping part) (reply (CopyAttributes Text) d fate) WriteText (RemoveText InPlace) (RemoveText (Error Text)) tt tt tt
+keeping_step checks part c SyncTextName d fate e h = on_unless (IsKeeping part) (reply (SyncDirectory Text) d fate) CreateJournal (RemoveText InPlace) (RemoveText (Error Text)) tt tt tt
+keeping_step checks part c CreateJournal d fate e h = on_unless (IsKeeping part) (reply (CreateNew Journal) d fate) CopyJournalAttributes (RemoveText InPlace) (RemoveJournal (Error Journal)) tt tt tt
+keeping_step checks part c CopyJournalAttributes d fate e h = on_unless (IsKeeping part) (reply (CopyAttributes Journal) d fate) WriteJournal (RemoveJournal InPlace) (RemoveJournal (Error Journal)) tt tt tt
+keeping_step checks part c WriteJournal d fate e h = on_chosen (IsKeeping part) (reply (Write Journal) d fate) SyncJournal (RemoveJournal (Error Journal)) (RemoveJournal (Error Journal)) tt tt tt
+keeping_step checks part c SyncJournal d fate e h = on_chosen (IsKeeping part) (reply (Sync Journal) d fate) SyncJournalName (RemoveJournal (Error Journal)) (RemoveJournal (Error Journal)) tt tt tt
+keeping_step checks part c WriteText d fate e h = on_chosen (IsKeeping part) (reply (Write Text) d fate) SyncText (RemoveText (Error Text)) (RemoveText (Error Text)) tt tt tt
+keeping_step checks part c SyncText d fate e h = on_chosen (IsKeeping part) (reply (Sync Text) d fate) SyncTextName (RemoveText (Error Text)) (RemoveText (Error Text)) tt tt tt
+keeping_step checks part c SyncJournalName d fate e h = on_unless (IsKeeping part) (reply (SyncDirectory Journal) d fate) CompareNewJournal (RemoveJournal InPlace) (RemoveJournal (Error Journal)) tt tt tt
+keeping_step checks Text c CompareNewJournal d fate e h = on_chosen (IsKeeping Text) (reply (CompareNew Journal) d fate) CompareNewText (RemoveJournal (Error Journal)) (RemoveJournal (Error Journal)) tt tt tt
+keeping_step checks Journal c CompareNewJournal d Succeeds e h = on_changed (IsKeeping Journal) (d.checks.is_ours Journal) CompareNewText (RemoveJournal (Error Journal)) (RemoveJournal (Error Journal)) (ap (λ (l : Checks). l.is_ours Journal) e ∙ c) tt
+keeping_step checks Journal c CompareNewJournal d Fails e h = tt
+keeping_step checks Journal c CompareNewJournal d IsRuledOut e h = tt
+keeping_step checks Journal c CompareNewJournal d FailsOnceDone e h = tt
+keeping_step checks Journal c CompareNewJournal d (AnotherSyncs other) e h = tt
+keeping_step checks Text c CompareNewText d Succeeds e h = on_changed (IsKeeping Text) (d.checks.is_ours Text) CompareText (RemoveJournal (Error Text)) (RemoveJournal (Error Text)) (ap (λ (l : Checks). l.is_ours Text) e ∙ c) tt
+keeping_step checks Text c CompareNewText d Fails e h = tt
+keeping_step checks Text c CompareNewText d IsRuledOut e h = tt
+keeping_step checks Text c CompareNewText d FailsOnceDone e h = tt
+keeping_step checks Text c CompareNewText d (AnotherSyncs other) e h = tt
+keeping_step checks part c (RemoveJournal end) d fate e h = on_chosen (IsKeeping part) (reply (Remove Journal) d fate) (SyncRemoval end) (SyncRemoval end) (finish end) h h (on_restored (IsKeeping part) end h tt (λ other. tt))
+keeping_step checks part c (SyncRemoval end) d fate e h = on_chosen (IsKeeping part) (reply (SyncDirectory Journal) d fate) (RemoveText end) (finish end) (finish end) h (on_restored (IsKeeping part) end h tt (λ other. tt)) (on_restored (IsKeeping part) end h tt (λ other. tt))
+keeping_step checks part c (RemoveText end) d fate e h = on_restored (IsKeeping part) end h tt (λ other. tt)
+keeping_step checks part c CompareInPlace d fate e h = on_chosen (IsKeeping part) (reply Compare d fate) (Ended InPlace) (Ended (Error Text)) (Ended (Error Text)) tt tt tt
+keeping_step checks part c (Ended end) d fate e h = h
+keeping_step checks part c step d fate e h = absurd h
 
 keeping_puts : (checks : Checks) (part : SavedFile) → checks.is_ours part ≡ false → RenamesNothing checks (IsKeeping part)
-keeping_puts checks part c = record { nothing = keeping_puts_nothing part; goes = keeping_goes checks part c }
+keeping_puts checks part c = record { nothing = keeping_puts_nothing part; holds_after = keeping_step checks part c }
 
 keeping_ends : (part : SavedFile) (end : End) → IsKeeping part (Ended end) → IsError end ⊎ IsInPlace end
 keeping_ends part (Error other) h = inl tt

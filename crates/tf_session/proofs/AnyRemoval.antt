@@ -57,7 +57,7 @@ Reasons n t js f =
     ⊎ ((refused : Refused) × (f ≡ Fault.Refused refused) × UndoFails n t js refused))
 
 refails : (n k : ℕ) (js : List JournalEntry) (Q R : EditList → EditList → Type 0) → ((a b : EditList) → Q a b → R a b) → FailsAfter n js k Q → FailsAfter n js k R
-refails n k js Q R goes s = record {
+refails n k js Q R proceeds s = record {
   nth = s.nth;
   fails = record {
     swapped_lists = s.fails.swapped_lists;
@@ -65,7 +65,7 @@ refails n k js Q R goes s = record {
     next = s.fails.next;
     is_moved = s.fails.is_moved;
     next_is = s.fails.next_is;
-    refuses = goes s.fails.moved_edits s.fails.next s.fails.refuses;
+    refuses = proceeds s.fails.moved_edits s.fails.next s.fails.refuses;
   };
 }
 

@@ -14,7 +14,7 @@ use Rattle.tf_session.specs.Machine.{Stack, done, push_text, PushesText}
 use Rattle.tf_session.specs.FmtLaws.{FmtKeepsTokens, FmtIsIdempotent}
 
 -- what a fmt that answered Done put on
-record Laid (old : Stack) (d : Done) (new : Stack) : Type 0 where
+record FmtPushes (old : Stack) (d : Done) (new : Stack) : Type 0 where
   made : Rewrite
   formats : Formats old.top made
   top : new.top ≡ made.text
@@ -30,7 +30,7 @@ on_top false text old new e h =
     let put : push_text Fmt text old ≡ old = rw e refl in
     ap (λ (s : Stack). s.top) (h ∙ put) ∙ (bytes_eq-Decides old.top text).0 (not-false _ e)
 
-formatted_by : (old new : Stack) (d : Done) (answer : Result Rewrite Fault) → FmtRewrites old.top answer → PushesText Fmt answer old (Ok d) new → Laid old d new
+formatted_by : (old new : Stack) (d : Done) (answer : Result Rewrite Fault) → FmtRewrites old.top answer → PushesText Fmt answer old (Ok d) new → FmtPushes old d new
 formatted_by old new d (Err fault) makes puts = let e = puts.0 in cc
 formatted_by old new d (Ok made) makes puts = record {
   made = made;

@@ -24,7 +24,7 @@ use Rattle.tf_session.specs.RemovingRecord.{RemovesRecord, FailsAfter, UndoFails
 use Rattle.tf_session.specs.RemovingRecord.RefusesRemoval.{no_record, blocked, too_long, lengths_differ, not_undone, memory}
 use Rattle.tf_session.specs.Layers.{Layer, History, last_text, top_text, record_of, records_in, LayersAreConsistent, IsHistory, PushesLayer, HistoryStep, HistoryStepOrMemory, HistoryRun}
 use Rattle.tf_session.specs.Records.{HasWord, AddsRecordOf, RevertsLast, DoesStep, RefusesRevert, RefusesStep}
-use Rattle.tf_session.proofs.JournalOne.{TurnLengths}
+use Rattle.tf_session.proofs.JournalOne.{TransformLengths}
 use Rattle.tf_session.proofs.Lists.{not_nil}
 use Rattle.tf_session.proofs.Runs.{run_more}
 use Rattle.tf_session.proofs.Stacks.{same_texts, undone_or_refused}
@@ -73,23 +73,23 @@ layers_last text top [] h = h
 layers_last text top (r ∷ rs) h = layers_last h.0 top rs h.2
 
 -- record n of a history is that of its layer n
-record Layered (ls : List Layer) (before : List JournalEntry) (it : JournalEntry) (behind : List JournalEntry) : Type 0 where
+record Layered (ls : List Layer) (before : List JournalEntry) (it : JournalEntry) (following : List JournalEntry) : Type 0 where
   low : List Layer
   here : Layer
   high : List Layer
   all : ls ≡ low ++ here ∷ high
   before_is : records_in low ≡ before
   it_is : record_of here ≡ it
-  behind_is : records_in high ≡ behind
+  records_after_are : records_in high ≡ following
 
-layered : (ls : List Layer) (before : List JournalEntry) (it : JournalEntry) (behind : List JournalEntry) → records_in ls ≡ before ++ it ∷ behind → Layered ls before it behind
-layered [] [] it behind e = absurd cc
-layered [] (b ∷ before) it behind e = absurd cc
-layered (l ∷ ls) [] it behind e = record { low = []; here = l; high = ls; all = refl; before_is = refl; it_is = cc; behind_is = cc }
-layered (l ∷ ls) (b ∷ before) it behind e =
-    let tail : records_in ls ≡ before ++ it ∷ behind = cc in
+layered : (ls : List Layer) (before : List JournalEntry) (it : JournalEntry) (following : List JournalEntry) → records_in ls ≡ before ++ it ∷ following → Layered ls before it following
+layered [] [] it following e = absurd cc
+layered [] (b ∷ before) it following e = absurd cc
+layered (l ∷ ls) [] it following e = record { low = []; here = l; high = ls; all = refl; before_is = refl; it_is = cc; records_after_are = cc }
+layered (l ∷ ls) (b ∷ before) it following e =
+    let tail : records_in ls ≡ before ++ it ∷ following = cc in
     let head : record_of l ≡ b = cc in
-    let h = layered ls before it behind tail in
+    let h = layered ls before it following tail in
     record {
       low = l ∷ h.low;
       here = h.here;
@@ -97,7 +97,7 @@ layered (l ∷ ls) (b ∷ before) it behind e =
       all = ap (λ (x : List Layer). l ∷ x) h.all;
       before_is = λ i. head i ∷ h.before_is i;
       it_is = h.it_is;
-      behind_is = h.behind_is;
+      records_after_are = h.records_after_are;
     }
 
 -- the first k lists, and the next one
@@ -109,7 +109,7 @@ turns_at (suc k) next (b ∷ bs) t v a all =
     (h.0, (all.0, all.1, h.1), h.2, h.3)
 
 -- where texts go by all the lists, their lengths follow
-pub follows : MoveToEndIsUnique → TurnLengths → (a : EditList) (bs : List EditList) (k expected found : ℕ) (t u v : List ℕ) → Transforms a t u → TransformsInOrder Transforms bs u v → FailsAt a bs k (λ n b. LengthMismatch n b expected found) → ⊥
+pub follows : MoveToEndIsUnique → TransformLengths → (a : EditList) (bs : List EditList) (k expected found : ℕ) (t u v : List ℕ) → Transforms a t u → TransformsInOrder Transforms bs u v → FailsAt a bs k (λ n b. LengthMismatch n b expected found) → ⊥
 follows takes_one lengths a bs k expected found t u v one all h =
     let m = turns_at k h.next bs u v h.next_is all in
     let w = ((takes_one a (take k bs)).equivalent h.swapped_lists h.moved_edits h.is_moved t m.0).0 (u, one, m.1) in
@@ -124,12 +124,12 @@ history first layers = record { first = first; layers = layers }
 abbrev Acted : Command → History → Done → List ℕ → List JournalEntry → Type 0
 Acted command p d u ks = (n : History) × HistoryStep command p (Ok d) n × (u ≡ top_text n) × (ks ≡ records_in n.layers) × IsHistory n
 
-abbrev Put_on : Word → Rewrite → History → Done → List ℕ → List JournalEntry → Type 0
-Put_on word made p d u ks = (n : History) × PushesLayer word (Ok made) p (Ok d) n × (u ≡ top_text n) × (ks ≡ records_in n.layers) × IsHistory n
+abbrev PushesResult : Word → Rewrite → History → Done → List ℕ → List JournalEntry → Type 0
+PushesResult word made p d u ks = (n : History) × PushesLayer word (Ok made) p (Ok d) n × (u ≡ top_text n) × (ks ≡ records_in n.layers) × IsHistory n
 
 push_on_layer : (b : Bool) (command : Command) (word : Word) (made : Rewrite) (p : History) (d : Done) (u : List ℕ) (ks : List JournalEntry) → ((w : Word) → HasWord command w → w ≡ word)
     → texts_differ (top_text p) made.text ≡ b → u ≡ made.text → d ≡ done (texts_differ (top_text p) made.text) made.fixed made.left → AddsRecordOf b command (top_text p) made (records_in p.layers) ks → IsHistory p
-    → Put_on word made p d u ks
+    → PushesResult word made p d u ks
 push_on_layer true command word made p d u ks says e um dd a st =
     let l : Layer = record { word = word; edits = made.edits; text = made.text } in
     let same_word : a.0.word ≡ word = says a.0.word a.2.word in
@@ -152,7 +152,7 @@ no_layers (l ∷ ls) e = absurd cc
 removed_last : (p : History) (d : Done) (u : List ℕ) (ks : List JournalEntry) → RevertsLast (top_text p) (records_in p.layers) d u ks → IsHistory p → Acted Revert p d u ks
 removed_last p d u ks h st =
     let l = layered p.layers ks h.0 [] h.1 in
-    let all : p.layers ≡ l.low ++ l.here ∷ [] = l.all ∙ ap (λ (x : List Layer). l.low ++ l.here ∷ x) (no_layers l.high l.behind_is) in
+    let all : p.layers ≡ l.low ++ l.here ∷ [] = l.all ∙ ap (λ (x : List Layer). l.low ++ l.here ∷ x) (no_layers l.high l.records_after_are) in
     let whole : LayersAreConsistent p.first (l.low ++ l.here ∷ []) = subst (λ (x : List Layer). LayersAreConsistent p.first x) all st in
     let here = rise_high p.first l.low (l.here ∷ []) whole in
     let top : top_text p ≡ l.here.text = ap (λ (x : List Layer). last_text p.first x) all ∙ last_on p.first l.low (l.here ∷ []) in
@@ -173,15 +173,15 @@ removed_last p d u ks h st =
     )
 
 -- what is known of the texts about record n of a history
-record About (p : History) (before : List JournalEntry) (it : JournalEntry) (behind : List JournalEntry) : Type 0 where
-  layer : Layered p.layers before it behind
+record About (p : History) (before : List JournalEntry) (it : JournalEntry) (following : List JournalEntry) : Type 0 where
+  layer : Layered p.layers before it following
   low : LayersAreConsistent p.first layer.low
   transforms : Transforms it.edits (last_text p.first layer.low) layer.here.text
-  higher : TransformsInOrder Transforms (edits_of behind) layer.here.text (top_text p)
+  higher : TransformsInOrder Transforms (edits_of following) layer.here.text (top_text p)
 
-about : (p : History) (before : List JournalEntry) (it : JournalEntry) (behind : List JournalEntry) → records_in p.layers ≡ before ++ it ∷ behind → IsHistory p → About p before it behind
-about p before it behind e st =
-    let l = layered p.layers before it behind e in
+about : (p : History) (before : List JournalEntry) (it : JournalEntry) (following : List JournalEntry) → records_in p.layers ≡ before ++ it ∷ following → IsHistory p → About p before it following
+about p before it following e st =
+    let l = layered p.layers before it following e in
     let whole : LayersAreConsistent p.first (l.low ++ l.here ∷ l.high) = subst (λ (x : List Layer). LayersAreConsistent p.first x) l.all st in
     let here = rise_high p.first l.low (l.here ∷ l.high) whole in
     let top : top_text p ≡ last_text l.here.text l.high = ap (λ (x : List Layer). last_text p.first x) l.all ∙ last_on p.first l.low (l.here ∷ l.high) in
@@ -190,7 +190,7 @@ about p before it behind e st =
       layer = l;
       low = rise_low p.first l.low (l.here ∷ l.high) whole;
       transforms = subst (λ (x : JournalEntry). Transforms x.edits (last_text p.first l.low) l.here.text) l.it_is here.0;
-      higher = subst (λ (x : List ℕ). TransformsInOrder Transforms (edits_of behind) l.here.text x) (sym top) (subst (λ (x : List JournalEntry). TransformsInOrder Transforms (edits_of x) l.here.text (last_text l.here.text l.high)) l.behind_is rest);
+      higher = subst (λ (x : List ℕ). TransformsInOrder Transforms (edits_of following) l.here.text x) (sym top) (subst (λ (x : List JournalEntry). TransformsInOrder Transforms (edits_of x) l.here.text (last_text l.here.text l.high)) l.records_after_are rest);
     }
 
 removed_one : MoveToEndIsUnique → (n : ℕ) (p : History) (d : Done) (u : List ℕ) (ks : List JournalEntry) → RemovesRecord n (top_text p) (records_in p.layers) d u ks → IsHistory p → Acted (Take n) p d u ks
@@ -206,7 +206,7 @@ removed_one takes_one n p d u ks h st =
     let top : top_text (history p.first (l.low ++ others)) ≡ w.0 = last_on p.first l.low others ∙ layers_last below w.0 h.new_records w.1 in
     let taken : IsMovedToEnd l.here.edits (edits_of (records_in l.high)) (edits_of (records_in others)) h.moved_edits =
     subst (λ (x : JournalEntry). IsMovedToEnd x.edits (edits_of (records_in l.high)) (edits_of (records_in others)) h.moved_edits) (sym l.it_is)
-    (subst (λ (x : List JournalEntry). IsMovedToEnd h.nth.item.edits (edits_of x) (edits_of (records_in others)) h.moved_edits) (sym l.behind_is)
+    (subst (λ (x : List JournalEntry). IsMovedToEnd h.nth.item.edits (edits_of x) (edits_of (records_in others)) h.moved_edits) (sym l.records_after_are)
     (subst (λ (x : List JournalEntry). IsMovedToEnd h.nth.item.edits (edits_of h.nth.after) (edits_of x) h.moved_edits) (sym made) h.is_moved)) in
     let count : length l.low ≡ length h.nth.before = sym (length-map l.low record_of) ∙ ap length l.before_is in (
       history p.first (l.low ++ others),
@@ -215,7 +215,7 @@ removed_one takes_one n p d u ks h st =
         new_records = others;
         moved_edits = h.moved_edits;
         is_moved = taken;
-        words = ap words_of made ∙ h.words ∙ ap words_of (sym l.behind_is);
+        words = ap words_of made ∙ h.words ∙ ap words_of (sym l.records_after_are);
         consistent = rise;
         new_is = refl;
         done_is = h.done_is ∙ ap (λ (x : List ℕ). done (texts_differ x (top_text p)) 0 0) (same ∙ sym top);
@@ -257,7 +257,7 @@ refused_last unique p (Fault.Refused refused) h st =
 refused_last unique p Memory h st = ((λ e. not_nil h.1.0 h.0 (sym h.1.1 ∙ ap records_in e)), refl)
 refused_last unique p (Blocked number) h st = absurd h
 
-never_breaks : MoveToEndIsUnique → TurnLengths → (n : ℕ) (p : History) (k expected found : ℕ) → FailsAfter n (records_in p.layers) k (λ a b. LengthMismatch a b expected found) → IsHistory p → ⊥
+never_breaks : MoveToEndIsUnique → TransformLengths → (n : ℕ) (p : History) (k expected found : ℕ) → FailsAfter n (records_in p.layers) k (λ a b. LengthMismatch a b expected found) → IsHistory p → ⊥
 never_breaks takes_one lengths n p k expected found s st =
     let a = about p s.nth.before s.nth.item s.nth.after s.nth.all st in
     follows takes_one lengths s.nth.item.edits (edits_of s.nth.after) k expected found (last_text p.first a.layer.low) a.layer.here.text (top_text p) a.transforms a.higher s.fails
@@ -268,7 +268,7 @@ always_undone unique takes_one n p r h st =
     let w = ((takes_one h.nth.item.edits (edits_of h.nth.after)).equivalent h.new_lists h.moved_edits h.is_moved (last_text p.first a.layer.low) (top_text p)).0 (a.layer.here.text, a.transforms, a.higher) in
     undone_or_refused unique h.moved_edits (top_text p) w.0 r h.refuses w.2
 
-refused_one : ChangeResultIsUnique → MoveToEndIsUnique → TurnLengths → (n : ℕ) (p : History) {e : Fault} → RefusesRemoval n (top_text p) (records_in p.layers) e → IsHistory p → HistoryStepOrMemory (Take n) p (Err e) p
+refused_one : ChangeResultIsUnique → MoveToEndIsUnique → TransformLengths → (n : ℕ) (p : History) {e : Fault} → RefusesRemoval n (top_text p) (records_in p.layers) e → IsHistory p → HistoryStepOrMemory (Take n) p (Err e) p
 refused_one unique takes_one lengths n p (no_record none) st = (none, refl)
 refused_one unique takes_one lengths n p (blocked {k} s) st = ((k, s, refl), refl)
 refused_one unique takes_one lengths n p (too_long {k} s) st = ((k, s), refl)
@@ -287,7 +287,7 @@ refused_text command p (Fault.Refused refused) f h = f h
 refused_text command p Memory f h = (h, refl)
 refused_text command p (Blocked number) f h = f h
 
-stays : ChangeResultIsUnique → MoveToEndIsUnique → TurnLengths → (command : Command) (p : History) (e : Fault) → RefusesStep command (top_text p) (records_in p.layers) e → IsHistory p → HistoryStepOrMemory command p (Err e) p
+stays : ChangeResultIsUnique → MoveToEndIsUnique → TransformLengths → (command : Command) (p : History) (e : Fault) → RefusesStep command (top_text p) (records_in p.layers) e → IsHistory p → HistoryStepOrMemory command p (Err e) p
 stays unique takes_one lengths Fmt p e h st = refused_text Fmt p e (λ m. (Err e, m, (refl, refl))) h
 stays unique takes_one lengths (Fix rules) p e h st = refused_text (Fix rules) p e (λ m. (Err e, m, (refl, refl))) h
 stays unique takes_one lengths Revert p e h st = refused_last unique p e h st
@@ -295,7 +295,7 @@ stays unique takes_one lengths (Take n) p e h st = refused_one unique takes_one 
 
 -- What a session's step ensures takes a run, and the history that its records represent, one
 -- command further.
-pub moved : ChangeResultIsUnique → MoveToEndIsUnique → TurnLengths → (first mid : History) (cs : List Command) (rs : List (Result Done Fault)) (command : Command) (reply : Result Done Fault) (t : List ℕ) (js : List JournalEntry) (u : List ℕ) (ks : List JournalEntry)
+pub moved : ChangeResultIsUnique → MoveToEndIsUnique → TransformLengths → (first mid : History) (cs : List Command) (rs : List (Result Done Fault)) (command : Command) (reply : Result Done Fault) (t : List ℕ) (js : List JournalEntry) (u : List ℕ) (ks : List JournalEntry)
     → HistoryRun first cs rs mid → t ≡ top_text mid → js ≡ records_in mid.layers → IsHistory mid
     → IfOk reply (λ d. DoesStep command t js d u ks) → IfErr reply (RefusesStep command t js) → OnErr reply (u ≡ t) → OnErr reply (ks ≡ js)
     → (n : History) × HistoryRun first (cs ++ command ∷ []) (rs ++ reply ∷ []) n × (u ≡ top_text n) × (ks ≡ records_in n.layers) × IsHistory n

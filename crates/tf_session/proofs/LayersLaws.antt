@@ -19,7 +19,7 @@ use Rattle.tf_session.proofs.Lists.{not_nil, same_last}
 use Rattle.tf_session.proofs.Runs.{memory_does_not_count}
 use Rattle.tf_session.proofs.RemovalIsUnique.{take_has_one_answer}
 use Rattle.tf_rules.specs.declared.rule_set.RuleSet.{RuleSet}
-use Rattle.tf_lint.proofs.DoesNotParse.{OneCut, NoCutWithFault, OneFault}
+use Rattle.tf_lint.proofs.DoesNotParse.{TokensAreUnique, NoTokensWithFault, OneFault}
 use Rattle.tf_lint.specs.Steps.{FixIsUnique}
 
 -- ---- one answer
@@ -49,12 +49,12 @@ off_same old (Ok d) (Err f) new another p q = absurd (not_nil p.rest p.last (sym
 off_same old (Err f) (Ok e) new another p q = absurd (not_nil q.rest q.last (sym q.layers_are ∙ p.1))
 off_same old (Err f) (Err g) new another p q = (ap (λ (x : Fault). Err x) (p.0 ∙ sym q.0), p.2 ∙ sym q.2)
 
-module _ (one_cut : OneCut) (no_cut : NoCutWithFault) (one_fault : OneFault) (one_layout : OneLayout) (one_fix : (rules : RuleSet) (text : List ℕ) → FixIsUnique rules text) (one_swap : SwapIsUnique) (takes_one : MoveToEndIsUnique) (into_one : ApplyIsDeterministic) where
+module _ (unique_tokens : TokensAreUnique) (no_tokens_with_fault : NoTokensWithFault) (one_fault : OneFault) (one_layout : OneLayout) (one_fix : (rules : RuleSet) (text : List ℕ) → FixIsUnique rules text) (one_swap : SwapIsUnique) (takes_one : MoveToEndIsUnique) (into_one : ApplyIsDeterministic) where
   pub one_answer_over_layers : CommandResultIsUniqueOverLayers
   one_answer_over_layers Fmt old reply other new another p q =
-      push_same Word.Fmt p.0 q.0 old reply other new another (same_layouts one_cut no_cut one_fault one_layout one_fix (top_text old) p.0 q.0 p.1 q.1) p.2 q.2
+      push_same Word.Fmt p.0 q.0 old reply other new another (same_layouts unique_tokens no_tokens_with_fault one_fault one_layout one_fix (top_text old) p.0 q.0 p.1 q.1) p.2 q.2
   one_answer_over_layers (Fix rules) old reply other new another p q =
-      push_same Word.Fix p.0 q.0 old reply other new another (same_fixes one_cut no_cut one_fault one_layout one_fix rules (top_text old) p.0 q.0 p.1 q.1) p.2 q.2
+      push_same Word.Fix p.0 q.0 old reply other new another (same_fixes unique_tokens no_tokens_with_fault one_fault one_layout one_fix rules (top_text old) p.0 q.0 p.1 q.1) p.2 q.2
   one_answer_over_layers Revert old reply other new another p q = let h = off_same old reply other new another p q in (inl h.0, h.1)
   one_answer_over_layers (Take n) old reply other new another p q =
       let h = take_has_one_answer one_swap takes_one into_one n old reply other new another p q in

@@ -23,11 +23,11 @@ none_changed from (Changed removed added ∷ ps) none = absurd (cc)
 -- a text that its layout has no edits for is its own layout
 pub stays : (edits : EditList) (text : List ℕ) (t : Tree) → IsLayoutEdits edits text t → edits.entries ≡ []
     → IsLayout text text × (length text ≤ MAX_TEXT) × (as_list (length text) [] ≡ edits)
-stays edits text t lays none =
-    let turns = lays.transforms in
-    let same : lays.new ≡ text = sym turns.new_is ∙ (none_changed 0 turns.pieces (turns.edits_are ∙ none) ∙ turns.old_is) in (
-      subst (λ (x : List ℕ). IsLayout text x) same lays.layout,
-      subst (λ (x : List ℕ). length x ≤ MAX_TEXT) same lays.parses.tokenization.short,
+stays edits text t layout_result none =
+    let turns = layout_result.transforms in
+    let same : layout_result.new ≡ text = sym turns.new_is ∙ (none_changed 0 turns.pieces (turns.edits_are ∙ none) ∙ turns.old_is) in (
+      subst (λ (x : List ℕ). IsLayout text x) same layout_result.layout,
+      subst (λ (x : List ℕ). length x ≤ MAX_TEXT) same layout_result.parses.tokenization.short,
       ap₂ (λ (n : ℕ) (es : List EditEntry). as_list n es) turns.len (sym none),
     )
 
@@ -52,17 +52,17 @@ formats text change p reads layout short listed =
 -- the edits of a layout make it
 pub made : (edits : EditList) (text new : List ℕ) (t : Tree) → IsLayoutEdits edits text t → ((u v : List ℕ) → Transforms edits text u → Transforms edits text v → u ≡ v) → Transforms edits text new
     → IsLayout text new × (length new ≤ MAX_TEXT)
-made edits text new t lays one turns =
-    let same = one lays.new new lays.transforms turns in
-    (subst (λ (x : List ℕ). IsLayout text x) same lays.layout, subst (λ (x : List ℕ). length x ≤ MAX_TEXT) same lays.parses.tokenization.short)
+made edits text new t layout_result one turns =
+    let same = one layout_result.new new layout_result.transforms turns in
+    (subst (λ (x : List ℕ). IsLayout text x) same layout_result.layout, subst (λ (x : List ℕ). length x ≤ MAX_TEXT) same layout_result.parses.tokenization.short)
 
 given_up : (refused : Refused) (answer : Result (List ℕ) Refused) (new : List ℕ) → answer ≡ Ok new → AgreesWith (Err refused) answer → refused ≡ Refused.Memory
-given_up (Refused.Length expected found) answer new stands gives = cc
-given_up (Refused.Differs step edit) answer new stands gives = cc
-given_up Refused.Memory answer new stands gives = refl
+given_up (Refused.Length expected found) answer new represents gives = cc
+given_up (Refused.Differs step edit) answer new represents gives = cc
+given_up Refused.Memory answer new represents gives = refl
 
 -- the edits of a layout apply to the text, so they fail only if an allocation does
 pub only_memory : (forward : List ℕ → Result (List ℕ) Refused) (edits : EditList) (text lent : List ℕ) (t : Tree) (refused : Refused) → ((old new : List ℕ) → (forward old ≡ Ok new) ↔ Transforms edits old new)
     → IsLayoutEdits edits text t → lent ≡ text → AgreesWith (Err refused) (forward lent) → refused ≡ Refused.Memory
-only_memory forward edits text lent t refused exact lays same gives =
-    given_up refused (forward text) lays.new ((exact text lays.new).1 lays.transforms) (subst (λ (x : List ℕ). AgreesWith (Err refused) (forward x)) same gives)
+only_memory forward edits text lent t refused exact layout_result same gives =
+    given_up refused (forward text) layout_result.new ((exact text layout_result.new).1 layout_result.transforms) (subst (λ (x : List ℕ). AgreesWith (Err refused) (forward x)) same gives)

@@ -109,26 +109,26 @@ some_layers : (first : List ℕ) (layers : List Layer) (top : List ℕ) (below :
 some_layers first layers top [] h f e = f refl
 some_layers first layers top (under ∷ rest) h f e = not_nil h.0 h.1 (sym h.2 ∙ e)
 
-ask_down : (command : Command) (p : History) (s : Stack) → IsNotTake command → SameTexts p s → HistoryMayAllocate command p → StackMayAllocate command s
-ask_down Fmt p s plain h a = subst IsUtf8WithinLimit (shown_top p.first p.layers s.top s.below h) a
-ask_down (Fix rules) p s plain h a = subst IsUtf8WithinLimit (shown_top p.first p.layers s.top s.below h) a
-ask_down Revert p s plain h a = some_below p.first p.layers s.top s.below h a
-ask_down (Take n) p s plain h a = absurd plain
+allocation_down : (command : Command) (p : History) (s : Stack) → IsNotTake command → SameTexts p s → HistoryMayAllocate command p → StackMayAllocate command s
+allocation_down Fmt p s plain h a = subst IsUtf8WithinLimit (shown_top p.first p.layers s.top s.below h) a
+allocation_down (Fix rules) p s plain h a = subst IsUtf8WithinLimit (shown_top p.first p.layers s.top s.below h) a
+allocation_down Revert p s plain h a = some_below p.first p.layers s.top s.below h a
+allocation_down (Take n) p s plain h a = absurd plain
 
-ask_up : (command : Command) (p : History) (s : Stack) → IsNotTake command → SameTexts p s → StackMayAllocate command s → HistoryMayAllocate command p
-ask_up Fmt p s plain h a = subst IsUtf8WithinLimit (sym (shown_top p.first p.layers s.top s.below h)) a
-ask_up (Fix rules) p s plain h a = subst IsUtf8WithinLimit (sym (shown_top p.first p.layers s.top s.below h)) a
-ask_up Revert p s plain h a = some_layers p.first p.layers s.top s.below h a
-ask_up (Take n) p s plain h a = absurd plain
+allocation_up : (command : Command) (p : History) (s : Stack) → IsNotTake command → SameTexts p s → StackMayAllocate command s → HistoryMayAllocate command p
+allocation_up Fmt p s plain h a = subst IsUtf8WithinLimit (sym (shown_top p.first p.layers s.top s.below h)) a
+allocation_up (Fix rules) p s plain h a = subst IsUtf8WithinLimit (sym (shown_top p.first p.layers s.top s.below h)) a
+allocation_up Revert p s plain h a = some_layers p.first p.layers s.top s.below h a
+allocation_up (Take n) p s plain h a = absurd plain
 
 down_by : (b : Bool) (command : Command) (p q : History) (s : Stack) (r : Result Done Fault) → IsNotTake command → SameTexts p s → MatchBool b (HistoryMayAllocate command p × (q ≡ p)) (HistoryStep command p r q)
     → (n : Stack) × MatchBool b (StackMayAllocate command s × (n ≡ s)) (StackStep command s r n) × SameTexts q n
-down_by true command p q s r plain h g = (s, (ask_down command p s plain h g.0, refl), subst (λ (x : History). SameTexts x s) (sym g.1) h)
+down_by true command p q s r plain h g = (s, (allocation_down command p s plain h g.0, refl), subst (λ (x : History). SameTexts x s) (sym g.1) h)
 down_by false command p q s r plain h g = act_down command p q s r plain h g
 
 up_by : (b : Bool) (command : Command) (p : History) (s n : Stack) (r : Result Done Fault) → IsNotTake command → SameTexts p s → MatchBool b (StackMayAllocate command s × (n ≡ s)) (StackStep command s r n)
     → (q : History) × MatchBool b (HistoryMayAllocate command p × (q ≡ p)) (HistoryStep command p r q) × SameTexts q n
-up_by true command p s n r plain h g = (p, (ask_up command p s plain h g.0, refl), subst (λ (x : Stack). SameTexts p x) (sym g.1) h)
+up_by true command p s n r plain h g = (p, (allocation_up command p s plain h g.0, refl), subst (λ (x : Stack). SameTexts p x) (sym g.1) h)
 up_by false command p s n r plain h g = act_up command p s n r plain h g
 
 run_down : (commands : List Command) (replies : List (Result Done Fault)) (p q : History) (s : Stack) → WithoutTake commands → SameTexts p s → HistoryRun p commands replies q → (n : Stack) × StackRun s commands replies n × SameTexts q n

@@ -43,14 +43,14 @@ ended_by rule p found (FixBroken broken) h = tt
 ended_by rule p found TooLong h = tt
 ended_by rule p found Memory h = h
 
-behind : (rule : Rule) (p : Parsed) (found : List Finding) (Others : Parsed → Result Steps FixFault → Type 0) (fault : FixFault) → ((q : Parsed) → Others q (Err fault) → EndsSteps fault)
+following : (rule : Rule) (p : Parsed) (found : List Finding) (Others : Parsed → Result Steps FixFault → Type 0) (fault : FixFault) → ((q : Parsed) → Others q (Err fault) → EndsSteps fault)
     → FoundThen rule p found Others (Err fault) → EndsSteps fault
-behind rule p found Others fault ih (inl w) = ended_by rule p found fault w
-behind rule p found Others fault ih (inr w) = ih w.1 w.3
+following rule p found Others fault ih (inl w) = ended_by rule p found fault w
+following rule p found Others fault ih (inr w) = ih w.1 w.3
 
 chosen : (b : Bool) (rule : Rule) (p : Parsed) (Others : Parsed → Result Steps FixFault → Type 0) (fault : FixFault) → ((q : Parsed) → Others q (Err fault) → EndsSteps fault)
     → MatchBool b (StepThen rule p Others (Err fault)) (Others p (Err fault)) → EndsSteps fault
-chosen true rule p Others fault ih h = behind rule p h.0 Others fault ih h.2
+chosen true rule p Others fault ih h = following rule p h.0 Others fault ih h.2
 chosen false rule p Others fault ih h = ih p h
 
 not_ok : (steps : Steps) (fault : FixFault) → ◌≡◌ {A = Result Steps FixFault} (Err fault) (Ok steps) → ⊥

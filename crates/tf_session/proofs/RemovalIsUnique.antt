@@ -29,15 +29,15 @@ pub overflows_excludes : Excludes SwapIsTooLong
 overflows_excludes a b c d m h = let w = h.within in let o = m.2 in omega (arith, w, o)
 
 -- a number has one member
-pub nth_once : {X : Type 0} (xs lower low behind rest : List X) (x y : X) → xs ≡ lower ++ x ∷ behind → xs ≡ low ++ y ∷ rest → length lower ≡ length low → (lower ≡ low) × (x ≡ y) × (behind ≡ rest)
-nth_once xs [] [] behind rest x y e f n = let g : x ∷ behind ≡ y ∷ rest = sym e ∙ f in (refl, cc, cc)
-nth_once xs [] (l ∷ low) behind rest x y e f n = absurd (omega (arith, n))
-nth_once xs (l ∷ lower) [] behind rest x y e f n = absurd (omega (arith, n))
-nth_once xs (l ∷ lower) (m ∷ low) behind rest x y e f n =
-    let g : l ∷ (lower ++ x ∷ behind) ≡ m ∷ (low ++ y ∷ rest) = sym e ∙ f in
-    let tail : lower ++ x ∷ behind ≡ low ++ y ∷ rest = cc in
+pub nth_once : {X : Type 0} (xs lower low following rest : List X) (x y : X) → xs ≡ lower ++ x ∷ following → xs ≡ low ++ y ∷ rest → length lower ≡ length low → (lower ≡ low) × (x ≡ y) × (following ≡ rest)
+nth_once xs [] [] following rest x y e f n = let g : x ∷ following ≡ y ∷ rest = sym e ∙ f in (refl, cc, cc)
+nth_once xs [] (l ∷ low) following rest x y e f n = absurd (omega (arith, n))
+nth_once xs (l ∷ lower) [] following rest x y e f n = absurd (omega (arith, n))
+nth_once xs (l ∷ lower) (m ∷ low) following rest x y e f n =
+    let g : l ∷ (lower ++ x ∷ following) ≡ m ∷ (low ++ y ∷ rest) = sym e ∙ f in
+    let tail : lower ++ x ∷ following ≡ low ++ y ∷ rest = cc in
     let head : l ≡ m = cc in
-    let h = nth_once (lower ++ x ∷ behind) lower low behind rest x y refl tail (omega (arith, n)) in
+    let h = nth_once (lower ++ x ∷ following) lower low following rest x y refl tail (omega (arith, n)) in
     ((λ i. head i ∷ h.0 i), h.1, h.2)
 
 pub numbers : (n i j : ℕ) → n ≡ i + 1 → n ≡ j + 1 → i ≡ j

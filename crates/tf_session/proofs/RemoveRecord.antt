@@ -55,12 +55,12 @@ module _ (n : ℕ) (rs : List JournalEntry) (r : JournalEntry) (pos : 1 ≤ n) (
   abbrev nth_of : Nth n rs
   nth_of = record { before = take (n - 1) rs; item = r; after = rest_of n rs; all = all_of; number = number_of }
 
-  pub made : (t u : List ℕ) (others : List JournalEntry) (gone : EditList) → IsMovedToEnd r.edits (edits_of (rest_of n rs)) (edits_of others) gone → words_of others ≡ words_of (rest_of n rs)
-      → Transforms gone u t → ((v : List ℕ) → Transforms gone v t → v ≡ u) → RemovesRecord n t rs (done (texts_differ u t) 0 0) u (take (n - 1) rs ++ others)
-  made t u others gone taken words turns initial_stack = record {
+  pub made : (t u : List ℕ) (others : List JournalEntry) (deleted : EditList) → IsMovedToEnd r.edits (edits_of (rest_of n rs)) (edits_of others) deleted → words_of others ≡ words_of (rest_of n rs)
+      → Transforms deleted u t → ((v : List ℕ) → Transforms deleted v t → v ≡ u) → RemovesRecord n t rs (done (texts_differ u t) 0 0) u (take (n - 1) rs ++ others)
+  made t u others deleted taken words turns initial_stack = record {
     nth = nth_of;
     new_records = others;
-    moved_edits = gone;
+    moved_edits = deleted;
     is_moved = taken;
     words = words;
     transforms = turns;
@@ -69,10 +69,10 @@ module _ (n : ℕ) (rs : List JournalEntry) (r : JournalEntry) (pos : 1 ≤ n) (
     done_is = refl;
   }
 
-  pub not_back : (t : List ℕ) (others : List EditList) (gone : EditList) (refused : Refused) → IsMovedToEnd r.edits (edits_of (rest_of n rs)) others gone → IsChangeCallResult Backward gone t (Err refused) → RefusesRemoval n t rs (fault_of_refused refused)
-  not_back t others gone (Refused.Length expected found) taken not = not_undone (record { nth = nth_of; new_lists = others; moved_edits = gone; is_moved = taken; refuses = not })
-  not_back t others gone (Refused.Differs step edit) taken not = not_undone (record { nth = nth_of; new_lists = others; moved_edits = gone; is_moved = taken; refuses = not })
-  not_back t others gone Refused.Memory taken len = memory (nth_of, inr (others, gone, taken, len))
+  pub not_back : (t : List ℕ) (others : List EditList) (deleted : EditList) (refused : Refused) → IsMovedToEnd r.edits (edits_of (rest_of n rs)) others deleted → IsChangeCallResult Backward deleted t (Err refused) → RefusesRemoval n t rs (fault_of_refused refused)
+  not_back t others deleted (Refused.Length expected found) taken not = not_undone (record { nth = nth_of; new_lists = others; moved_edits = deleted; is_moved = taken; refuses = not })
+  not_back t others deleted (Refused.Differs step edit) taken not = not_undone (record { nth = nth_of; new_lists = others; moved_edits = deleted; is_moved = taken; refuses = not })
+  not_back t others deleted Refused.Memory taken len = memory (nth_of, inr (others, deleted, taken, len))
 
   pub refuses : (t : List ℕ) (e : MoveFault) → IsMoveToEndResult r.edits (rest_of n rs) (Err e) → RefusesRemoval n t rs (removal_fault n e)
   refuses t (Length expected found) h = lengths_differ {k = h.0} (record { nth = nth_of; fails = h.1 })

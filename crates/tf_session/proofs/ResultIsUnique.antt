@@ -24,7 +24,7 @@ use Rattle.tf_session.specs.Parsing.{DoesParse}
 use Rattle.tf_lint.specs.ParseFaults.{IsParseFault}
 use Rattle.tf_session.specs.Formatting.{Formats, FmtRewrites}
 use Rattle.tf_session.proofs.ReadTexts.{does_parse}
-use Rattle.tf_lint.proofs.DoesNotParse.{OneCut, NoCutWithFault, OneFault, not_both, same_cut}
+use Rattle.tf_lint.proofs.DoesNotParse.{TokensAreUnique, NoTokensWithFault, OneFault, not_both, same_scanned}
 use Rattle.tf_session.specs.Machine.{StackEntry, Stack, PushesText, PopsText}
 use Rattle.tf_session.specs.ResultIsUnique.{AreSameUpToParseFault, CommandResultIsUnique}
 
@@ -95,14 +95,14 @@ has_tokens text (Syntax at) h = (h.0, h.1, h.2)
 has_tokens text (TooDeep at) h = (h.0, h.1, h.2)
 has_tokens text ParseFault.Memory h = absurd h
 
-module _ (one_cut : OneCut) (no_cut : NoCutWithFault) (one_fault : OneFault) (one_layout : OneLayout) (one_fix : (rules : RuleSet) (text : List ℕ) → FixIsUnique rules text) where
+module _ (unique_tokens : TokensAreUnique) (no_tokens_with_fault : NoTokensWithFault) (one_fault : OneFault) (one_layout : OneLayout) (one_fix : (rules : RuleSet) (text : List ℕ) → FixIsUnique rules text) where
   no_tokens : (text : List ℕ) (fault : ScanFault) (other : ParseFault) → IsFault text fault → IsParseFault text other → ⊥
-  no_tokens text fault other h p = let cut = has_tokens text other p in no_cut text fault cut.0 cut.1 h cut.2
+  no_tokens text fault other h p = let tokenized = has_tokens text other p in no_tokens_with_fault text fault tokenized.0 tokenized.1 h tokenized.2
 
   -- a text that is read has none of these faults
   not_why : (text : List ℕ) (f : Fault) (Other : Type 0) → DoesParse text → (Other → ⊥) → Why text f Other → ⊥
-  not_why text f Other p not_other (inl w) = no_cut text w.0 p.1.pairs p.1.last w.2 p.1.tokenization
-  not_why text f Other p not_other (inr (inl w)) = not_both one_cut text w.0 p.0 w.2 p.1
+  not_why text f Other p not_other (inl w) = no_tokens_with_fault text w.0 p.1.pairs p.1.last w.2 p.1.tokenization
+  not_why text f Other p not_other (inr (inl w)) = not_both unique_tokens text w.0 p.0 w.2 p.1
   not_why text f Other p not_other (inr (inr w)) = not_other w
 
   same_why : (text : List ℕ) (f g : Fault) (One Two : Type 0) → (One → DoesParse text) → (Two → DoesParse text) → (One → Two → f ≡ g)
@@ -140,7 +140,7 @@ module _ (one_cut : OneCut) (no_cut : NoCutWithFault) (one_fault : OneFault) (on
   same_formats : (text : List ℕ) (a b : Rewrite) → Formats text a → Formats text b → a ≡ b
   same_formats text a b p q =
       let texts : a.text ≡ b.text = one_layout text a.text b.text p.layout q.layout in
-      let edits : a.edits ≡ b.edits = p.edits_are ∙ ap layout_edits (same_cut one_cut text p.parsed q.parsed p.reads q.reads) ∙ sym q.edits_are in
+      let edits : a.edits ≡ b.edits = p.edits_are ∙ ap layout_edits (same_scanned unique_tokens text p.parsed q.parsed p.reads q.reads) ∙ sym q.edits_are in
       let fixed : a.fixed ≡ b.fixed = p.fixed_is ∙ sym q.fixed_is in
       let left : a.left ≡ b.left = p.left_is ∙ sym q.left_is in
       one_made a b texts edits fixed left

@@ -20,10 +20,10 @@ no_more [] = refl
 no_more (x ∷ xs) = ap (λ (ys : List ℕ). x ∷ ys) (no_more xs)
 
 -- what was put to a writer that held nothing is what it holds
-pub held : (before after : Option (List ℕ)) (bytes kept : List ℕ) → before ≡ Some [] → after ≡ Some kept → Appends before after bytes → kept ≡ bytes
-held None after bytes kept b a p = cc
-held (Some xs) None bytes kept b a p = absurd p
-held (Some xs) (Some ys) bytes kept b a p =
+pub bytes_are_kept : (before after : Option (List ℕ)) (bytes kept : List ℕ) → before ≡ Some [] → after ≡ Some kept → Appends before after bytes → kept ≡ bytes
+bytes_are_kept None after bytes kept b a p = cc
+bytes_are_kept (Some xs) None bytes kept b a p = absurd p
+bytes_are_kept (Some xs) (Some ys) bytes kept b a p =
     let x : xs ≡ [] = cc in
     let y : ys ≡ kept = cc in
     sym y ∙ p ∙ ap (λ (z : List ℕ). z ++ bytes) x
@@ -39,7 +39,7 @@ had (Some xs) (Some ys) bytes kept b p end =
 -- what was put is what is taken by who reads it back
 pub same_bytes : (limit : ℕ) (target : Target) (source : Source) (put taken : List ℕ) → ReadsBack target source → WritesBytes target put → ReadsAll limit source taken → put ≡ taken
 same_bytes limit target source put taken back p t =
-    sym (held target.before target.after put back.bytes back.empty back.written p) ∙ had source.before source.after taken back.bytes back.read t.0 t.1
+    sym (bytes_are_kept target.before target.after put back.bytes back.empty back.written p) ∙ had source.before source.after taken back.bytes back.read t.0 t.1
 
 -- ---- a command that changed the text
 
@@ -72,13 +72,13 @@ put (Fix rules) t js d u ks other p changed = put_in (Fix rules) p.0 t js d u ks
 put Revert t js d u ks other p changed = absurd other
 put (Take n) t js d u ks other p changed = absurd other
 
-pub command_is_taken_back : ((text : List ℕ) (rs ss : List JournalEntry) → IsJournalText text rs → IsJournalText text ss → rs ≡ ss) → RevertRestores
-command_is_taken_back one command d again first second other s changed goes t =
+pub command_is_reverted : ((text : List ℕ) (rs ss : List JournalEntry) → IsJournalText text rs → IsJournalText text ss → rs ≡ ss) → RevertRestores
+command_is_reverted one command d again first second other s changed proceeds t =
     let (text, records, loads, new, new_records, does, saves) = s in
     let (text2, records2, loads2, u, us, takes, saves2) = t in
     let p = put command text records d new new_records other does changed in
-    let same_text : new ≡ text2 = same_bytes _ first.text_out second.text_in new text2 goes.text saves.3 loads2.0 in
-    let same_journal : saves.0 ≡ loads2.1 = same_bytes _ first.journal_out second.journal_in saves.0 loads2.1 goes.journal saves.2 loads2.2 in
+    let same_text : new ≡ text2 = same_bytes _ first.text_out second.text_in new text2 proceeds.text saves.3 loads2.0 in
+    let same_journal : saves.0 ≡ loads2.1 = same_bytes _ first.journal_out second.journal_in saves.0 loads2.1 proceeds.journal saves.2 loads2.2 in
     let written : IsJournalText loads2.1 new_records = subst (λ (b : List ℕ). IsJournalText b new_records) same_journal (inl saves.1.0) in
     let same_records : records2 ≡ new_records = one loads2.1 records2 new_records loads2.3 written in
     let lasts = same_last us records takes.0 p.r (sym takes.1 ∙ same_records ∙ p.added) in

@@ -24,7 +24,7 @@ use Rattle.tf_session.specs.Journals.{MAX_JOURNAL, Loads, JournalTextFault, Load
 use Rattle.tf_session.specs.RevertRestores.{ReadsBack, AddsOneRecord, StreamsCommandAt, ReadsWhatWasWritten, Endpoints, is_from_outside, RevertSucceeds}
 use Rattle.tf_session.proofs.Lists.{not_nil, same_last}
 use Rattle.tf_session.proofs.Stacks.{undone_or_refused}
-use Rattle.tf_session.proofs.RevertRestores.{held, same_bytes, put}
+use Rattle.tf_session.proofs.RevertRestores.{bytes_are_kept, same_bytes, put}
 
 abbrev TextIsOne : Type 0
 TextIsOne = (text : List ℕ) (rs ss : List JournalEntry) → IsJournalText text rs → IsJournalText text ss → rs ≡ ss
@@ -41,7 +41,7 @@ not_over (Some xs) (Some ys) bytes kept limit b p short over =
 
 not_endless : (limit : ℕ) (target : Target) (source : Source) (bytes : List ℕ) → ReadsBack target source → WritesBytes target bytes → length bytes ≤ limit → ReadAtFault limit ReadFault.Endless source → ⊥
 not_endless limit target source bytes back p short t =
-    let same : back.bytes ≡ bytes = held target.before target.after bytes back.bytes back.empty back.written p in
+    let same : back.bytes ≡ bytes = bytes_are_kept target.before target.after bytes back.bytes back.empty back.written p in
     let within : length back.bytes ≤ limit = subst (λ (x : List ℕ). length x ≤ limit) (sym same) short in
     not_over source.before source.after t.0 back.bytes limit back.read t.1 within t.2
 
@@ -157,21 +157,21 @@ wrote command d first other s changed =
 -- what was loaded is what it wrote
 loaded : TextIsOne → (first second : Endpoints) (w : Wrote first) → ReadsWhatWasWritten first second → (text : List ℕ) (records : List JournalEntry) → Loads text records second.text_in second.journal_in
     → (text ≡ w.new) × (records ≡ w.earlier ++ w.r ∷ [])
-loaded one first second w goes text records loads =
-    let same_text : w.new ≡ text = same_bytes _ first.text_out second.text_in w.new text goes.text w.text_put loads.0 in
-    let same_journal : w.bytes ≡ loads.1 = same_bytes _ first.journal_out second.journal_in w.bytes loads.1 goes.journal w.journal_put loads.2 in
+loaded one first second w proceeds text records loads =
+    let same_text : w.new ≡ text = same_bytes _ first.text_out second.text_in w.new text proceeds.text w.text_put loads.0 in
+    let same_journal : w.bytes ≡ loads.1 = same_bytes _ first.journal_out second.journal_in w.bytes loads.1 proceeds.journal w.journal_put loads.2 in
     let written : IsJournalText loads.1 (w.earlier ++ w.r ∷ []) = subst (λ (b : List ℕ). IsJournalText b (w.earlier ++ w.r ∷ [])) same_journal (inl w.is_text) in
     (sym same_text, one loads.1 records (w.earlier ++ w.r ∷ []) loads.3 written)
 
 not_taken : (fault : ReadFault) (first second : Endpoints) (w : Wrote first) → ReadsWhatWasWritten first second → LoadReadFault fault second.text_in second.journal_in → fault ≡ ReadFault.Endless → ⊥
-not_taken fault first second w goes (inl p) e =
-    not_endless MAX_TEXT first.text_out second.text_in w.new goes.text w.text_put w.short (subst (λ (x : ReadFault). ReadAtFault MAX_TEXT x second.text_in) e p.0)
-not_taken fault first second w goes (inr p) e =
-    not_endless MAX_JOURNAL first.journal_out second.journal_in w.bytes goes.journal w.journal_put w.within (subst (λ (x : ReadFault). ReadAtFault MAX_JOURNAL x second.journal_in) e p.2)
+not_taken fault first second w proceeds (inl p) e =
+    not_endless MAX_TEXT first.text_out second.text_in w.new proceeds.text w.text_put w.short (subst (λ (x : ReadFault). ReadAtFault MAX_TEXT x second.text_in) e p.0)
+not_taken fault first second w proceeds (inr p) e =
+    not_endless MAX_JOURNAL first.journal_out second.journal_in w.bytes proceeds.journal w.journal_put w.within (subst (λ (x : ReadFault). ReadAtFault MAX_JOURNAL x second.journal_in) e p.2)
 
 not_decoded : (fault : RecordFault) (first second : Endpoints) (w : Wrote first) → ReadsWhatWasWritten first second → LoadDecodeFault fault second.text_in second.journal_in → is_from_outside (run_fault_of_record fault) ≡ true
-not_decoded fault first second w goes p =
-    let same_journal : w.bytes ≡ p.1 = same_bytes _ first.journal_out second.journal_in w.bytes p.1 goes.journal w.journal_put p.3 in
+not_decoded fault first second w proceeds p =
+    let same_journal : w.bytes ≡ p.1 = same_bytes _ first.journal_out second.journal_in w.bytes p.1 proceeds.journal w.journal_put p.3 in
     let written : IsJournalText p.1 (w.earlier ++ w.r ∷ []) = subst (λ (b : List ℕ). IsJournalText b (w.earlier ++ w.r ∷ [])) same_journal (inl w.is_text) in
     decoding fault p.1 (w.earlier ++ w.r ∷ []) written p.4
 
@@ -187,18 +187,18 @@ outside fault given e o = ap is_from_outside e ∙ o
 
 fault_of : ChangeResultIsUnique → TextIsOne → (first second : Endpoints) (w : Wrote first) → ReadsWhatWasWritten first second → (fault : RunFault)
     → JournaledStreamFault Revert fault second.text_in second.journal_in second.journal_out second.text_out → is_from_outside fault ≡ true
-fault_of unique one first second w goes fault (inl (inl (taken, is, p), u, v)) = outside fault _ is (read_fault taken (not_taken taken first second w goes p))
-fault_of unique one first second w goes fault (inl (inr (reading, is, p), u, v)) = outside fault _ is (not_decoded reading first second w goes p)
-fault_of unique one first second w goes fault (inr (inl ((text, records, loads, refusal, is, p), u, v))) =
-    let (same_text, same_records) = loaded one first second w goes text records loads in
+fault_of unique one first second w proceeds fault (inl (inl (taken, is, p), u, v)) = outside fault _ is (read_fault taken (not_taken taken first second w proceeds p))
+fault_of unique one first second w proceeds fault (inl (inr (reading, is, p), u, v)) = outside fault _ is (not_decoded reading first second w proceeds p)
+fault_of unique one first second w proceeds fault (inr (inl ((text, records, loads, refusal, is, p), u, v))) =
+    let (same_text, same_records) = loaded one first second w proceeds text records loads in
     let turns : record_transforms w.r w.text text = subst (λ (x : List ℕ). record_transforms w.r w.text x) (sym same_text) w.transforms in
     outside fault _ is (refusing unique refusal w.text text records w.earlier w.r same_records turns p)
-fault_of unique one first second w goes fault (inr (inr (text, records, loads, d, u, us, takes, p))) =
-    let (same_text, same_records) = loaded one first second w goes text records loads in
+fault_of unique one first second w proceeds fault (inr (inr (text, records, loads, d, u, us, takes, p))) =
+    let (same_text, same_records) = loaded one first second w proceeds text records loads in
     let lasts = same_last us w.earlier takes.0 w.r (sym takes.1 ∙ same_records) in
     let short : length (journal_text us) ≤ MAX_JOURNAL = subst (λ (rs : List JournalEntry). length (journal_text rs) ≤ MAX_JOURNAL) (sym lasts.0) (kept_short first w) in
     saving fault u us second.journal_out second.text_out short p
 
-pub command_can_be_taken_back : ChangeResultIsUnique → TextIsOne → RevertSucceeds
-command_can_be_taken_back unique one command d first second other s changed goes fault p =
-    fault_of unique one first second (wrote command d first other s changed) goes fault p
+pub command_revert_succeeds : ChangeResultIsUnique → TextIsOne → RevertSucceeds
+command_revert_succeeds unique one command d first second other s changed proceeds fault p =
+    fault_of unique one first second (wrote command d first other s changed) proceeds fault p

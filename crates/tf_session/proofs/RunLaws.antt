@@ -26,8 +26,8 @@ reverts_from (suc k) top (under ∷ rest) new (reply ∷ replies) le h =
     let ih = reverts_from k under.text rest new replies fewer more in
     (ih.0, let head = h.1.0 in let tail = ih.1 in cc)
 
-pub reverts_take_off : RevertsPop
-reverts_take_off k old new replies le h = reverts_from k old.top old.below new replies le h
+pub reverts_pop : RevertsPop
+reverts_pop k old new replies le h = reverts_from k old.top old.below new replies le h
 
 -- the text that was there first
 abbrev pub bottom : List ℕ → List StackEntry → List ℕ
@@ -42,9 +42,9 @@ push_cases false command text old mid e h =
     let put : push_text command text old ≡ old = rw e refl in
     ap (λ (s : Stack). bottom s.top s.below) (h ∙ put)
 
-taken_off : (top : List ℕ) (below : List StackEntry) (reply : Result Done Fault) (mid : Stack) → PopsText top below reply mid → bottom mid.top mid.below ≡ bottom top below
-taken_off top [] reply mid h = ap (λ (s : Stack). bottom s.top s.below) h.1
-taken_off top (under ∷ rest) reply mid h = ap (λ (s : Stack). bottom s.top s.below) h.1
+popped_bottom : (top : List ℕ) (below : List StackEntry) (reply : Result Done Fault) (mid : Stack) → PopsText top below reply mid → bottom mid.top mid.below ≡ bottom top below
+popped_bottom top [] reply mid h = ap (λ (s : Stack). bottom s.top s.below) h.1
+popped_bottom top (under ∷ rest) reply mid h = ap (λ (s : Stack). bottom s.top s.below) h.1
 
 answered : (command : Command) (answer : Result Rewrite Fault) (old mid : Stack) (reply : Result Done Fault) → PushesText command answer old reply mid → bottom mid.top mid.below ≡ bottom old.top old.below
 answered command (Ok made) old mid reply h = push_cases (texts_differ old.top made.text) command made.text old mid refl h.1
@@ -54,7 +54,7 @@ answered command (Err fault) old mid reply h = ap (λ (s : Stack). bottom s.top 
 same_bottom : (command : Command) (old mid : Stack) (reply : Result Done Fault) → StackStep command old reply mid → bottom mid.top mid.below ≡ bottom old.top old.below
 same_bottom Fmt old mid reply h = answered Fmt h.0 old mid reply h.2
 same_bottom (Fix rules) old mid reply h = answered (Fix rules) h.0 old mid reply h.2
-same_bottom Revert old mid reply h = taken_off old.top old.below reply mid h
+same_bottom Revert old mid reply h = popped_bottom old.top old.below reply mid h
 same_bottom (Take n) old mid reply h = absurd h
 
 pub same_bottoms : (old mid : Stack) (commands : List Command) (replies : List (Result Done Fault)) → StackRunWithMemory old commands replies mid → bottom mid.top mid.below ≡ bottom old.top old.below

@@ -28,13 +28,13 @@ pub same_texts : (t u : List ℕ) → texts_differ t u ≡ false → t ≡ u
 same_texts t u h = (bytes_eq-Decides t u).0 (not-false _ h)
 
 -- a text that a command made was pushed, and the records represent the stack
-abbrev PutsStanding : Command → Rewrite → List ℕ → List StackEntry → Done → List ℕ → List JournalEntry → Type 0
-PutsStanding command made t below d u ks =
+abbrev PushesOntoStack : Command → Rewrite → List ℕ → List StackEntry → Done → List ℕ → List JournalEntry → Type 0
+PushesOntoStack command made t below d u ks =
     (n : Stack) × PushesText command (Ok made) (stack t below) (Ok d) n × (u ≡ n.top) × IsJournalOfStack ks n.top n.below
 
 push_cases : (b : Bool) (command : Command) (made : Rewrite) (t : List ℕ) (below : List StackEntry) (js : List JournalEntry) (d : Done) (u : List ℕ) (ks : List JournalEntry)
     → texts_differ t made.text ≡ b → u ≡ made.text → d ≡ done (texts_differ t made.text) made.fixed made.left → AddsRecordOf b command t made js ks → IsJournalOfStack js t below
-    → PutsStanding command made t below d u ks
+    → PushesOntoStack command made t below d u ks
 push_cases true command made t below js d u ks e um dd a st = (
   stack made.text ((record { text = t; command = command }) ∷ below),
   (ap (λ (x : Done). Ok x) dd, rw e refl),

@@ -16,7 +16,7 @@ use Rattle.tf_lint.specs.Steps.{Rewrite, texts_differ}
 use Rattle.tf_session.specs.Runs.{is_memory}
 use Rattle.tf_session.specs.Layers.{Layer, History, initial_history, last_text, top_text, record_of, records_in, LayersAreConsistent, IsHistory, push_layer, PushesLayer, PopsLayer, TakeStep, HistoryStep, HistoryMayAllocate, HistoryRun}
 use Rattle.tf_session.specs.TakeLaws.{HistoryRunWithMemory, TakePreservesHistory, RevertsRestoreTheFirstAfterTakes, JournalSquashesToOneAfterTakes}
-use Rattle.tf_session.proofs.JournalOne.{TurnLengths, SquashesAreOne, become_one}
+use Rattle.tf_session.proofs.JournalOne.{TransformLengths, SquashesAreOne, become_one}
 use Rattle.tf_session.proofs.Histories.{last_on, rise_on, rise_low, rise_high, rise_turns}
 
 -- ---- the first text stays
@@ -55,7 +55,7 @@ run_first old new (command ∷ commands) (reply ∷ replies) h = run_first h.0 n
 
 -- ---- the laws
 
-pub journal_is_one_again : TurnLengths → ComposableListsSquash → SquashesAreOne → JournalSquashesToOneAfterTakes
+pub journal_is_one_again : TransformLengths → ComposableListsSquash → SquashesAreOne → JournalSquashesToOneAfterTakes
 journal_is_one_again lengths squashes squash_as_one text commands replies end run is_history first others same =
     let from_text : TransformsInOrder Transforms (edits_of (records_in end.layers)) text (top_text end) =
     subst (λ (t : List ℕ). TransformsInOrder Transforms (edits_of (records_in end.layers)) t (top_text end)) (run_first (initial_history text) end commands replies run) (rise_turns end.first end.layers is_history) in

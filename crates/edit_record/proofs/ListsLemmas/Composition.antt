@@ -12,14 +12,14 @@ use Rattle.edit_record.proofs.ListsLemmas.Pairs.{Both}
 
 -- ---- there is such a text
 
-pub record SomeGo (from : ℕ) (es : List EditEntry) (K : ℕ → List ℕ → List ℕ → Type 0) : Type 0 where
+pub record SomeWalk (from : ℕ) (es : List EditEntry) (K : ℕ → List ℕ → List ℕ → Type 0) : Type 0 where
   pub t : List ℕ
   pub u : List ℕ
-  pub goes : Walks Forward from es K t u
+  pub walks_to : Walks Forward from es K t u
 
 -- K holds of some texts at each place up to n
-pub some_walks : (n from : ℕ) (es : List EditEntry) (K : ℕ → List ℕ → List ℕ → Type 0) → AreDisjoint n from es → ((p : ℕ) → p ≤ n → (t : List ℕ) × (u : List ℕ) × K p t u) → SomeGo from es K
-some_walks n from [] K p k = let w = k from p in record { t = w.0; u = w.1; goes = w.2 }
+pub some_walks : (n from : ℕ) (es : List EditEntry) (K : ℕ → List ℕ → List ℕ → Type 0) → AreDisjoint n from es → ((p : ℕ) → p ≤ n → (t : List ℕ) × (u : List ℕ) × K p t u) → SomeWalk from es K
+some_walks n from [] K p k = let w = k from p in record { t = w.0; u = w.1; walks_to = w.2 }
 some_walks n from (e ∷ es) K p k =
     let w = some_walks n (e.at + length e.removed) es K p.1 k in
     let later = p.0.later in
@@ -28,14 +28,14 @@ some_walks n from (e ∷ es) K p k =
     record {
       t = kept ++ (e.removed ++ w.t);
       u = kept ++ (e.added ++ w.u);
-      goes = record { kept = kept; t_rest = w.t; u_rest = w.u; gap = omega arith; t_is = refl; u_is = refl; rest = w.goes };
+      walks_to = record { kept = kept; t_rest = w.t; u_rest = w.u; gap = omega arith; t_is = refl; u_is = refl; rest = w.walks_to };
     }
 
-pub some_text : (n from : ℕ) (es : List EditEntry) → AreDisjoint n from es → SomeGo from es (Ends n)
+pub some_text : (n from : ℕ) (es : List EditEntry) → AreDisjoint n from es → SomeWalk from es (Ends n)
 some_text n from es p = some_walks n from es (Ends n) p (λ q l. let z = replicate (n - q) 0 in let k : length z ≡ n - q = length-replicate (n - q) 0 in (z, z, (refl, omega arith)))
 
-pub lengths_go : (n from : ℕ) (es : List EditEntry) (t u : List ℕ) → Walks Forward from es (Ends n) t u → (length u + removed_len es ≡ length t + added_len es) × (from + length t ≡ n)
-lengths_go n from es t u g = let s = same_from_ends n from es t u g in (lengths from es t u s.0, s.1)
+pub walk_lengths : (n from : ℕ) (es : List EditEntry) (t u : List ℕ) → Walks Forward from es (Ends n) t u → (length u + removed_len es ≡ length t + added_len es) × (from + length t ≡ n)
+walk_lengths n from es t u g = let s = same_from_ends n from es t u g in (lengths from es t u s.0, s.1)
 
 -- ---- both lists, by the relation and by pieces
 

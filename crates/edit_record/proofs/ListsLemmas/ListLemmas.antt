@@ -9,7 +9,7 @@ use Rattle.edit_record.specs.Lists.Validity.{make_edits, first_fault, edit_fault
 use Rattle.edit_record.specs.Lists.Inner.WalkExact.{lengths}
 use Rattle.edit_record.specs.Lists.Inner.Exact.{walks_from_transforms}
 use Rattle.edit_record.proofs.ListsLemmas.PieceLemmas.{right_fault}
-use Rattle.edit_record.proofs.ListsLemmas.Placed.{placed_room}
+use Rattle.edit_record.proofs.ListsLemmas.Placed.{placed_within}
 
 pub have_lengths : (e : EditList) (t u : List ℕ) → Transforms e t u → LengthsMatch e t u
 have_lengths e t u h =
@@ -67,7 +67,7 @@ from_make old_len es e is =
     let fits = ltb-false MAX_TEXT old_len t.0 in
     let longer = ltb-false (MAX_TEXT + removed_len es) (old_len + added_len es) t.2 in
     let placed = placed_from_none old_len 0 0 es (omega arith) t.1 in
-    let room = placed_room old_len 0 es placed in
+    let within_len = placed_within old_len 0 es placed in
     (t.3, rw t.3 (record { disjoint = placed; new = omega arith; old_fits = fits; new_fits = omega arith }))
 
 to_make : (old_len : ℕ) (es : List EditEntry) → AreValidEdits old_len (new_len (as_list old_len es)) es → make_edits old_len es ≡ Ok (as_list old_len es)

@@ -5,7 +5,7 @@ use Rattle.edit_record.specs.declared.lists.direction.Direction.TheVariants.{For
 use Rattle.edit_record.specs.Lists.Pieces.{EditEntry}
 use Rattle.edit_record.specs.Lists.Validity.{AreDisjoint}
 use Rattle.edit_record.specs.Lists.Inner.Walks.{Walks}
-use Rattle.edit_record.proofs.ListsLemmas.Parts.{fronts, Ends, pass, pass_back, pass_new, long, end_of}
+use Rattle.edit_record.proofs.ListsLemmas.Parts.{equal_prefixes, Ends, pass, pass_back, pass_new, long, end_of}
 
 -- t goes to v by what is left of both lists, over a text between; the first list added bytes that the second has not
 -- reached, or the second removed bytes that the first has not reached
@@ -42,7 +42,7 @@ module _ (la lb : ℕ) where
             let gap = g.gap in
             let k : length (take d pb) ≡ length g.kept = omega arith in
             let eq : take d pb ++ (drop d pb ++ h.mid_second) ≡ g.kept ++ (e.added ++ g.u_rest) = sym (append_assoc (take d pb) (drop d pb) h.mid_second) ∙ ap (λ (y : List ℕ). y ++ h.mid_second) split ∙ sym h.same ∙ g.u_is in
-            let f = fronts (take d pb) g.kept (drop d pb ++ h.mid_second) (e.added ++ g.u_rest) k eq in
+            let f = equal_prefixes (take d pb) g.kept (drop d pb ++ h.mid_second) (e.added ++ g.u_rest) k eq in
             record {
               t_rest = g.t_rest;
               v_rest = v;
@@ -72,7 +72,7 @@ module _ (la lb : ℕ) where
             let gap = g.gap in
             let k : length (take d pa) ≡ length g.kept = omega arith in
             let eq : take d pa ++ (drop d pa ++ h.mid_first) ≡ g.kept ++ (e.removed ++ g.t_rest) = sym (append_assoc (take d pa) (drop d pa) h.mid_first) ∙ ap (λ (y : List ℕ). y ++ h.mid_first) split ∙ h.same ∙ g.t_is in
-            let f = fronts (take d pa) g.kept (drop d pa ++ h.mid_first) (e.removed ++ g.t_rest) k eq in
+            let f = equal_prefixes (take d pa) g.kept (drop d pa ++ h.mid_first) (e.removed ++ g.t_rest) k eq in
             record {
               t_rest = t;
               v_rest = g.u_rest;
@@ -122,7 +122,7 @@ module _ (la lb : ℕ) where
 
   -- bytes that both keep
   pub record Skips (n : ℕ) (K L : List ℕ → List ℕ → Type 0) : Type 0 where
-    pub skip_go : (t v : List ℕ) → K t v → (w : List ℕ) × (length w ≡ n) × Moved w w L t v
+    pub skip_moves : (t v : List ℕ) → K t v → (w : List ℕ) × (length w ≡ n) × Moved w w L t v
     pub skip_back : (w t v : List ℕ) → length w ≡ n → L t v → K (w ++ t) (w ++ v)
 
   skip_at : (n af bf : ℕ) (xs ys : List EditEntry) → AreDisjoint la (af + n) xs → AreDisjoint lb (bf + n) ys → (w r t v : List ℕ) → length w ≡ n → t ≡ w ++ r → Both la lb [] af xs [] bf ys t v → (w : List ℕ) × (length w ≡ n) × Moved w w (Both la lb [] (af + n) xs [] (bf + n) ys) t v
@@ -133,7 +133,7 @@ module _ (la lb : ℕ) where
 
   pub skips : (n af bf : ℕ) (xs ys : List EditEntry) → AreDisjoint la (af + n) xs → AreDisjoint lb (bf + n) ys → Skips n (Both la lb [] af xs [] bf ys) (Both la lb [] (af + n) xs [] (bf + n) ys)
   skips n af bf xs ys p q = record {
-    skip_go = λ t v h.
+    skip_moves = λ t v h.
         let l = long la af n xs t h.mid_first p h.first in
         let wl = length-take-le n t l in
         let split = take-append-drop n t in

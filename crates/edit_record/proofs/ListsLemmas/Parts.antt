@@ -7,12 +7,12 @@ use Rattle.edit_record.specs.Lists.Validity.{AreDisjoint}
 use Rattle.edit_record.specs.Lists.Inner.Walks.{Walks, SameRest}
 
 -- x is the front of k
-pub record Cut {X : Type 0} (x k t s : List X) : Type 0 where
+pub record SplitLists {X : Type 0} (x k t s : List X) : Type 0 where
   pub more : List X
   pub whole : k ≡ x ++ more
   pub rest : t ≡ more ++ s
 
-pub split_lists : {X : Type 0} (x k t s : List X) → length x ≤ length k → x ++ t ≡ k ++ s → Cut x k t s
+pub split_lists : {X : Type 0} (x k t s : List X) → length x ≤ length k → x ++ t ≡ k ++ s → SplitLists x k t s
 split_lists [] k t s l e = record { more = k; whole = refl; rest = e }
 split_lists (a ∷ x) [] t s l e = absurd (omega arith)
 split_lists {X} (a ∷ x) (b ∷ k) t s l e =
@@ -21,8 +21,8 @@ split_lists {X} (a ∷ x) (b ∷ k) t s l e =
     let c = split_lists x k t s (omega arith) tail in
     record { more = c.more; whole = ap (λ (y : List X). b ∷ y) c.whole ∙ ap (λ (y : X). y ∷ (x ++ c.more)) head; rest = c.rest }
 
-pub fronts : {X : Type 0} (a b c d : List X) → length a ≡ length b → a ++ c ≡ b ++ d → (a ≡ b) × (c ≡ d)
-fronts {X} a b c d l e =
+pub equal_prefixes : {X : Type 0} (a b c d : List X) → length a ≡ length b → a ++ c ≡ b ++ d → (a ≡ b) × (c ≡ d)
+equal_prefixes {X} a b c d l e =
     let p = split_lists a b c d (omega arith) e in
     let n : length b ≡ length a + length p.more = ap length p.whole ∙ length-append a p.more in
     let none = nil_from_length p.more (omega arith) in
@@ -97,10 +97,10 @@ long n from k (e ∷ es) t u p g =
     omega arith
 
 -- the same, where the new text is known
-at_front : (n from : ℕ) (x w : List ℕ) (es : List EditEntry) (t u : List ℕ) → length w ≡ length x → AreDisjoint n (from + length x) es → Walks Forward from es (Ends n) (w ++ t) (x ++ u) → (x ≡ w) × Walks Forward (from + length x) es (Ends n) t u
-at_front n from x w es t u wl p g =
+at_text_start : (n from : ℕ) (x w : List ℕ) (es : List EditEntry) (t u : List ℕ) → length w ≡ length x → AreDisjoint n (from + length x) es → Walks Forward from es (Ends n) (w ++ t) (x ++ u) → (x ≡ w) × Walks Forward (from + length x) es (Ends n) t u
+at_text_start n from x w es t u wl p g =
     let q = pass n from w es t (x ++ u) (rw wl p) g in
-    let f = fronts x w u q.u_rest (sym wl) q.u_is in
+    let f = equal_prefixes x w u q.u_rest (sym wl) q.u_is in
     let P : ℕ → Type 0 = λ k. Walks Forward (from + k) es (Ends n) t q.u_rest in
     (f.0, rw f.1 (subst P wl q.rest))
 
@@ -108,7 +108,7 @@ pub pass_new : (n from : ℕ) (x : List ℕ) (es : List EditEntry) (t u : List �
 pass_new n from x es t u p g =
     let l = long n from (length x) es t (x ++ u) p g in
     let split = take-append-drop (length x) t in
-    let q = at_front n from x (take (length x) t) es (drop (length x) t) u (length-take-le (length x) t l) p (rw split g) in
+    let q = at_text_start n from x (take (length x) t) es (drop (length x) t) u (length-take-le (length x) t l) p (rw split g) in
     (drop (length x) t, sym split ∙ ap (λ (y : List ℕ). y ++ drop (length x) t) (sym q.0), q.1)
 
 pub placed_earlier : (n from k : ℕ) (es : List EditEntry) → from ≤ k → AreDisjoint n k es → AreDisjoint n from es

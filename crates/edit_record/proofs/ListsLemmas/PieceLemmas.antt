@@ -47,5 +47,5 @@ pieces_make ps are short =
     let same : nat_lt (MAX_TEXT + removed_len (changed_entries 0 ps)) (length (old_text ps) + added_len (changed_entries 0 ps)) ≡ nat_lt MAX_TEXT (length (new_text ps)) = same_tests _ _ _ _ sums in
     rw (fits, right, same) refl
 
-pub pieces_turn : (ps : List Piece) → PiecesTransform ps
-pieces_turn ps = record { len = refl; pieces = ps; old_is = refl; new_is = refl; edits_are = refl }
+pub pieces_all_transform : (ps : List Piece) → PiecesTransform ps
+pieces_all_transform ps = record { len = refl; pieces = ps; old_is = refl; new_is = refl; edits_are = refl }

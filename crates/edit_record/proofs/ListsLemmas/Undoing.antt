@@ -25,8 +25,8 @@ module _ {C : Type 0} (backward : C → List ℕ → Result (List ℕ) Refused) 
   at_last : (cs : List C) (c : C) (u : List ℕ) → 1 ≤ length cs → c ≡ get_or cs (length cs - 1) c → backward_all backward cs u ≡ (backward c u >>= backward_all backward (take (length cs - 1) cs))
   at_last cs c u n is = ap (λ x. backward_all backward x u) (last_item cs c n is) ∙ backward_push (take (length cs - 1) cs) c u
 
-  pub undo_goes : (cs : List C) (c : C) (u v : List ℕ) (all : Result (List ℕ) Refused) → 1 ≤ length cs → c ≡ get_or cs (length cs - 1) c → backward c u ≡ Ok v → backward_all backward cs u ≡ all → backward_all backward (take (length cs - 1) cs) v ≡ all
-  undo_goes cs c u v all n is e h = sym (at_last cs c u n is ∙ ap (λ r. r >>= backward_all backward (take (length cs - 1) cs)) e) ∙ h
+  pub undo_last : (cs : List C) (c : C) (u v : List ℕ) (all : Result (List ℕ) Refused) → 1 ≤ length cs → c ≡ get_or cs (length cs - 1) c → backward c u ≡ Ok v → backward_all backward cs u ≡ all → backward_all backward (take (length cs - 1) cs) v ≡ all
+  undo_last cs c u v all n is e h = sym (at_last cs c u n is ∙ ap (λ r. r >>= backward_all backward (take (length cs - 1) cs)) e) ∙ h
 
   pub undo_stops : (cs : List C) (c : C) (u : List ℕ) (all : Result (List ℕ) Refused) (e : Refused) → 1 ≤ length cs → c ≡ get_or cs (length cs - 1) c → AgreesWith (Err e) (backward c u) → backward_all backward cs u ≡ all → AgreesWith (Err e) all
   undo_stops cs c u all Memory n is g h = tt

@@ -10,7 +10,7 @@ use Rattle.edit_record.specs.Lists.Inner.WalkExact.{lengths}
 use Rattle.edit_record.specs.Lists.Inner.Exact.{walks_from_transforms}
 use Rattle.edit_record.specs.Squashes.Squash.{AreComposable, IsSquash, ComposableListsSquash}
 use Rattle.edit_record.specs.Squashes.Inner.Merge.{State, initial, common_len, cancel_common, prepare_next, take_next, finish_edit}
-use Rattle.edit_record.proofs.SquashesLemmas.Merged.{Kept, Progress, progress_start, takes_one, goes_on, contradicts, ends_well}
+use Rattle.edit_record.proofs.SquashesLemmas.Merged.{Kept, Progress, progress_start, takes_one, continues_with, contradicts, ends_well}
 
 module _ (la lb lc : ℕ) (a b : List EditEntry) (first : AreValidEdits la lb a) (second : AreValidEdits lb lc b) (follows : new_len (as_list la a) ≡ lb) (can_follow : AreComposable (as_list la a) (as_list lb b)) where
   abbrev Squashed : Type 0
@@ -31,7 +31,7 @@ module _ (la lb lc : ℕ) (a b : List EditEntry) (first : AreValidEdits la lb a)
       let q = take_next e.0 e.1 xs ys in
       let k = takes_one la lb a b s e.1 xs ys e.0 q more p refl refl in
       let less = k.1 in
-      go (cancel_common q.0) q.1 q.2 (omega (arith, less, le)) (goes_on la lb a b q.0 (cancel_common q.0) q.1 q.2 k.0 (meets_if q.0 q.1 q.2 _ k.0 refl) refl)
+      go (cancel_common q.0) q.1 q.2 (omega (arith, less, le)) (continues_with la lb a b q.0 (cancel_common q.0) q.1 q.2 k.0 (meets_if q.0 q.1 q.2 _ k.0 refl) refl)
 
   squashed : (n : ℕ) (s : State) (xs ys : List EditEntry) → length xs + length ys ≤ n → Progress la lb a b s xs ys → Squashed
   squashed n s [] [] le p = let h = ends_well la lb lc a b (finish_edit s).out s first second p refl follows in ((finish_edit s).out, h.0, h.1)

@@ -50,7 +50,7 @@ step_moved p at r n x y K L m = record {
 pub step_skip : (la lb p at n : ℕ) (K L : List ℕ → List ℕ → Type 0) → p ≤ at → Skips la lb n K L → Alike (EditStep Forward p (edit at [] []) K) (EditStep Forward p (edit (at + n) [] []) L)
 step_skip la lb p at n K L le s = record {
   go = λ t v g.
-      let h = s.skip_go g.t_rest g.u_rest g.rest in
+      let h = s.skip_moves g.t_rest g.u_rest g.rest in
       let gap = g.gap in let wl = h.1 in
       record {
         kept = g.kept ++ h.0;

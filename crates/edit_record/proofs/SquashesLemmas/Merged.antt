@@ -8,10 +8,10 @@ use Rattle.edit_record.specs.Lists.Inner.Walks.{EditStep, Walks}
 use Rattle.edit_record.specs.Lists.Inner.Exact.{walks_from_transforms, transforms_from_walks}
 use Rattle.edit_record.specs.Squashes.Inner.Merge.{State, finish_edit, common_len, cancel_common, prepare_next, take_next, initial, MergeInvariant, OneIsDone, IsReadyFor}
 use Rattle.edit_record.specs.Squashes.Squash.{AreComposable, IsContradiction, IsSquash}
-use Rattle.edit_record.proofs.ListsLemmas.Placed.{placed_room}
-use Rattle.edit_record.proofs.ListsLemmas.Parts.{Ends, ends_from_same, same_from_ends, placed_earlier, placed_longer, fronts}
+use Rattle.edit_record.proofs.ListsLemmas.Placed.{placed_within}
+use Rattle.edit_record.proofs.ListsLemmas.Parts.{Ends, ends_from_same, same_from_ends, placed_earlier, placed_longer, equal_prefixes}
 use Rattle.edit_record.proofs.ListsLemmas.Pairs.{Both, Alike, alike_then}
-use Rattle.edit_record.proofs.ListsLemmas.Composition.{some_walks, some_text, lengths_go, both_from_turns, turns_from_both}
+use Rattle.edit_record.proofs.ListsLemmas.Composition.{some_walks, some_text, walk_lengths, both_from_turns, turns_from_both}
 use Rattle.edit_record.proofs.SquashesLemmas.Soundness.{sound_first, sound_second, sound_met, sound_closed, one_cancelled}
 use Rattle.edit_record.proofs.SquashesLemmas.Means.{Means, Rest, edit, means_first, means_second, means_met, means_closed, means_end, means_start}
 use Rattle.edit_record.proofs.SquashesLemmas.Preparing.{Readied, readies}
@@ -67,18 +67,18 @@ module _ (la lb : ℕ) where
   witness : (s : State) (xs : List EditEntry) (ys : List EditEntry) → MergeInvariant la lb s xs ys → length s.second_pending ≡ 0 → (t : List ℕ) × (v : List ℕ) × Means la lb s xs [] t v
   witness s xs ys h z =
       let f = some_text la s.first_end xs h.first_placed in
-      let l = lengths_go la s.first_end xs f.t f.u f.goes in
+      let l = walk_lengths la s.first_end xs f.t f.u f.walks_to in
       let none = nil_from_length s.second_pending z in
       let balance = h.balance in
       let l0 = l.0 in let l1 = l.1 in
       let k = length-append s.first_pending f.u in
-      let rest : Rest la lb s xs [] f.t (s.first_pending ++ f.u) = record { mid_first = f.u; mid_second = s.first_pending ++ f.u; same = rw none refl; first = f.goes; second = (refl, omega arith) } in
+      let rest : Rest la lb s xs [] f.t (s.first_pending ++ f.u) = record { mid_first = f.u; mid_second = s.first_pending ++ f.u; same = rw none refl; first = f.walks_to; second = (refl, omega arith) } in
       let made : (p : ℕ) → p ≤ s.at → (t : List ℕ) × (v : List ℕ) × EditStep Forward p (edit s.at s.removed s.added) (Rest la lb s xs []) t v = λ p le.
       let kept = replicate (s.at - p) 0 in
       let kl : length kept ≡ s.at - p = length-replicate (s.at - p) 0 in
       (kept ++ (s.removed ++ f.t), kept ++ (s.added ++ (s.first_pending ++ f.u)), record { kept = kept; t_rest = f.t; u_rest = s.first_pending ++ f.u; gap = omega arith; t_is = refl; u_is = refl; rest = rest }) in
       let w = some_walks s.at 0 s.out (λ p. EditStep Forward p (edit s.at s.removed s.added) (Rest la lb s xs [])) h.done made in
-      (w.t, w.u, w.goes)
+      (w.t, w.u, w.walks_to)
 
   took_first : (a b : List EditEntry) (s s' : State) (xs ys : List EditEntry) → Kept a b s xs ys → Readied la lb s (true, s') xs ys → GroupedReady a b (true, s') xs ys → (q : State × List EditEntry × List EditEntry) → q ≡ take_next true s' xs ys → Kept a b q.0 q.1 q.2 × (length q.1 + length q.2 < length xs + length ys)
   took_first a b s s' [] ys k r gr q e = absurd r.takes
@@ -135,8 +135,8 @@ module _ (la lb : ℕ) where
       let r = readies la lb s xs ys p.kept.sound p.one in
       took_by a b s s' xs ys first more p.kept (rw e r) (rw e (grouped_readied la lb a b s xs ys more p.kept.grouped p.kept.sound p.one r.sound.first_placed)) q f
 
-  pub goes_on : (a b : List EditEntry) (s s' : State) (xs ys : List EditEntry) → Kept a b s xs ys → take (common_len s) s.first_pending ≡ take (common_len s) s.second_pending → s' ≡ cancel_common s → Progress a b s' xs ys
-  goes_on a b s s' xs ys k e f =
+  pub continues_with : (a b : List EditEntry) (s s' : State) (xs ys : List EditEntry) → Kept a b s xs ys → take (common_len s) s.first_pending ≡ take (common_len s) s.second_pending → s' ≡ cancel_common s → Progress a b s' xs ys
+  continues_with a b s s' xs ys k e f =
       let m = length-drop (common_len s) s.second_pending in
       rw f (record {
         kept = record {
@@ -153,9 +153,9 @@ module _ (la lb : ℕ) where
 
   -- ---- bytes that differ
 
-  goes_last : (from : ℕ) (es : List EditEntry) (K : ℕ → List ℕ → List ℕ → Type 0) (t v : List ℕ) → Walks Forward from es K t v → (p : ℕ) × (x : List ℕ) × (y : List ℕ) × K p x y
-  goes_last from [] K t v g = (from, t, v, g)
-  goes_last from (e ∷ es) K t v g = goes_last (e.at + length e.removed) es K g.t_rest g.u_rest g.rest
+  walks_last : (from : ℕ) (es : List EditEntry) (K : ℕ → List ℕ → List ℕ → Type 0) (t v : List ℕ) → Walks Forward from es K t v → (p : ℕ) × (x : List ℕ) × (y : List ℕ) × K p x y
+  walks_last from [] K t v g = (from, t, v, g)
+  walks_last from (e ∷ es) K t v g = walks_last (e.at + length e.removed) es K g.t_rest g.u_rest g.rest
 
   both_meet : (s : State) (xs ys : List EditEntry) (t v : List ℕ) → Rest la lb s xs ys t v → take (common_len s) s.first_pending ≡ take (common_len s) s.second_pending
   both_meet s xs ys t v h =
@@ -164,17 +164,17 @@ module _ (la lb : ℕ) where
       let lb : length (take m s.second_pending) ≡ m = length-take-le m s.second_pending (omega arith) in
       let p = sym (append_assoc (take m s.first_pending) (drop m s.first_pending) h.mid_first) ∙ ap (λ (z : List ℕ). z ++ h.mid_first) (take-append-drop m s.first_pending) in
       let q = ap (λ (z : List ℕ). z ++ h.mid_second) (sym (take-append-drop m s.second_pending)) ∙ append_assoc (take m s.second_pending) (drop m s.second_pending) h.mid_second in
-      (fronts (take m s.first_pending) (take m s.second_pending) (drop m s.first_pending ++ h.mid_first) (drop m s.second_pending ++ h.mid_second) (sym (sym la) ∙ sym lb) (p ∙ h.same ∙ q)).0
+      (equal_prefixes (take m s.first_pending) (take m s.second_pending) (drop m s.first_pending ++ h.mid_first) (drop m s.second_pending ++ h.mid_second) (sym (sym la) ∙ sym lb) (p ∙ h.same ∙ q)).0
 
-  none_goes : (s : State) (xs ys : List EditEntry) (t v : List ℕ) → (take (common_len s) s.first_pending ≡ take (common_len s) s.second_pending → ⊥) → Means la lb s xs ys t v → ⊥
-  none_goes s xs ys t v differ h =
-      let g = goes_last 0 s.out (λ p. EditStep Forward p (edit s.at s.removed s.added) (Rest la lb s xs ys)) t v h in
+  none_walks : (s : State) (xs ys : List EditEntry) (t v : List ℕ) → (take (common_len s) s.first_pending ≡ take (common_len s) s.second_pending → ⊥) → Means la lb s xs ys t v → ⊥
+  none_walks s xs ys t v differ h =
+      let g = walks_last 0 s.out (λ p. EditStep Forward p (edit s.at s.removed s.added) (Rest la lb s xs ys)) t v h in
       differ (both_meet s xs ys g.3.t_rest g.3.u_rest g.3.rest)
 
   blocked : (a b : List EditEntry) (s : State) (xs ys : List EditEntry) → Kept a b s xs ys → (take (common_len s) s.first_pending ≡ take (common_len s) s.second_pending → ⊥) → (tail : List EditEntry) → AreDisjoint lb s.second_end tail → (b' : List EditEntry) → (k : Kept a b s xs ys) → b' ≡ k.taken ++ tail → AreComposable (as_list la a) (as_list lb b') → ⊥
   blocked a b s xs ys h differ tail p b' k e c =
       let both = both_from_turns la lb a b' c.0 c.1 c.2 c.3 c.4 in
-      none_goes s xs tail c.0 c.2 differ ((k.equivalent tail p).go c.0 c.2 (rw e at both))
+      none_walks s xs tail c.0 c.2 differ ((k.equivalent tail p).go c.0 c.2 (rw e at both))
 
   contradicts_at : (a b : List EditEntry) (s : State) (xs ys : List EditEntry) (k : Kept a b s xs ys) → (take (common_len s) s.first_pending ≡ take (common_len s) s.second_pending → ⊥) → LastOf a k.taken → IsContradiction (as_list la a) (as_list lb b) (length b - length ys - 1)
   contradicts_at a b s xs ys k differ l =
@@ -188,7 +188,7 @@ module _ (la lb : ℕ) where
       let first : take n b ≡ l.but_last = ap (take n) again ∙ take_at l.but_last (l.last ∷ ys) n nl in
       let with_last : take (n + 1) b ≡ k.taken = ap (take (n + 1)) whole ∙ take_at (l.but_last ++ l.last ∷ []) ys (n + 1) (omega arith) ∙ sym l.whole in
       let f = turns_from_both la lb a l.but_last l.passable.0 l.passable.1 l.passable.2 in
-      let placed_end : AreDisjoint lb s.second_end [] = let r = placed_room lb s.second_end ys k.sound.second_placed in omega arith in
+      let placed_end : AreDisjoint lb s.second_end [] = let r = placed_within lb s.second_end ys k.sound.second_placed in omega arith in
       let before : AreComposable (as_list la a) (as_list lb l.but_last) = (l.passable.0, f.0, l.passable.1, f.1, f.2) in
       record {
         in_range = omega arith;
@@ -245,18 +245,18 @@ module _ (la lb : ℕ) where
       let placed : AreDisjoint la 0 c = rw e (placed_longer (finish_edit s).at la 0 (finish_edit s).out (omega arith) h.done) in
       let alike = squashes a b c s r e in
       let w = some_text la 0 c placed in
-      let both = alike.back w.t w.u w.goes in
-      let l1 = lengths_go la 0 c w.t w.u w.goes in
-      let l2 = lengths_go la 0 a w.t both.mid_first both.first in
-      let l3 = lengths_go lb 0 b both.mid_second w.u both.second in
+      let both = alike.back w.t w.u w.walks_to in
+      let l1 = walk_lengths la 0 c w.t w.u w.walks_to in
+      let l2 = walk_lengths la 0 a w.t both.mid_first both.first in
+      let l3 = walk_lengths lb 0 b both.mid_second w.u both.second in
       let x1 = l1.0 in let x2 = l1.1 in let x3 = l3.0 in let x4 = l3.1 in
       let new = q.new in
-      let goes = turns_from_both la lb a b w.t w.u both in (
+      let walks_to = turns_from_both la lb a b w.t w.u both in (
         record { disjoint = placed; new = omega arith; old_fits = p.old_fits; new_fits = q.new_fits },
         record {
           lengths_match = follows;
           old_len_is = refl;
-          composable = (w.t, goes.0, w.u, goes.1, goes.2);
+          composable = (w.t, walks_to.0, w.u, walks_to.1, walks_to.2);
           equivalent = λ t v. (
             λ h. let len = h.len in turns_from_both la lb a b t v (alike.back t v (ends_from_same la 0 c t v (omega arith) (walks_from_transforms (as_list la c) t v h))),
             λ h. let g = same_from_ends la 0 c t v (alike.go t v (both_from_turns la lb a b t h.0 v h.1 h.2)) in let len = g.1 in transforms_from_walks (as_list la c) t v (omega arith) g.0,

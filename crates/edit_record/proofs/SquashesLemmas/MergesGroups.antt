@@ -39,22 +39,22 @@ abbrev group : (s : State) → Making s → Group
 group s g = record { from = g.begin; first = side s.has_first g.mid (length s.removed); second = side s.has_second s.second_end (length s.added) }
 
 -- what both lists become, where T gives the groups from this one on
-abbrev Comes : List EditEntry → List EditEntry → (Group → List Span → List Span → List Group) → (s : State) → Making s → List EditEntry → List EditEntry → Type 0
-Comes a b T s g xs ys = squashed_extents a b ≡ map extent_of s.out ++ group_extents g.old g.base (T (group s g) (added_spans s.first_end g.mid xs) (removed_spans ys))
+abbrev BecomesGroups : List EditEntry → List EditEntry → (Group → List Span → List Span → List Group) → (s : State) → Making s → List EditEntry → List EditEntry → Type 0
+BecomesGroups a b T s g xs ys = squashed_extents a b ≡ map extent_of s.out ++ group_extents g.old g.base (T (group s g) (added_spans s.first_end g.mid xs) (removed_spans ys))
 
 -- between two steps
 pub record Grouped (a b : List EditEntry) (s : State) (xs ys : List EditEntry) : Type 0 where
   pub making : Making s
   pub left : ℕ
   pub left_is : left ≡ length xs + length ys
-  pub shape : Comes a b (groups_of left) s making xs ys
+  pub shape : BecomesGroups a b (groups_of left) s making xs ys
 
 -- and where the next edit is made ready
 pub record GroupedReady (a b : List EditEntry) (r : Bool × State) (xs ys : List EditEntry) : Type 0 where
   pub making : Making r.1
   pub later : ℕ
   pub later_is : suc later ≡ length xs + length ys
-  pub shape : Comes a b (taking r.0 later) r.1 making xs ys
+  pub shape : BecomesGroups a b (taking r.0 later) r.1 making xs ys
 
 -- the edits with one more at their end
 put_extents : (out : List EditEntry) (e : EditEntry) (es : List Extent) (t : Bool) → map extent_of (cond t out (out ++ e ∷ [])) ++ es ≡ map extent_of out ++ cond t es (extent_of e ∷ es)
@@ -148,7 +148,7 @@ module _ (la lb : ℕ) (a b : List EditEntry) where
         shape ∙ ap (λ (es : List Extent). map extent_of s.out ++ es) first ∙ sym (put_extents s.out edit later ((length edit.removed == 0) && (length edit.added == 0)))
 
     -- and another begins after n bytes that both keep
-    opens : (first : Bool) (n later from : ℕ) → from ≡ g.mid + length s.second_pending + n → suc later ≡ length xs + length ys → Comes a b (λ g xs ys. g ∷ taking first later (empty_group from) xs ys) s g xs ys → AreDisjoint la (s.first_end + length s.second_pending) xs → AreDisjoint la (s.first_end + length s.second_pending + n) xs → GroupedReady a b (first, skip_kept n (finish_edit s)) xs ys
+    opens : (first : Bool) (n later from : ℕ) → from ≡ g.mid + length s.second_pending + n → suc later ≡ length xs + length ys → BecomesGroups a b (λ g xs ys. g ∷ taking first later (empty_group from) xs ys) s g xs ys → AreDisjoint la (s.first_end + length s.second_pending) xs → AreDisjoint la (s.first_end + length s.second_pending + n) xs → GroupedReady a b (first, skip_kept n (finish_edit s)) xs ys
     opens first n later from from_is later_is shape near far =
         let sl = length s.second_pending in
         let mid_is = g.mid_is in
@@ -185,7 +185,7 @@ module _ (la lb : ℕ) (a b : List EditEntry) where
       same_order (g.mid + (x.at - s.first_end)) y.at (leb a b) (λ t. let k = leb-true a b t in omega arith) (λ t. let k = leb-false a b t in omega arith)
 
   start_edit : (v : Bool) (xs ys : List EditEntry) (r : Bool × State) (n : ℕ) (s : State) (g : Making s) → MergeInvariant la lb s xs ys → OneIsDone s → AreDisjoint la (s.first_end + length s.second_pending) xs → AreDisjoint lb (s.second_end + length s.first_pending) ys → first_is_next (finish_edit s) xs ys ≡ v → suc n ≡ length xs + length ys
-      → Comes a b (λ h X Y. h ∷ cond v (taking true n (empty_group (next_start X)) X Y) (taking false n (empty_group (next_start Y)) X Y)) s g xs ys
+      → BecomesGroups a b (λ h X Y. h ∷ cond v (taking true n (empty_group (next_start X)) X Y) (taking false n (empty_group (next_start Y)) X Y)) s g xs ys
       → AreDisjoint la (cond {A = Bool × State} v (true, skip_kept (gap (finish_edit s).first_end xs) (finish_edit s)) (false, skip_kept (gap (finish_edit s).second_end ys) (finish_edit s))).1.first_end xs
       → GroupedReady a b (cond v (true, skip_kept (gap (finish_edit s).first_end xs) (finish_edit s)) (false, skip_kept (gap (finish_edit s).second_end ys) (finish_edit s))) xs ys
   start_edit true [] ys r n s g h one near far o left shape placed = absurd cc

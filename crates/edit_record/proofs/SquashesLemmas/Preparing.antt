@@ -5,7 +5,7 @@ use Rattle.std.proofs.lemmas.Bool.{leb-true, leb-false, eqb-true, and_parts}
 use Rattle.edit_record.specs.Lists.Pieces.{EditEntry}
 use Rattle.edit_record.specs.Lists.Validity.{AreDisjoint}
 use Rattle.edit_record.specs.Squashes.Inner.Merge.{State, finish_edit, skip_kept, reaches, gap, joins_first, joins_second, first_is_next, start_edit, prepare_next, MergeInvariant, OneIsDone, CanTakeFirst, CanTakeSecond, CanTake}
-use Rattle.edit_record.proofs.ListsLemmas.Placed.{placed_room}
+use Rattle.edit_record.proofs.ListsLemmas.Placed.{placed_within}
 use Rattle.edit_record.proofs.ListsLemmas.Parts.{placed_earlier}
 use Rattle.edit_record.proofs.ListsLemmas.Pairs.{Alike, alike_then}
 use Rattle.edit_record.proofs.SquashesLemmas.Soundness.{apart_first, apart_second, sound_closed, sound_skipped}
@@ -23,7 +23,7 @@ module _ (la lb : ℕ) where
   placed_first : (s : State) (e : EditEntry) (xs ys : List EditEntry) → MergeInvariant la lb s (e ∷ xs) ys → first_is_next s (e ∷ xs) ys ≡ true → length s.first_pending ≡ 0 → length s.second_pending ≡ 0 → AreDisjoint lb (s.second_end + (e.at - s.first_end)) ys
   placed_first s e xs [] h t za zb =
       let b = h.balance in let p = h.first_placed in let later = p.0.later in let within = p.0.within in
-      let r = placed_room la (e.at + length e.removed) xs p.1 in
+      let r = placed_within la (e.at + length e.removed) xs p.1 in
       omega arith
   placed_first s e xs (d ∷ ys) h t za zb =
       let l = leb-true (e.at - s.first_end) (d.at - s.second_end) t in
@@ -33,7 +33,7 @@ module _ (la lb : ℕ) where
   placed_second : (s : State) (xs : List EditEntry) (d : EditEntry) (ys : List EditEntry) → MergeInvariant la lb s xs (d ∷ ys) → first_is_next s xs (d ∷ ys) ≡ false → length s.first_pending ≡ 0 → length s.second_pending ≡ 0 → AreDisjoint la (s.first_end + (d.at - s.second_end)) xs
   placed_second s [] d ys h t za zb =
       let b = h.balance in let p = h.second_placed in let later = p.0.later in let within = p.0.within in
-      let r = placed_room lb (d.at + length d.removed) ys p.1 in
+      let r = placed_within lb (d.at + length d.removed) ys p.1 in
       omega arith
   placed_second s (e ∷ xs) d ys h t za zb =
       let l = leb-false (e.at - s.first_end) (d.at - s.second_end) t in

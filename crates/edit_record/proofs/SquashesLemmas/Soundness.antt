@@ -6,7 +6,7 @@ use Rattle.std.specs.Prelude.{◌==◌}
 use Rattle.edit_record.specs.Lists.Pieces.{EditEntry}
 use Rattle.edit_record.specs.Lists.Validity.{AreDisjoint}
 use Rattle.edit_record.specs.Squashes.Inner.Merge.{State, finish_edit, skip_kept, with_first, with_second, common_len, cancel_common, joins_first, joins_second, MergeInvariant, OneIsDone}
-use Rattle.edit_record.proofs.ListsLemmas.Placed.{placed_room}
+use Rattle.edit_record.proofs.ListsLemmas.Placed.{placed_within}
 use Rattle.edit_record.proofs.ListsLemmas.Parts.{placed_longer, placed_push}
 
 apart : (has : Bool) (n m k : ℕ) → (has ≡ false → m ≡ 0) → min n m ≡ 0 → (has && (eqb n 0 && leb k m)) ≡ false → m ≤ k
@@ -20,7 +20,7 @@ apart true n m k none one h =
 module _ (la lb : ℕ) where
   pub apart_first : (s : State) (xs ys : List EditEntry) → MergeInvariant la lb s xs ys → OneIsDone s → joins_first s xs ≡ false → AreDisjoint la (s.first_end + length s.second_pending) xs
   apart_first s [] ys h one away =
-      let p = h.first_placed in let r = placed_room lb s.second_end ys h.second_placed in let b = h.balance in
+      let p = h.first_placed in let r = placed_within lb s.second_end ys h.second_placed in let b = h.balance in
       omega (arith, p)
   apart_first s (e ∷ xs) ys h one away =
       let p = h.first_placed in
@@ -30,7 +30,7 @@ module _ (la lb : ℕ) where
 
   pub apart_second : (s : State) (xs ys : List EditEntry) → MergeInvariant la lb s xs ys → OneIsDone s → joins_second s ys ≡ false → AreDisjoint lb (s.second_end + length s.first_pending) ys
   apart_second s xs [] h one away =
-      let p = h.second_placed in let r = placed_room la s.first_end xs h.first_placed in let b = h.balance in
+      let p = h.second_placed in let r = placed_within la s.first_end xs h.first_placed in let b = h.balance in
       omega (arith, p)
   apart_second s xs (e ∷ ys) h one away =
       let p = h.second_placed in

@@ -4,7 +4,7 @@ use Rattle.edit_record.specs.declared.lists.direction.Direction.TheVariants.{For
 use Rattle.edit_record.specs.Lists.Pieces.{EditEntry, EditList}
 use Rattle.edit_record.specs.Lists.Inner.Walks.{Walks, SameRest}
 use Rattle.edit_record.specs.Lists.Inner.Exact.{walks_from_transforms}
-use Rattle.edit_record.proofs.ListsLemmas.Parts.{fronts}
+use Rattle.edit_record.proofs.ListsLemmas.Parts.{equal_prefixes}
 use Rattle.edit_record.specs.Squashes.Groups.{Extent, extent_of}
 use Rattle.edit_record.specs.Squashes.Squash.{IsSquash}
 
@@ -27,10 +27,10 @@ same_bytes (e ∷ es) (e' ∷ es') from t v x g k =
     let rl = ap (λ (y : Extent). y.removed) first in
     let al = ap (λ (y : Extent). y.added) first in
     let g_gap = g.gap in let k_gap = k.gap in
-    let old = fronts g.kept k.kept (e.removed ++ g.t_rest) (e'.removed ++ k.t_rest) (omega arith) (sym g.t_is ∙ k.t_is) in
-    let new = fronts g.kept k.kept (e.added ++ g.u_rest) (e'.added ++ k.u_rest) (omega arith) (sym g.u_is ∙ k.u_is) in
-    let removed = fronts e.removed e'.removed g.t_rest k.t_rest rl old.1 in
-    let added = fronts e.added e'.added g.u_rest k.u_rest al new.1 in
+    let old = equal_prefixes g.kept k.kept (e.removed ++ g.t_rest) (e'.removed ++ k.t_rest) (omega arith) (sym g.t_is ∙ k.t_is) in
+    let new = equal_prefixes g.kept k.kept (e.added ++ g.u_rest) (e'.added ++ k.u_rest) (omega arith) (sym g.u_is ∙ k.u_is) in
+    let removed = equal_prefixes e.removed e'.removed g.t_rest k.t_rest rl old.1 in
+    let added = equal_prefixes e.added e'.added g.u_rest k.u_rest al new.1 in
     let same = entry_same e e' at removed.0 added.0 in
     let rest = walks_at (e.at + length e.removed) (e'.at + length e'.removed) es' g.t_rest k.t_rest g.u_rest k.u_rest (ap (λ (y : Extent). y.at + y.removed) first) removed.1 added.1 k.rest in
     ap (λ y. y ∷ es) same ∙ ap (λ y. e' ∷ y) (same_bytes es es' (e.at + length e.removed) g.t_rest g.u_rest others g.rest rest)

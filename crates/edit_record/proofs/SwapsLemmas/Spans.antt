@@ -16,16 +16,16 @@ at_within zero x (y ∷ ys) h = omega arith
 at_within (suc i) x (y ∷ ys) h = omega (arith, at_within i x ys h)
 
 -- a member of what follows a first part
-pub at_behind : {X : Type 0} (i : ℕ) (x : X) (front xs : List X) → length front ≤ i → IsItem i x (front ++ xs) → IsItem (i - length front) x xs
-at_behind i x [] xs le h = subst (λ (k : ℕ). IsItem k x xs) (let e : i ≡ i - 0 = omega arith in e) h
-at_behind zero x (y ∷ front) xs le h = absurd (omega arith)
-at_behind (suc i) x (y ∷ front) xs le h =
-    let e : i - length front ≡ suc i - length (y ∷ front) = omega arith in
-    subst (λ (k : ℕ). IsItem k x xs) e (at_behind i x front xs (omega arith) h)
+pub item_after_prefix : {X : Type 0} (i : ℕ) (x : X) (leading xs : List X) → length leading ≤ i → IsItem i x (leading ++ xs) → IsItem (i - length leading) x xs
+item_after_prefix i x [] xs le h = subst (λ (k : ℕ). IsItem k x xs) (let e : i ≡ i - 0 = omega arith in e) h
+item_after_prefix zero x (y ∷ leading) xs le h = absurd (omega arith)
+item_after_prefix (suc i) x (y ∷ leading) xs le h =
+    let e : i - length leading ≡ suc i - length (y ∷ leading) = omega arith in
+    subst (λ (k : ℕ). IsItem k x xs) e (item_after_prefix i x leading xs (omega arith) h)
 
-pub at_first : {X : Type 0} (x : X) (front xs : List X) → IsItem (length front) x (front ++ x ∷ xs)
+pub at_first : {X : Type 0} (x : X) (leading xs : List X) → IsItem (length leading) x (leading ++ x ∷ xs)
 at_first x [] xs = refl
-at_first x (y ∷ front) xs = subst (λ (k : ℕ). IsItem k x (y ∷ front ++ x ∷ xs)) (let e : suc (length front) ≡ length (y ∷ front) = omega arith in e) (at_first x front xs)
+at_first x (y ∷ leading) xs = subst (λ (k : ℕ). IsItem k x (y ∷ leading ++ x ∷ xs)) (let e : suc (length leading) ≡ length (y ∷ leading) = omega arith in e) (at_first x leading xs)
 
 -- the spans of edits that are placed after `from` begin there or later
 pub removed_later : (n from : ℕ) (ys : List EditEntry) (k : ℕ) (x : Span) → AreDisjoint n from ys → IsItem k x (removed_spans ys) → from ≤ x.from
@@ -33,20 +33,20 @@ removed_later n from [] k x p h = absurd h
 removed_later n from (y ∷ ys) zero x p h = let later = p.0.later in let e = ap (λ (z : Span). z.from) h in omega arith
 removed_later n from (y ∷ ys) (suc k) x p h = let later = p.0.later in let i = removed_later n (y.at + length y.removed) ys k x p.1 h in omega arith
 
-pub removed_behind : (n from to : ℕ) (ys : List EditEntry) (k : ℕ) (x : Span) → AreDisjoint n from ys → StartsAfter to ys → IsItem k x (removed_spans ys) → to < x.from
-removed_behind n from to [] k x p b h = absurd h
-removed_behind n from to (y ∷ ys) zero x p b h = let e = ap (λ (z : Span). z.from) h in omega (arith, b)
-removed_behind n from to (y ∷ ys) (suc k) x p b h = let i = removed_later n (y.at + length y.removed) ys k x p.1 h in omega (arith, b)
+pub removed_after : (n from to : ℕ) (ys : List EditEntry) (k : ℕ) (x : Span) → AreDisjoint n from ys → StartsAfter to ys → IsItem k x (removed_spans ys) → to < x.from
+removed_after n from to [] k x p b h = absurd h
+removed_after n from to (y ∷ ys) zero x p b h = let e = ap (λ (z : Span). z.from) h in omega (arith, b)
+removed_after n from to (y ∷ ys) (suc k) x p b h = let i = removed_later n (y.at + length y.removed) ys k x p.1 h in omega (arith, b)
 
 pub added_later : (n old mid : ℕ) (xs : List EditEntry) (k : ℕ) (x : Span) → AreDisjoint n old xs → IsItem k x (added_spans old mid xs) → mid ≤ x.from
 added_later n old mid [] k x p h = absurd h
 added_later n old mid (e ∷ xs) zero x p h = let q = ap (λ (z : Span). z.from) h in omega arith
 added_later n old mid (e ∷ xs) (suc k) x p h = let i = added_later n (e.at + length e.removed) (mid + (e.at - old) + length e.added) xs k x p.1 h in omega arith
 
-pub added_behind : (n old mid to : ℕ) (xs : List EditEntry) (k : ℕ) (x : Span) → AreDisjoint n old xs → old ≤ to → StartsAfter to xs → IsItem k x (added_spans old mid xs) → mid + (to - old) < x.from
-added_behind n old mid to [] k x p le b h = absurd h
-added_behind n old mid to (e ∷ xs) zero x p le b h = let q = ap (λ (z : Span). z.from) h in omega (arith, b)
-added_behind n old mid to (e ∷ xs) (suc k) x p le b h = let i = added_later n (e.at + length e.removed) (mid + (e.at - old) + length e.added) xs k x p.1 h in omega (arith, b)
+pub added_after : (n old mid to : ℕ) (xs : List EditEntry) (k : ℕ) (x : Span) → AreDisjoint n old xs → old ≤ to → StartsAfter to xs → IsItem k x (added_spans old mid xs) → mid + (to - old) < x.from
+added_after n old mid to [] k x p le b h = absurd h
+added_after n old mid to (e ∷ xs) zero x p le b h = let q = ap (λ (z : Span). z.from) h in omega (arith, b)
+added_after n old mid to (e ∷ xs) (suc k) x p le b h = let i = added_later n (e.at + length e.removed) (mid + (e.at - old) + length e.added) xs k x p.1 h in omega (arith, b)
 
 -- they stay where they are while both texts are the same
 pub added_moved : (n old mid d : ℕ) (xs : List EditEntry) → AreDisjoint n (old + d) xs → added_spans (old + d) (mid + d) xs ≡ added_spans old mid xs
@@ -73,17 +73,17 @@ removed_all_later : (n from to : ℕ) (ys : List EditEntry) → to < from → Ar
 removed_all_later n from to [] lt p = tt
 removed_all_later n from to (y ∷ ys) lt p = let later = p.0.later in (omega (arith, lt), removed_all_later n (y.at + length y.removed) to ys (omega (arith, lt)) p.1)
 
-pub removed_all_behind : (n from to : ℕ) (ys : List EditEntry) → AreDisjoint n from ys → StartsAfter to ys → AllByRecursion (λ y. to < y.from) (removed_spans ys)
-removed_all_behind n from to [] p b = tt
-removed_all_behind n from to (y ∷ ys) p b = (b, removed_all_later n (y.at + length y.removed) to ys (omega (arith, b)) p.1)
+pub removed_all_after : (n from to : ℕ) (ys : List EditEntry) → AreDisjoint n from ys → StartsAfter to ys → AllByRecursion (λ y. to < y.from) (removed_spans ys)
+removed_all_after n from to [] p b = tt
+removed_all_after n from to (y ∷ ys) p b = (b, removed_all_later n (y.at + length y.removed) to ys (omega (arith, b)) p.1)
 
 added_all_later : (n old mid to : ℕ) (xs : List EditEntry) → to < mid → AreDisjoint n old xs → AllByRecursion (λ x. to < x.from) (added_spans old mid xs)
 added_all_later n old mid to [] lt p = tt
 added_all_later n old mid to (e ∷ xs) lt p = (omega (arith, lt), added_all_later n (e.at + length e.removed) (mid + (e.at - old) + length e.added) to xs (omega (arith, lt)) p.1)
 
-pub added_all_behind : (n old mid to bound : ℕ) (xs : List EditEntry) → old ≤ to → bound ≤ mid + (to - old) → AreDisjoint n old xs → StartsAfter to xs → AllByRecursion (λ x. bound < x.from) (added_spans old mid xs)
-added_all_behind n old mid to bound [] le b p h = tt
-added_all_behind n old mid to bound (e ∷ xs) le b p h = (omega (arith, b, h, le), added_all_later n (e.at + length e.removed) (mid + (e.at - old) + length e.added) bound xs (omega (arith, b, h, le)) p.1)
+pub added_all_after : (n old mid to bound : ℕ) (xs : List EditEntry) → old ≤ to → bound ≤ mid + (to - old) → AreDisjoint n old xs → StartsAfter to xs → AllByRecursion (λ x. bound < x.from) (added_spans old mid xs)
+added_all_after n old mid to bound [] le b p h = tt
+added_all_after n old mid to bound (e ∷ xs) le b p h = (omega (arith, b, h, le), added_all_later n (e.at + length e.removed) (mid + (e.at - old) + length e.added) bound xs (omega (arith, b, h, le)) p.1)
 
 -- sums over those that are before y, where all are
 pub before_all : (f : Span → ℕ) (y : Span) (xs : List Span) → AllByRecursion (λ x. span_end x < y.from) xs → sum_by (λ x. if is_before x y then f x else 0) xs ≡ sum_by f xs

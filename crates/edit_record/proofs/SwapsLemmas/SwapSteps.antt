@@ -11,9 +11,9 @@ use Rattle.edit_record.specs.Swaps.Swap.{IsItem, Meet, FirstMeeting, IsSwap, IsW
 use Rattle.std.specs.Prelude.{sum_by, Result, Ok, Err, IfErr}
 use Rattle.std.specs.List.{AllByRecursion}
 use Rattle.std.proofs.lemmas.List.Sums.{sum_by_push}
-use Rattle.edit_record.proofs.SwapsLemmas.Spans.{at_within, at_behind, at_first, removed_behind, added_behind, added_moved, before_or_same, all_map, all_push, removed_all_behind, added_all_behind, before_some, moved_push, same_sums}
-use Rattle.edit_record.proofs.ListsLemmas.Placed.{placed_room}
-use Rattle.edit_record.proofs.SwapsLemmas.SwapTrace.{left, placed_behind}
+use Rattle.edit_record.proofs.SwapsLemmas.Spans.{at_within, item_after_prefix, at_first, removed_after, added_after, added_moved, before_or_same, all_map, all_push, removed_all_after, added_all_after, before_some, moved_push, same_sums}
+use Rattle.edit_record.proofs.ListsLemmas.Placed.{placed_within}
+use Rattle.edit_record.proofs.SwapsLemmas.SwapTrace.{left, disjoint_from_later}
 use Rattle.edit_record.proofs.ListsLemmas.Composition.{both_from_turns, turns_from_both}
 
 -- the relation from the start, after what is done
@@ -67,13 +67,13 @@ second_is_next_done us vs p (x ∷ xs) [] = refl
 second_is_next_done us vs p [] (y ∷ ys) = refl
 second_is_next_done us vs p (x ∷ xs) (y ∷ ys) = refl
 
-behind_first : (s : State) (x : EditEntry) (xs ys : List EditEntry) → first_is_next s (x ∷ xs) ys ≡ true → StartsAfter (s.mid + (x.at - s.old) + length x.added) ys
-behind_first s x xs [] t = tt
-behind_first s x xs (y ∷ ys) t = let l = ltb-true ((x.at - s.old) + length x.added) (y.at - s.mid) t in omega arith
+starts_after_first : (s : State) (x : EditEntry) (xs ys : List EditEntry) → first_is_next s (x ∷ xs) ys ≡ true → StartsAfter (s.mid + (x.at - s.old) + length x.added) ys
+starts_after_first s x xs [] t = tt
+starts_after_first s x xs (y ∷ ys) t = let l = ltb-true ((x.at - s.old) + length x.added) (y.at - s.mid) t in omega arith
 
-behind_second : (s : State) (xs : List EditEntry) (y : EditEntry) (ys : List EditEntry) → second_is_next s xs (y ∷ ys) ≡ true → StartsAfter (s.old + (y.at - s.mid) + length y.removed) xs
-behind_second s [] y ys t = tt
-behind_second s (x ∷ xs) y ys t = let l = ltb-true ((y.at - s.mid) + length y.removed) (x.at - s.old) t in omega arith
+starts_after_second : (s : State) (xs : List EditEntry) (y : EditEntry) (ys : List EditEntry) → second_is_next s xs (y ∷ ys) ≡ true → StartsAfter (s.old + (y.at - s.mid) + length y.removed) xs
+starts_after_second s [] y ys t = tt
+starts_after_second s (x ∷ xs) y ys t = let l = ltb-true ((y.at - s.mid) + length y.removed) (x.at - s.old) t in omega arith
 
 whole_moved : (others all xs : List Span) (whole olds news : List EditEntry) → all ≡ xs → whole ≡ olds → AreRelocated others xs olds news → AreRelocated others all whole news
 whole_moved others all xs whole olds news e f h = rw (e, f) h
@@ -88,9 +88,9 @@ module _ (la lb ab rb : ℕ) (a b : List EditEntry) where
       → (i j : ℕ) → Meet (as_list la a) (as_list lb b) i j → (length u.done_firsts + 1 ≤ i) × (length u.done_seconds ≤ j)
   first_apart s x xs ys u beh i j m =
       let before = u.apart i j m in
-      let one : IsItem (i - length u.done_firsts) m.one (added_spans s.old s.mid (x ∷ xs)) = at_behind i m.one u.done_firsts (added_spans s.old s.mid (x ∷ xs)) before.0 (subst (λ (l : List Span). IsItem i m.one l) u.firsts_are m.one_is) in
-      let other : IsItem (j - length u.done_seconds) m.other (removed_spans ys) = at_behind j m.other u.done_seconds (removed_spans ys) before.1 (subst (λ (l : List Span). IsItem j m.other l) u.seconds_are m.other_is) in
-      let later = removed_behind lb s.mid (s.mid + (x.at - s.old) + length x.added) ys (j - length u.done_seconds) m.other u.fair.second_placed beh other in (
+      let one : IsItem (i - length u.done_firsts) m.one (added_spans s.old s.mid (x ∷ xs)) = item_after_prefix i m.one u.done_firsts (added_spans s.old s.mid (x ∷ xs)) before.0 (subst (λ (l : List Span). IsItem i m.one l) u.firsts_are m.one_is) in
+      let other : IsItem (j - length u.done_seconds) m.other (removed_spans ys) = item_after_prefix j m.other u.done_seconds (removed_spans ys) before.1 (subst (λ (l : List Span). IsItem j m.other l) u.seconds_are m.other_is) in
+      let later = removed_after lb s.mid (s.mid + (x.at - s.old) + length x.added) ys (j - length u.done_seconds) m.other u.fair.second_placed beh other in (
         elim (before_or_same (length u.done_firsts) i before.0) as (λ _. length u.done_firsts + 1 ≤ i) [
           | inl lt ↦ omega (arith, lt)
           | inr same ↦
@@ -104,23 +104,23 @@ module _ (la lb ab rb : ℕ) (a b : List EditEntry) where
         before.1,
       )
 
-  pub goes_first : (s : State) (xs ys : List EditEntry) (q : State × List EditEntry) → Under la lb ab rb a b s xs ys → first_is_next s xs ys ≡ true → q ≡ take_first s xs ys → Under la lb ab rb a b q.0 q.1 ys × (length q.1 < length xs)
-  goes_first s [] ys q u t e = absurd cc
-  goes_first s (x ∷ xs) ys q u t e =
+  pub under_take_first : (s : State) (xs ys : List EditEntry) (q : State × List EditEntry) → Under la lb ab rb a b s xs ys → first_is_next s xs ys ≡ true → q ≡ take_first s xs ys → Under la lb ab rb a b q.0 q.1 ys × (length q.1 < length xs)
+  under_take_first s [] ys q u t e = absurd cc
+  under_take_first s (x ∷ xs) ys q u t e =
       let f = u.fair in
       let p = f.first_placed in
       let later = p.0.later in
       let g = x.at - s.old in
       let n1 = f.mid_balance in let n2 = f.other_balance in
-      let room = placed_room la (x.at + length x.removed) xs p.1 in
-      let beh = behind_first s x xs ys t in
+      let within_len = placed_within la (x.at + length x.removed) xs p.1 in
+      let beh = starts_after_first s x xs ys t in
       let span : Span = record { from = s.mid + g; len = length x.added; other = length x.removed } in
       let done_len : length (u.done_firsts ++ span ∷ []) ≡ length u.done_firsts + 1 = length-append u.done_firsts (span ∷ []) in
       let so_far = u.firsts_done in
-      let all_behind : AllByRecursion (λ y. span_end span < y.from) (removed_spans ys) = removed_all_behind lb s.mid (span_end span) ys f.second_placed beh in
+      let all_following : AllByRecursion (λ y. span_end span < y.from) (removed_spans ys) = removed_all_after lb s.mid (span_end span) ys f.second_placed beh in
       let seconds_done : AllByRecursion (λ y. span_end y < span.from) u.done_seconds = all_map (λ y. AllByRecursion (λ z. span_end y < z.from) (added_spans s.old s.mid (x ∷ xs))) (λ y. span_end y < span.from) (λ y h. h.0) u.done_seconds u.seconds_before in
-      let lens = before_some (λ y. y.len) span (span_end span) (removed_spans b) u.done_seconds (removed_spans ys) u.seconds_are (omega arith) seconds_done all_behind in
-      let others = before_some (λ y. y.other) span (span_end span) (removed_spans b) u.done_seconds (removed_spans ys) u.seconds_are (omega arith) seconds_done all_behind in
+      let lens = before_some (λ y. y.len) span (span_end span) (removed_spans b) u.done_seconds (removed_spans ys) u.seconds_are (omega arith) seconds_done all_following in
+      let others = before_some (λ y. y.other) span (span_end span) (removed_spans b) u.done_seconds (removed_spans ys) u.seconds_are (omega arith) seconds_done all_following in
       let other_is = u.other_is in
       let mid_is = u.mid_is in
       let len_more = sum_by_push (λ z. z.len) u.done_firsts span in
@@ -132,7 +132,7 @@ module _ (la lb ab rb : ℕ) (a b : List EditEntry) where
             b_fits = f.b_fits;
             w_fits = f.w_fits;
             first_placed = p.1;
-            second_placed = placed_behind lb s.mid (s.mid + g + length x.added) ys f.second_placed beh (λ k. omega arith);
+            second_placed = disjoint_from_later lb s.mid (s.mid + g + length x.added) ys f.second_placed beh (λ k. omega arith);
             mid_balance = omega arith;
             other_balance = omega arith;
           };
@@ -149,7 +149,7 @@ module _ (la lb ab rb : ℕ) (a b : List EditEntry) where
           seconds_done = u.seconds_done;
           firsts_moved = moved_push (removed_spans b) u.done_firsts u.first_entries s.vs span x (relocate s.old x s.other) u.firsts_moved (record { at = omega (arith, lens, others, other_is); removed = refl; added = refl });
           seconds_moved = u.seconds_moved;
-          firsts_before = all_push (λ z. AllByRecursion (λ y. span_end z < y.from) (removed_spans ys)) u.done_firsts span u.firsts_before all_behind;
+          firsts_before = all_push (λ z. AllByRecursion (λ y. span_end z < y.from) (removed_spans ys)) u.done_firsts span u.firsts_before all_following;
           seconds_before = all_map (λ y. AllByRecursion (λ z. span_end y < z.from) (added_spans s.old s.mid (x ∷ xs))) (λ y. AllByRecursion (λ z. span_end y < z.from) (added_spans (x.at + length x.removed) (s.mid + g + length x.added) xs)) (λ y h. h.1) u.done_seconds u.seconds_before;
           mid_is = omega (arith, mid_is, len_more, other_more);
           other_is = omega (arith, other_is);
@@ -165,9 +165,9 @@ module _ (la lb ab rb : ℕ) (a b : List EditEntry) where
       let before = u.apart i j m in
       let q = u.fair.second_placed in
       let mid_le = q.0.later in
-      let one : IsItem (i - length u.done_firsts) m.one (added_spans s.old s.mid xs) = at_behind i m.one u.done_firsts (added_spans s.old s.mid xs) before.0 (subst (λ (l : List Span). IsItem i m.one l) u.firsts_are m.one_is) in
-      let other : IsItem (j - length u.done_seconds) m.other (removed_spans (y ∷ ys)) = at_behind j m.other u.done_seconds (removed_spans (y ∷ ys)) before.1 (subst (λ (l : List Span). IsItem j m.other l) u.seconds_are m.other_is) in
-      let later = added_behind la s.old s.mid (s.old + (y.at - s.mid) + length y.removed) xs (i - length u.done_firsts) m.one u.fair.first_placed (omega arith) beh one in (
+      let one : IsItem (i - length u.done_firsts) m.one (added_spans s.old s.mid xs) = item_after_prefix i m.one u.done_firsts (added_spans s.old s.mid xs) before.0 (subst (λ (l : List Span). IsItem i m.one l) u.firsts_are m.one_is) in
+      let other : IsItem (j - length u.done_seconds) m.other (removed_spans (y ∷ ys)) = item_after_prefix j m.other u.done_seconds (removed_spans (y ∷ ys)) before.1 (subst (λ (l : List Span). IsItem j m.other l) u.seconds_are m.other_is) in
+      let later = added_after la s.old s.mid (s.old + (y.at - s.mid) + length y.removed) xs (i - length u.done_firsts) m.one u.fair.first_placed (omega arith) beh one in (
         before.0,
         elim (before_or_same (length u.done_seconds) j before.1) as (λ _. length u.done_seconds + 1 ≤ j) [
           | inl lt ↦ omega (arith, lt)
@@ -181,30 +181,30 @@ module _ (la lb ab rb : ℕ) (a b : List EditEntry) where
         ],
       )
 
-  pub goes_second : (s : State) (xs ys : List EditEntry) (q : State × List EditEntry) → Under la lb ab rb a b s xs ys → second_is_next s xs ys ≡ true → q ≡ take_second s xs ys → Under la lb ab rb a b q.0 xs q.1 × (length q.1 < length ys)
-  goes_second s xs [] q u t e = absurd cc
-  goes_second s xs (y ∷ ys) q u t e =
+  pub under_take_second : (s : State) (xs ys : List EditEntry) (q : State × List EditEntry) → Under la lb ab rb a b s xs ys → second_is_next s xs ys ≡ true → q ≡ take_second s xs ys → Under la lb ab rb a b q.0 xs q.1 × (length q.1 < length ys)
+  under_take_second s xs [] q u t e = absurd cc
+  under_take_second s xs (y ∷ ys) q u t e =
       let f = u.fair in
       let p = f.second_placed in
       let later = p.0.later in
       let g = y.at - s.mid in
       let n1 = f.mid_balance in let n2 = f.other_balance in
-      let room = placed_room lb (y.at + length y.removed) ys p.1 in
-      let beh = behind_second s xs y ys t in
+      let within_len = placed_within lb (y.at + length y.removed) ys p.1 in
+      let beh = starts_after_second s xs y ys t in
       let span : Span = record { from = y.at; len = length y.removed; other = length y.added } in
       let done_len : length (u.done_seconds ++ span ∷ []) ≡ length u.done_seconds + 1 = length-append u.done_seconds (span ∷ []) in
       let so_far = u.seconds_done in
-      let firsts_placed : AreDisjoint la (s.old + g + length y.removed) xs = placed_behind la s.old (s.old + g + length y.removed) xs f.first_placed beh (λ k. let r0 = ap removed_len k in let a0 = ap added_len k in omega arith) in
+      let firsts_placed : AreDisjoint la (s.old + g + length y.removed) xs = disjoint_from_later la s.old (s.old + g + length y.removed) xs f.first_placed beh (λ k. let r0 = ap removed_len k in let a0 = ap added_len k in omega arith) in
       let old_is : s.old + g + length y.removed ≡ s.old + (g + length y.removed) = omega arith in
       let mid_is : s.mid + (g + length y.removed) ≡ y.at + length y.removed = omega arith in
       let spans_same : added_spans (s.old + g + length y.removed) (y.at + length y.removed) xs ≡ added_spans s.old s.mid xs =
       ap (λ (o : ℕ). added_spans o (y.at + length y.removed) xs) old_is ∙ ap (λ (m : ℕ). added_spans (s.old + (g + length y.removed)) m xs) (sym mid_is)
       ∙ added_moved la s.old s.mid (g + length y.removed) xs (subst (λ (o : ℕ). AreDisjoint la o xs) old_is firsts_placed) in
-      let all_behind : AllByRecursion (λ z. span_end span < z.from) (added_spans s.old s.mid xs) = added_all_behind la s.old s.mid (s.old + g + length y.removed) (span_end span) xs (omega arith) (omega arith) f.first_placed beh in
-      let all_later : AllByRecursion (λ z. span_end span < z.from) (added_spans (s.old + g + length y.removed) (y.at + length y.removed) xs) = subst (λ (l : List Span). AllByRecursion (λ z. span_end span < z.from) l) (sym spans_same) all_behind in
+      let all_following : AllByRecursion (λ z. span_end span < z.from) (added_spans s.old s.mid xs) = added_all_after la s.old s.mid (s.old + g + length y.removed) (span_end span) xs (omega arith) (omega arith) f.first_placed beh in
+      let all_later : AllByRecursion (λ z. span_end span < z.from) (added_spans (s.old + g + length y.removed) (y.at + length y.removed) xs) = subst (λ (l : List Span). AllByRecursion (λ z. span_end span < z.from) l) (sym spans_same) all_following in
       let firsts_done : AllByRecursion (λ x. span_end x < span.from) u.done_firsts = all_map (λ x. AllByRecursion (λ z. span_end x < z.from) (removed_spans (y ∷ ys))) (λ x. span_end x < span.from) (λ x h. h.0) u.done_firsts u.firsts_before in
-      let lens = before_some (λ x. x.len) span (span_end span) (added_spans 0 0 a) u.done_firsts (added_spans s.old s.mid xs) u.firsts_are (omega arith) firsts_done all_behind in
-      let others = before_some (λ x. x.other) span (span_end span) (added_spans 0 0 a) u.done_firsts (added_spans s.old s.mid xs) u.firsts_are (omega arith) firsts_done all_behind in
+      let lens = before_some (λ x. x.len) span (span_end span) (added_spans 0 0 a) u.done_firsts (added_spans s.old s.mid xs) u.firsts_are (omega arith) firsts_done all_following in
+      let others = before_some (λ x. x.other) span (span_end span) (added_spans 0 0 a) u.done_firsts (added_spans s.old s.mid xs) u.firsts_are (omega arith) firsts_done all_following in
       let mid_by = u.mid_is in
       let other_is = u.other_is in
       let len_more = sum_by_push (λ z. z.len) u.done_seconds span in
@@ -248,7 +248,7 @@ module _ (la lb ab rb : ℕ) (a b : List EditEntry) where
   under_start s lc p q e1 e2 is =
       let n = p.new in let m = q.new in
       let lf = p.old_fits in let mf = q.old_fits in let cf = q.new_fits in
-      let r = placed_room lb 0 b q.disjoint in
+      let r = placed_within lb 0 b q.disjoint in
       rw is (record {
         fair = record { a_fits = omega arith; b_fits = omega arith; w_fits = omega arith; first_placed = p.disjoint; second_placed = q.disjoint; mid_balance = omega arith; other_balance = omega arith };
         swaps = λ ms us vs h. record { moves = ms; swaps = h };
@@ -362,14 +362,14 @@ module _ (la lb ab rb : ℕ) (a b : List EditEntry) where
   pass_one p [] ys q h t e = absurd cc
   pass_one p (x ∷ xs) ys q h t e =
       let s : State = with_edits h.0 h.1 p in
-      let g = goes_first s (x ∷ xs) ys (take_first s (x ∷ xs) ys) h.2 (first_is_next_done h.0 h.1 p (x ∷ xs) ys ∙ t) refl in
+      let g = under_take_first s (x ∷ xs) ys (take_first s (x ∷ xs) ys) h.2 (first_is_next_done h.0 h.1 p (x ∷ xs) ys ∙ t) refl in
       subst (λ (z : State × List EditEntry). Passed la lb ab rb a b z.0 z.1 ys × (length z.1 < length (x ∷ xs))) (sym e) ((h.0, h.1 ++ relocate p.old x p.other ∷ [], g.0), g.1)
 
   pub pass_other : (p : State) (xs ys : List EditEntry) (q : State × List EditEntry) → Passed la lb ab rb a b p xs ys → second_is_next p xs ys ≡ true → q ≡ skip_second p ys → Passed la lb ab rb a b q.0 xs q.1 × (length q.1 < length ys)
   pass_other p xs [] q h t e = absurd cc
   pass_other p xs (y ∷ ys) q h t e =
       let s : State = with_edits h.0 h.1 p in
-      let g = goes_second s xs (y ∷ ys) (take_second s xs (y ∷ ys)) h.2 (second_is_next_done h.0 h.1 p xs (y ∷ ys) ∙ t) refl in
+      let g = under_take_second s xs (y ∷ ys) (take_second s xs (y ∷ ys)) h.2 (second_is_next_done h.0 h.1 p xs (y ∷ ys) ∙ t) refl in
       subst (λ (z : State × List EditEntry). Passed la lb ab rb a b z.0 xs z.1 × (length z.1 < length (y ∷ ys))) (sym e) ((h.0 ++ relocate p.mid y p.old ∷ [], h.1, g.0), g.1)
 
 -- ---- the sums of the code
@@ -383,8 +383,8 @@ fits_first s x xs ys zs h e =
     let f = h.4 in
     let p = rw e at f.first_placed in
     let later = p.0.later in
-    let room = placed_room h.0 (x.at + length x.removed) xs p.1 in
-    let r2 = placed_room h.1 s.mid ys f.second_placed in
+    let within_len = placed_within h.0 (x.at + length x.removed) xs p.1 in
+    let r2 = placed_within h.1 s.mid ys f.second_placed in
     let n1 = rw e at f.mid_balance in let n2 = f.other_balance in
     let a = f.a_fits in let b = f.b_fits in let w = f.w_fits in
     record { one = omega arith; two = omega arith }
@@ -394,8 +394,8 @@ fits_second s xs y ys zs h e =
     let f = h.4 in
     let p = rw e at f.second_placed in
     let later = p.0.later in
-    let room = placed_room h.1 (y.at + length y.removed) ys p.1 in
-    let r2 = placed_room h.0 s.old xs f.first_placed in
+    let within_len = placed_within h.1 (y.at + length y.removed) ys p.1 in
+    let r2 = placed_within h.0 s.old xs f.first_placed in
     let n1 = f.mid_balance in let n2 = rw e at f.other_balance in
     let a = f.a_fits in let b = f.b_fits in let w = f.w_fits in
     record { one = omega arith; two = omega arith }

@@ -3,7 +3,7 @@ use Rattle.std.proofs.Common.{◌≡◌, ℕ, ◌+◌, ◌-◌, ◌≤◌, List,
 use Rattle.edit_record.specs.Lists.Pieces.{EditEntry, removed_len, added_len}
 use Rattle.edit_record.specs.Lists.Validity.{AreDisjoint}
 use Rattle.edit_record.specs.Swaps.Inner.SwapState.{StartsAfter, relocate, IsSwapTrace}
-use Rattle.edit_record.proofs.ListsLemmas.Placed.{placed_room}
+use Rattle.edit_record.proofs.ListsLemmas.Placed.{placed_within}
 use Rattle.edit_record.proofs.ListsLemmas.Parts.{placed_earlier}
 use Rattle.edit_record.proofs.ListsLemmas.Pairs.{Both, Moved, Passes, passes_first, passes_second, passes_first_left, passes_second_left, Skips, skips, Alike}
 
@@ -15,7 +15,7 @@ record Via (g : ℕ) (r n : List ℕ) (K L : List ℕ → List ℕ → Type 0) :
 via : (la lb g : ℕ) (r n : List ℕ) (K M L : List ℕ → List ℕ → Type 0) → Skips la lb g K M → Passes r n M L → Via g r n K L
 via la lb g r n K M L s p = record {
   go = λ t v h.
-      let x = s.skip_go t v h in
+      let x = s.skip_moves t v h in
       let y = p.go x.2.t_rest x.2.v_rest x.2.rest in (
         x.0,
         x.1,
@@ -93,9 +93,9 @@ at_nil la lb lw old mid other p b d = record {
       record { mid_first = t; mid_second = t; same = refl; first = (refl, l); second = (f.0 ∙ h.same ∙ h.second.0, omega arith) };
 }
 
-pub placed_behind : (n from to : ℕ) (ys : List EditEntry) → AreDisjoint n from ys → StartsAfter to ys → (ys ≡ [] → to ≤ n) → AreDisjoint n to ys
-placed_behind n from to [] p b f = f refl
-placed_behind n from to (e ∷ ys) p b f = (record { later = omega (arith, b); within = p.0.within; some = p.0.some }, p.1)
+pub disjoint_from_later : (n from to : ℕ) (ys : List EditEntry) → AreDisjoint n from ys → StartsAfter to ys → (ys ≡ [] → to ≤ n) → AreDisjoint n to ys
+disjoint_from_later n from to [] p b f = f refl
+disjoint_from_later n from to (e ∷ ys) p b f = (record { later = omega (arith, b); within = p.0.within; some = p.0.some }, p.1)
 
 module _ (la lb lw : ℕ) where
   step_a : (old mid other : ℕ) (x : EditEntry) (xs ys us vs : List EditEntry) → AreDisjoint la old (x ∷ xs) → AreDisjoint lb mid ys → AreDisjoint lb (mid + (x.at - old) + length x.added) ys
@@ -105,7 +105,7 @@ module _ (la lb lw : ℕ) where
       let g = x.at - old in
       let v = relocate old x other in
       let e : old + (x.at - old) ≡ x.at = omega arith in
-      let r = placed_room lw (other + g + length x.removed) vs h.vs_placed in
+      let r = placed_within lw (other + g + length x.removed) vs h.vs_placed in
       let pa : AreDisjoint la (old + g) (x ∷ xs) = (record { later = omega arith; within = within; some = some }, p.1) in
       let pb : AreDisjoint lb (mid + g) ys = placed_earlier lb (mid + g) (mid + g + length x.added) ys (omega arith) q' in
       let ua : AreDisjoint la (old + g) us = placed_earlier la (old + g) (x.at + length x.removed) us (omega arith) h.us_placed in
@@ -127,7 +127,7 @@ module _ (la lb lw : ℕ) where
       let g = y.at - mid in
       let u = relocate mid y old in
       let e : mid + (y.at - mid) ≡ y.at = omega arith in
-      let r = placed_room la (old + g + length y.removed) us h.us_placed in
+      let r = placed_within la (old + g + length y.removed) us h.us_placed in
       let pa : AreDisjoint la (old + g) xs = placed_earlier la (old + g) (old + g + length y.removed) xs (omega arith) p' in
       let pb : AreDisjoint lb (mid + g) (y ∷ ys) = (record { later = omega arith; within = within; some = some }, q.1) in
       let ua : AreDisjoint la (old + g) (u ∷ us) = (record { later = omega arith; within = omega arith; some = some }, h.us_placed) in
@@ -150,15 +150,15 @@ module _ (la lb lw : ℕ) where
   left (true ∷ ms) old mid other (x ∷ xs) ys us (v ∷ vs) s p q b d =
       let later = p.0.later in
       let g = x.at - old in
-      let room = placed_room la (x.at + length x.removed) xs p.1 in
-      let q' : AreDisjoint lb (mid + g + length x.added) ys = placed_behind lb mid (mid + g + length x.added) ys q s.1 (λ k. omega arith) in
+      let within_len = placed_within la (x.at + length x.removed) xs p.1 in
+      let q' : AreDisjoint lb (mid + g + length x.added) ys = disjoint_from_later lb mid (mid + g + length x.added) ys q s.1 (λ k. omega arith) in
       let h = left ms (x.at + length x.removed) (mid + g + length x.added) (other + g + length x.removed) xs ys us vs s.2 p.1 q' (omega arith) (omega arith) in
       rw s.0 (step_a old mid other x xs ys us vs p q q' h)
   left (false ∷ ms) old mid other xs (y ∷ ys) (u ∷ us) vs s p q b d =
       let later = q.0.later in
       let g = y.at - mid in
-      let room = placed_room lb (y.at + length y.removed) ys q.1 in
-      let p' : AreDisjoint la (old + g + length y.removed) xs = placed_behind la old (old + g + length y.removed) xs p s.1 (λ k. let r0 = ap removed_len k in let a0 = ap added_len k in omega arith) in
+      let within_len = placed_within lb (y.at + length y.removed) ys q.1 in
+      let p' : AreDisjoint la (old + g + length y.removed) xs = disjoint_from_later la old (old + g + length y.removed) xs p s.1 (λ k. let r0 = ap removed_len k in let a0 = ap added_len k in omega arith) in
       let h = left ms (old + g + length y.removed) (y.at + length y.removed) (other + g + length y.added) xs ys us vs s.2 p' q.1 (omega arith) (omega arith) in
       rw s.0 (step_b old mid other y xs ys us vs p p' q h)
   left [] old mid other [] [] [] (v ∷ vs) s p q b d = elim s [ ]

@@ -97,20 +97,20 @@ lines_ordered open_heredocs (p ∷ ps) h =
     rest : List Line
     rest = lines_from (heredocs_after open_heredocs p.kind) ps
 
-    front : AllOrdered rest → (n : ℕ) → n ≡ open_heredocs → ends_line open_heredocs p.kind ≡ false → nat_lt 0 n ≡ false → FirstOrdered p rest
-    front all zero e f g =
+    leading : AllOrdered rest → (n : ℕ) → n ≡ open_heredocs → ends_line open_heredocs p.kind ≡ false → nat_lt 0 n ≡ false → FirstOrdered p rest
+    leading all zero e f g =
         let none : heredocs_after open_heredocs p.kind ≡ 0 = still (sym e) f in
         subst (λ k. FirstOrdered p (lines_from k ps)) (sym none)
         (next_first p ps h.0 (subst (λ k. AllOrdered (lines_from k ps)) none all))
       where
         still : open_heredocs ≡ 0 → ends_line open_heredocs p.kind ≡ false → heredocs_after open_heredocs p.kind ≡ 0
         still z f = rw z (still_none p.kind (rw z at f))
-    front all (suc n) e f g = absurd (true≢false (sym (lt-ltb 0 (suc n) (omega arith)) ∙ g))
+    leading all (suc n) e f g = absurd (true≢false (sym (lt-ltb 0 (suc n) (omega arith)) ∙ g))
 
     by_end : AllOrdered rest → (b : Bool) → ends_line open_heredocs p.kind ≡ b
         → AllOrdered (if b then record { frozen = nat_lt 0 open_heredocs; pairs = p ∷ [] } ∷ rest else prepend_to_first (nat_lt 0 open_heredocs) p rest)
     by_end all true e = (λ f. (λ c. tt, tt), all)
-    by_end all false e = prepend_ordered (nat_lt 0 open_heredocs) p rest all (front all open_heredocs refl e)
+    by_end all false e = prepend_ordered (nat_lt 0 open_heredocs) p rest all (leading all open_heredocs refl e)
 
 -- ---- with other gaps too
 
@@ -171,9 +171,9 @@ first_before (p ∷ ps) n m h e c =
     comments : Option ℕ
     comments = index_of_first (λ (q : Pair). is_line_comment q.kind) ps
 
-    some_behind : (o : Option ℕ) → option_map suc o ≡ Some m → 0 < m
-    some_behind None x = absurd (cc)
-    some_behind (Some j) x = let b : suc j ≡ m = cc in omega (arith, b)
+    some_suc_positive : (o : Option ℕ) → option_map suc o ≡ Some m → 0 < m
+    some_suc_positive None x = absurd (cc)
+    some_suc_positive (Some j) x = let b : suc j ≡ m = cc in omega (arith, b)
 
     Less : Type 0
     Less = (i j : ℕ) → equals ≡ Some i → comments ≡ Some j → i < j
@@ -183,7 +183,7 @@ first_before (p ∷ ps) n m h e c =
         → (if b then Some 0 else option_map suc comments) ≡ Some m → n < m
     by_tests less true true s t x y = absurd (not_both p.kind s t)
     by_tests less true false s t x y =
-        let z : 0 ≡ n = cc in omega (arith, some_behind comments y, z)
+        let z : 0 ≡ n = cc in omega (arith, some_suc_positive comments y, z)
     by_tests less false true s t x y =
         let none : option_map suc equals ≡ None = ap (option_map suc) (none_equal ps (h.0 t)) in
         absurd (cc)

@@ -29,7 +29,7 @@ use Rattle.hcl_layout.specs.Gaps.Cells.{width, width_before, aligned}
 use Rattle.hcl_layout.specs.Gaps.Inner.Stages.{widths, greatest, lines_from, set_cell_gaps, cell_gaps_from_width, with_gaps, AreAtMost, SplitsLine, open_heredocs_of, cell_tokens}
 use Rattle.hcl_layout.proofs.GapsLemmas.TokensKept.{SameTokens}
 use Rattle.hcl_layout.proofs.GapsLemmas.CellGaps.{AreInLines, AreSmall, moved_gaps, greatest_within, within_drop, gaps_same, gaps_length, splits_same, same_range, assignment_same, comment_same}
-use Rattle.hcl_layout.proofs.GapsLemmas.LineLemmas.{turn, kind_is, spelling_is, range_split}
+use Rattle.hcl_layout.proofs.GapsLemmas.LineLemmas.{token_here, kind_is, spelling_is, range_split}
 use Rattle.hcl_layout.proofs.GapsLemmas.LineFlagLemmas.{none_later, quiet_comments}
 
 none_left : (pairs : List Pair) (i past : ℕ) → past ≤ i → slice_range pairs i past ≡ []
@@ -51,27 +51,27 @@ breaks_if : (p : Pair) (ps : List Pair) (c : Bool) → breaks_here p ≡ c → l
 breaks_if p ps true e = rw e refl
 breaks_if p ps false e = rw e refl
 
-breaks_turn : (pairs : List Pair) (i past : ℕ) (b : Bool) → i < past → past ≤ length pairs
+breaks_step : (pairs : List Pair) (i past : ℕ) (b : Bool) → i < past → past ≤ length pairs
     → Some b ≡ option_map (λ (p : Pair). is_inline_comment p.kind && list_any is_lf p.spelling) (slice_get pairs i) → breaks_from pairs i past ≡ (if b then true else breaks_from pairs (i + 1) past)
 unfolding breaks_from
-breaks_turn pairs i past b less within is =
-    let t = turn pairs i past less within in
+breaks_step pairs i past b less within is =
+    let t = token_here pairs i past less within in
     let same : breaks_here t.pair ≡ b = let e = is ∙ ap (option_map breaks_here) t.at in cc in
     ap (list_any breaks_here) t.range ∙ breaks_if t.pair (slice_range pairs (i + 1) past) b same
 
-pub breaks_goes : (pairs : List Pair) (i past : ℕ) (b : Bool) → i < past → past ≤ length pairs
+pub breaks_next : (pairs : List Pair) (i past : ℕ) (b : Bool) → i < past → past ≤ length pairs
     → Some b ≡ option_map (λ (p : Pair). is_inline_comment p.kind && list_any is_lf p.spelling) (slice_get pairs i) → b ≡ false → breaks_from pairs i past ≡ breaks_from pairs (i + 1) past
-breaks_goes pairs i past b less within is test = breaks_turn pairs i past b less within is ∙ ap (λ c. if c then true else breaks_from pairs (i + 1) past) test
+breaks_next pairs i past b less within is test = breaks_step pairs i past b less within is ∙ ap (λ c. if c then true else breaks_from pairs (i + 1) past) test
 
 pub breaks_found : (pairs : List Pair) (i past : ℕ) (b : Bool) → i < past → past ≤ length pairs
     → Some b ≡ option_map (λ (p : Pair). is_inline_comment p.kind && list_any is_lf p.spelling) (slice_get pairs i) → b ≡ true → breaks_from pairs i past ≡ true
-breaks_found pairs i past b less within is test = breaks_turn pairs i past b less within is ∙ ap (λ c. if c then true else breaks_from pairs (i + 1) past) test
+breaks_found pairs i past b less within is test = breaks_step pairs i past b less within is ∙ ap (λ c. if c then true else breaks_from pairs (i + 1) past) test
 
 -- one token
 pub commented : (pairs : List Pair) (i : ℕ) (k : Kind) (s : List ℕ) (b : Bool) → i < length pairs → Some k ≡ kind_of pairs i → Some s ≡ spelling_of pairs i → is_inline_comment k ≡ true → b ≡ list_any is_lf s
     → Some b ≡ option_map (λ (p : Pair). is_inline_comment p.kind && list_any is_lf p.spelling) (slice_get pairs i)
 commented pairs i k s b inside k_is s_is test b_is =
-    let t = turn pairs i (length pairs) inside (omega arith) in
+    let t = token_here pairs i (length pairs) inside (omega arith) in
     let here : breaks_here t.pair ≡ b =
     ap₂ (λ x y. is_inline_comment x && list_any is_lf y) (sym (kind_is pairs i (length pairs) k t k_is)) (sym (spelling_is pairs i (length pairs) s t s_is))
     ∙ ap (λ c. c && list_any is_lf s) test ∙ sym b_is in
@@ -80,7 +80,7 @@ commented pairs i k s b inside k_is s_is test b_is =
 pub uncommented : (pairs : List Pair) (i : ℕ) (k : Kind) → i < length pairs → Some k ≡ kind_of pairs i → is_inline_comment k ≡ false
     → Some false ≡ option_map (λ (p : Pair). is_inline_comment p.kind && list_any is_lf p.spelling) (slice_get pairs i)
 uncommented pairs i k inside k_is test =
-    let t = turn pairs i (length pairs) inside (omega arith) in
+    let t = token_here pairs i (length pairs) inside (omega arith) in
     let here : breaks_here t.pair ≡ false =
     ap (λ x. is_inline_comment x && list_any is_lf t.pair.spelling) (sym (kind_is pairs i (length pairs) k t k_is)) ∙ ap (λ c. c && list_any is_lf t.pair.spelling) test in
     sym (ap (option_map breaks_here) t.at ∙ ap Some here)
@@ -110,10 +110,10 @@ first_if : (test : Pair → Bool) (p : Pair) (ps : List Pair) (b : Bool) → tes
 first_if test p ps true e = rw e refl
 first_if test p ps false e = rw e refl
 
-pub found_goes : (cell : Cell) (pairs : List Pair) (i past : ℕ) (k : Kind) → i < past → past ≤ length pairs → Some k ≡ kind_of pairs i → starts_cell cell k ≡ false → found_from cell pairs i past ≡ found_from cell pairs (i + 1) past
+pub found_from_next : (cell : Cell) (pairs : List Pair) (i past : ℕ) (k : Kind) → i < past → past ≤ length pairs → Some k ≡ kind_of pairs i → starts_cell cell k ≡ false → found_from cell pairs i past ≡ found_from cell pairs (i + 1) past
 unfolding found_from
-found_goes cell pairs i past k less within is test =
-    let t = turn pairs i past less within in
+found_from_next cell pairs i past k less within is test =
+    let t = token_here pairs i past less within in
     let miss : starts_cell cell t.pair.kind ≡ false = ap (starts_cell cell) (sym (kind_is pairs i past k t is)) ∙ test in
     ap (λ ps. shift i (index_of_first (λ (p : Pair). starts_cell cell p.kind) ps)) t.range
     ∙ ap (shift i) (first_if (λ (p : Pair). starts_cell cell p.kind) t.pair (slice_range pairs (i + 1) past) false miss)
@@ -122,7 +122,7 @@ found_goes cell pairs i past k less within is test =
 pub found_here : (cell : Cell) (pairs : List Pair) (i past : ℕ) (k : Kind) → i < past → past ≤ length pairs → Some k ≡ kind_of pairs i → starts_cell cell k ≡ true → found_from cell pairs i past ≡ Some i
 unfolding found_from
 found_here cell pairs i past k less within is test =
-    let t = turn pairs i past less within in
+    let t = token_here pairs i past less within in
     let hit : starts_cell cell t.pair.kind ≡ true = ap (starts_cell cell) (sym (kind_is pairs i past k t is)) ∙ test in
     let zero_more : i + 0 ≡ i = omega arith in
     ap (λ ps. shift i (index_of_first (λ (p : Pair). starts_cell cell p.kind) ps)) t.range
@@ -137,7 +137,7 @@ pub found_begins : (cell : Cell) (pairs : List Pair) (at past m : ℕ) → at < 
     → found_from cell pairs m past ≡ option_map (λ n. at + n) (index_after_first (λ (p : Pair). starts_cell cell p.kind) (slice_range pairs at past))
 unfolding found_from
 found_begins cell pairs at past m less within e =
-    let t = turn pairs at past less within in
+    let t = token_here pairs at past less within in
     let rest : Option ℕ = index_of_first (λ (p : Pair). starts_cell cell p.kind) (slice_range pairs (at + 1) past) in
     ap (λ x. shift x (index_of_first (λ (p : Pair). starts_cell cell p.kind) (slice_range pairs x past))) e
     ∙ sym (shift_suc at (at + 1) rest refl)
@@ -153,13 +153,13 @@ same_sum n x y = grind (arith, nat_tests)
 pub balanced_after : (pairs : List Pair) (at i past opened closed : ℕ) (line : Bool) → at ≤ i → i ≤ past → opened ≡ openings (slice_range pairs at i) → closed ≡ closings (slice_range pairs at i) → opened ≡ closed
     → line ≡ is_balanced (slice_range pairs at past) → line ≡ is_balanced (slice_range pairs i past)
 balanced_after pairs at i past opened closed line later less opened_is closed_is same line_is =
-    let front : List Pair = slice_range pairs at i in
+    let leading : List Pair = slice_range pairs at i in
     let rest : List Pair = slice_range pairs i past in
     let whole = range_split pairs at i past later less in
-    let opens : openings (slice_range pairs at past) ≡ openings front + openings rest = ap openings whole ∙ sum_by-append (λ (p : Pair). cond (is_opening p.kind) 1 0) front rest in
-    let closes : closings (slice_range pairs at past) ≡ closings front + closings rest = ap closings whole ∙ sum_by-append (λ (p : Pair). cond (is_closing p.kind) 1 0) front rest in
-    let even : closings (slice_range pairs at past) ≡ openings front + closings rest = omega (arith, closes, opened_is, closed_is, same) in
-    line_is ∙ ap₂ (λ x y. x == y) opens even ∙ same_sum (openings front) (openings rest) (closings rest)
+    let opens : openings (slice_range pairs at past) ≡ openings leading + openings rest = ap openings whole ∙ sum_by-append (λ (p : Pair). cond (is_opening p.kind) 1 0) leading rest in
+    let closes : closings (slice_range pairs at past) ≡ closings leading + closings rest = ap closings whole ∙ sum_by-append (λ (p : Pair). cond (is_closing p.kind) 1 0) leading rest in
+    let even : closings (slice_range pairs at past) ≡ openings leading + closings rest = omega (arith, closes, opened_is, closed_is, same) in
+    line_is ∙ ap₂ (λ x y. x == y) opens even ∙ same_sum (openings leading) (openings rest) (closings rest)
 
 -- ---- the cell of a line
 
@@ -305,11 +305,11 @@ some_start cell ns ps at past f i size h later inside =
       sym (ap (option_map (λ n. at + n)) found ∙ ap Some sum),
     )
 
-pub narrow_start : (cell : Cell) (ns : List ℕ) (ps : List Pair) (at past : ℕ) (f : Bool) (i most : ℕ) → length ns ≡ length ps → Some i ≡ option_map (λ n. at + n) (cell_of cell (plain_line ps at past f))
+pub start_in_bounds : (cell : Cell) (ns : List ℕ) (ps : List Pair) (at past : ℕ) (f : Bool) (i most : ℕ) → length ns ≡ length ps → Some i ≡ option_map (λ n. at + n) (cell_of cell (plain_line ps at past f))
     → at < i → i < past → AreAtMost most (width_before (cell_of cell) (gapped_line ns ps at past f) ∷ []) → width (slice_range (with_gaps ns ps) at i) ≤ most
-narrow_start cell ns ps at past f i most size h later inside narrow =
+start_in_bounds cell ns ps at past f i most size h later inside widths_bounded =
     let same = (some_start cell ns ps at past f i size h later inside).0 in
-    (subst (λ o. AreAtMost most (o ∷ [])) (sym same) narrow).0
+    (subst (λ o. AreAtMost most (o ∷ [])) (sym same) widths_bounded).0
 
 -- ---- one line more
 
@@ -334,28 +334,28 @@ inside_one count (Some q) h = (h, tt)
 pub record StartsSoFar (cell : Cell) (ns : List ℕ) (ps : List Pair) (first at : ℕ) (f : Bool) (starts : List (Option CellStart)) : Type 0 where
   pub sizes : widths_of starts ++ widths (cell_of cell) (lines_from (open_heredocs_of f) (drop at (with_gaps ns ps))) ≡ widths (cell_of cell) (lines_from 0 (drop first (with_gaps ns ps)))
   pub numbers : tokens_in starts ++ cell_tokens at (cell_of cell) (lines_from (open_heredocs_of f) (drop at (with_gaps ns ps))) ≡ cell_tokens first (cell_of cell) (lines_from 0 (drop first (with_gaps ns ps)))
-  pub narrow : AreAtMost 1073741824 (widths (cell_of cell) (lines_from (open_heredocs_of f) (drop at (with_gaps ns ps))))
+  pub widths_bounded : AreAtMost 1073741824 (widths (cell_of cell) (lines_from (open_heredocs_of f) (drop at (with_gaps ns ps))))
   pub inside : AreInside (length ps) starts
 
-pub starts_narrow : (cell : Cell) (ns : List ℕ) (ps : List Pair) (first at : ℕ) (f : Bool) (starts : List (Option CellStart)) (past : ℕ) (next : Bool) → length ns ≡ length ps
+pub starts_bounded : (cell : Cell) (ns : List ℕ) (ps : List Pair) (first at : ℕ) (f : Bool) (starts : List (Option CellStart)) (past : ℕ) (next : Bool) → length ns ≡ length ps
     → SplitsLine ps at f past next → StartsSoFar cell ns ps first at f starts → AreAtMost 1073741824 (width_before (cell_of cell) (gapped_line ns ps at past f) ∷ [])
-starts_narrow cell ns ps first at f starts past next size split so_far =
+starts_bounded cell ns ps first at f starts past next size split so_far =
     let line = splits_same ps (with_gaps ns ps) at f past next (gaps_same ns ps size) (gaps_length ns ps size) split in
     let h : AreAtMost 1073741824 (width_before (cell_of cell) (gapped_line ns ps at past f) ∷ widths (cell_of cell) (lines_from (open_heredocs_of next) (drop past (with_gaps ns ps)))) =
-    subst (λ ls. AreAtMost 1073741824 (widths (cell_of cell) ls)) line so_far.narrow in
+    subst (λ ls. AreAtMost 1073741824 (widths (cell_of cell) ls)) line so_far.widths_bounded in
     (within_first 1073741824 (width_before (cell_of cell) (gapped_line ns ps at past f)) (widths (cell_of cell) (lines_from (open_heredocs_of next) (drop past (with_gaps ns ps)))) h).0
 
-pub starts_turn : (cell : Cell) (ns : List ℕ) (ps : List Pair) (first at : ℕ) (f : Bool) (starts more : List (Option CellStart)) (past : ℕ) (next : Bool) (p : Option CellStart) → length ns ≡ length ps
+pub starts_step : (cell : Cell) (ns : List ℕ) (ps : List Pair) (first at : ℕ) (f : Bool) (starts more : List (Option CellStart)) (past : ℕ) (next : Bool) (p : Option CellStart) → length ns ≡ length ps
     → SplitsLine ps at f past next → StartsSoFar cell ns ps first at f starts → more ≡ starts ++ p ∷ []
     → width_in p ≡ width_before (cell_of cell) (gapped_line ns ps at past f) → token_in p ≡ option_map (λ n. at + n) (cell_of cell (gapped_line ns ps at past f)) → IfSome p (λ q. q.token < length ps)
     → StartsSoFar cell ns ps first past next more
-starts_turn cell ns ps first at f starts more past next p size split so_far more_is w_is t_is inside =
+starts_step cell ns ps first at f starts more past next p size split so_far more_is w_is t_is inside =
     let G : List Pair = with_gaps ns ps in
     let rest : List Line = lines_from (open_heredocs_of next) (drop past G) in
     let line = splits_same ps G at f past next (gaps_same ns ps size) (gaps_length ns ps size) split in
     let all = gaps_length ns ps size in
     let len : at + length (slice_range G at past) ≡ past = omega (arith, length-take-le (past - at) (drop at G) (omega (arith, length-drop at G, split.more, split.within, all)), split.more) in
-    let h : AreAtMost 1073741824 (width_before (cell_of cell) (gapped_line ns ps at past f) ∷ widths (cell_of cell) rest) = subst (λ ls. AreAtMost 1073741824 (widths (cell_of cell) ls)) line so_far.narrow in
+    let h : AreAtMost 1073741824 (width_before (cell_of cell) (gapped_line ns ps at past f) ∷ widths (cell_of cell) rest) = subst (λ ls. AreAtMost 1073741824 (widths (cell_of cell) ls)) line so_far.widths_bounded in
     record {
       sizes =
           ap (λ (xs : List (Option CellStart)). widths_of xs ++ widths (cell_of cell) rest) more_is
@@ -371,7 +371,7 @@ starts_turn cell ns ps first at f starts more past next p size split so_far more
           ∙ ap₂ (λ t k. tokens_in starts ++ (t ∷ cell_tokens k (cell_of cell) rest)) t_is (sym len)
           ∙ ap (λ ls. tokens_in starts ++ cell_tokens at (cell_of cell) ls) (sym line)
           ∙ so_far.numbers;
-      narrow = (within_first 1073741824 (width_before (cell_of cell) (gapped_line ns ps at past f)) (widths (cell_of cell) rest) h).1;
+      widths_bounded = (within_first 1073741824 (width_before (cell_of cell) (gapped_line ns ps at past f)) (widths (cell_of cell) rest) h).1;
       inside = subst (λ (xs : List (Option CellStart)). AreInside (length ps) xs) (sym more_is) (inside_push (length ps) starts p so_far.inside (inside_one (length ps) p inside));
     }
 
@@ -464,7 +464,7 @@ pub aligned_gaps : (cell : Cell) (ps : List Pair) (first : ℕ) (ns new : List �
     → sizes ≡ widths (cell_of cell) (lines_from 0 (drop first (with_gaps ns ps))) → numbers ≡ cell_tokens first (cell_of cell) (lines_from 0 (drop first (with_gaps ns ps)))
     → AreAtMost 1073741824 (widths (cell_of cell) (lines_from 0 (drop first (with_gaps ns ps)))) → new ≡ set_cell_gaps ns numbers (cell_gaps_from_width (greatest sizes) sizes)
     → with_gaps new ps ≡ take first (with_gaps ns ps) ++ pairs_in (aligned (cell_of cell) (lines_from 0 (drop first (with_gaps ns ps))))
-aligned_gaps cell ps first ns new sizes numbers size fits sizes_is numbers_is narrow new_is =
+aligned_gaps cell ps first ns new sizes numbers size fits sizes_is numbers_is widths_bounded new_is =
     let G : List Pair = with_gaps ns ps in
     let lines : List Line = lines_from 0 (drop first G) in
     let ws : List (Option ℕ) = widths (cell_of cell) lines in
@@ -473,11 +473,11 @@ aligned_gaps cell ps first ns new sizes numbers size fits sizes_is numbers_is na
     let named : new ≡ set_cell_gaps ns (cell_tokens first (cell_of cell) lines) (cell_gaps_from_width (greatest ws) ws) =
     new_is ∙ ap₂ (λ (n : List (Option ℕ)) (s : List (Option ℕ)). set_cell_gaps ns n (cell_gaps_from_width (greatest s) s)) numbers_is sizes_is in
     ap (λ gs. with_gaps gs ps) named
-    ∙ moved_gaps ps (cell_of cell) (cell_gaps_from_width (greatest ws) ws) lines (take first G) first ns size at whole (cells_inside cell lines) (cell_gaps_small (greatest ws) ws (greatest_within 1073741824 ws narrow) narrow)
+    ∙ moved_gaps ps (cell_of cell) (cell_gaps_from_width (greatest ws) ws) lines (take first G) first ns size at whole (cells_inside cell lines) (cell_gaps_small (greatest ws) ws (greatest_within 1073741824 ws widths_bounded) widths_bounded)
     ∙ ap (λ (ls : List Line). take first G ++ pairs_in ls) (sym (aligned_is (cell_of cell) lines))
 
-pub first_after : (ps : List Pair) (first : ℕ) (front rest whole : List Pair) → length front ≡ first → whole ≡ front ++ rest → (take first whole ≡ front) × (drop first whole ≡ rest)
-first_after ps first front rest whole size is = (
-  ap (take first) is ∙ take_at front rest first size,
-  ap (drop first) is ∙ drop_at front rest first size,
+pub first_after : (ps : List Pair) (first : ℕ) (leading rest whole : List Pair) → length leading ≡ first → whole ≡ leading ++ rest → (take first whole ≡ leading) × (drop first whole ≡ rest)
+first_after ps first leading rest whole size is = (
+  ap (take first) is ∙ take_at leading rest first size,
+  ap (drop first) is ∙ drop_at leading rest first size,
 )

@@ -165,11 +165,11 @@ set_gap (n ∷ ns) [] i v h k = absurd (omega arith)
 set_gap (n ∷ ns) (p ∷ ps) zero v h k = ap (λ g. record p { gap = g } ∷ with_gaps ns ps) (meant v p.gap k)
 set_gap (n ∷ ns) (p ∷ ps) (suc i) v h k = ap (λ qs. record p { gap = resolved_gap n p.gap } ∷ qs) (set_gap ns ps i v (omega arith) k)
 
-gap_after : (front ps : List Pair) (n : ℕ) (gap : List ℕ) → with_gap (length front + n) gap (front ++ ps) ≡ front ++ with_gap n gap ps
+gap_after : (leading ps : List Pair) (n : ℕ) (gap : List ℕ) → with_gap (length leading + n) gap (leading ++ ps) ≡ leading ++ with_gap n gap ps
 gap_after [] ps n gap = let e : 0 + n ≡ n = omega arith in ap (λ k. with_gap k gap ps) e
-gap_after (p ∷ front) ps n gap =
-    let e : suc (length front) + n ≡ suc (length front + n) = omega arith in
-    ap (λ k. with_gap k gap (p ∷ front ++ ps)) e ∙ ap (λ qs. p ∷ qs) (gap_after front ps n gap)
+gap_after (p ∷ leading) ps n gap =
+    let e : suc (length leading) + n ≡ suc (length leading + n) = omega arith in
+    ap (λ k. with_gap k gap (p ∷ leading ++ ps)) e ∙ ap (λ qs. p ∷ qs) (gap_after leading ps n gap)
 
 gap_in : (ps rest : List Pair) (n : ℕ) (gap : List ℕ) → n < length ps → with_gap n gap (ps ++ rest) ≡ with_gap n gap ps ++ rest
 gap_in [] rest n gap h = absurd (omega arith)
@@ -192,16 +192,16 @@ AreSmall (None ∷ rs) = AreSmall rs
 AreSmall (Some r ∷ rs) = (r < KEEP_GAP) × AreSmall rs
 
 -- one line
-moved_one : (ps : List Pair) (ns : List ℕ) (front rest : List Pair) (at : ℕ) (found count : Option ℕ) (line : Line) → length ns ≡ length ps → at ≡ length front
-    → with_gaps ns ps ≡ front ++ (line.pairs ++ rest) → ((n : ℕ) → found ≡ Some n → n < length line.pairs) → AreSmall (count ∷ [])
-    → with_gaps (set_cell_gap ns (option_map (λ n. at + n) found) count) ps ≡ front ++ ((with_cell_gap found count line).pairs ++ rest)
-moved_one ps ns front rest at None count line size at_is whole inside small = whole
-moved_one ps ns front rest at (Some n) None line size at_is whole inside small = whole
-moved_one ps ns front rest at (Some n) (Some r) line size at_is whole inside small =
+moved_one : (ps : List Pair) (ns : List ℕ) (leading rest : List Pair) (at : ℕ) (found count : Option ℕ) (line : Line) → length ns ≡ length ps → at ≡ length leading
+    → with_gaps ns ps ≡ leading ++ (line.pairs ++ rest) → ((n : ℕ) → found ≡ Some n → n < length line.pairs) → AreSmall (count ∷ [])
+    → with_gaps (set_cell_gap ns (option_map (λ n. at + n) found) count) ps ≡ leading ++ ((with_cell_gap found count line).pairs ++ rest)
+moved_one ps ns leading rest at None count line size at_is whole inside small = whole
+moved_one ps ns leading rest at (Some n) None line size at_is whole inside small = whole
+moved_one ps ns leading rest at (Some n) (Some r) line size at_is whole inside small =
     set_gap ns ps (at + n) r size small.0
     ∙ ap₂ (λ k (qs : List Pair). with_gap (k + n) (spaces r) qs) at_is whole
-    ∙ gap_after front (line.pairs ++ rest) n (spaces r)
-    ∙ ap (λ qs. front ++ qs) (gap_in line.pairs rest n (spaces r) (inside n refl))
+    ∙ gap_after leading (line.pairs ++ rest) n (spaces r)
+    ∙ ap (λ qs. leading ++ qs) (gap_in line.pairs rest n (spaces r) (inside n refl))
 
 cell_gap_length : (ns : List ℕ) (t r : Option ℕ) → length (set_cell_gap ns t r) ≡ length ns
 cell_gap_length ns None r = refl
@@ -219,18 +219,18 @@ small_first (Some r) rs h = ((h.0, tt), h.1)
 
 -- What is before these lines, and the lines. Spaces before their cells, by the numbers of tokens,
 -- are those of the lines.
-pub moved_gaps : (ps : List Pair) (cell : Line → Option ℕ) (rs : List (Option ℕ)) (lines : List Line) (front : List Pair) (at : ℕ) (ns : List ℕ)
-    → length ns ≡ length ps → at ≡ length front → with_gaps ns ps ≡ front ++ pairs_in lines → AreInLines cell lines → AreSmall rs
-    → with_gaps (set_cell_gaps ns (cell_tokens at cell lines) rs) ps ≡ front ++ pairs_in (with_cell_gaps cell rs lines)
-moved_gaps ps cell [] [] front at ns size at_is whole inside small = whole
-moved_gaps ps cell (r ∷ rs) [] front at ns size at_is whole inside small = whole
-moved_gaps ps cell [] (line ∷ lines) front at ns size at_is whole inside small = whole
-moved_gaps ps cell (r ∷ rs) (line ∷ lines) front at ns size at_is whole inside small =
+pub moved_gaps : (ps : List Pair) (cell : Line → Option ℕ) (rs : List (Option ℕ)) (lines : List Line) (leading : List Pair) (at : ℕ) (ns : List ℕ)
+    → length ns ≡ length ps → at ≡ length leading → with_gaps ns ps ≡ leading ++ pairs_in lines → AreInLines cell lines → AreSmall rs
+    → with_gaps (set_cell_gaps ns (cell_tokens at cell lines) rs) ps ≡ leading ++ pairs_in (with_cell_gaps cell rs lines)
+moved_gaps ps cell [] [] leading at ns size at_is whole inside small = whole
+moved_gaps ps cell (r ∷ rs) [] leading at ns size at_is whole inside small = whole
+moved_gaps ps cell [] (line ∷ lines) leading at ns size at_is whole inside small = whole
+moved_gaps ps cell (r ∷ rs) (line ∷ lines) leading at ns size at_is whole inside small =
     let parts = small_first r rs small in
     let new : Line = with_cell_gap (cell line) r line in
-    let one = moved_one ps ns front (pairs_in lines) at (cell line) r line size at_is whole inside.0 parts.0 in
+    let one = moved_one ps ns leading (pairs_in lines) at (cell line) r line size at_is whole inside.0 parts.0 in
     let size' = cell_gap_length ns (option_map (λ n. at + n) (cell line)) r ∙ size in
     let len = moved_len (cell line) r line in
-    moved_gaps ps cell rs lines (front ++ new.pairs) (at + length line.pairs) (set_cell_gap ns (option_map (λ n. at + n) (cell line)) r) size'
-    (omega (arith, at_is, len, length-append front new.pairs)) (one ∙ sym (append_assoc front new.pairs (pairs_in lines))) inside.1 parts.1
-    ∙ append_assoc front new.pairs (pairs_in (with_cell_gaps cell rs lines))
+    moved_gaps ps cell rs lines (leading ++ new.pairs) (at + length line.pairs) (set_cell_gap ns (option_map (λ n. at + n) (cell line)) r) size'
+    (omega (arith, at_is, len, length-append leading new.pairs)) (one ∙ sym (append_assoc leading new.pairs (pairs_in lines))) inside.1 parts.1
+    ∙ append_assoc leading new.pairs (pairs_in (with_cell_gaps cell rs lines))

@@ -16,7 +16,7 @@ use Rattle.hcl_layout.proofs.GapsLemmas.SplitLaw.{lines_are}
 use Rattle.hcl_layout.proofs.GapsLemmas.TokensKept.{set_alike_lines, equals_alike, split_again}
 use Rattle.hcl_scan.specs.Tokenization.{IsTokenization}
 use Rattle.hcl_layout.proofs.GapsLemmas.Few.{few_tokens}
-use Rattle.hcl_layout.proofs.GapsLemmas.Narrow.{bytes_joining, bytes, bytes_drop, utf8_drop, base_lines_bounded, widths_within, aligned_narrow, within_more}
+use Rattle.hcl_layout.proofs.GapsLemmas.Narrow.{bytes_joining, bytes, bytes_drop, utf8_drop, base_lines_bounded, widths_within, aligned_within_width, within_more}
 
 lens_length : (s : List ℕ) (b : List Kind) (lines : List Line) → length (all_gap_lens s b lines) ≡ length (pairs_in lines)
 lens_length s b [] = refl
@@ -42,8 +42,8 @@ layout_first (p ∷ ps) = layout_first_if p ps (is_mark p.kind)
 -- ---- the first stage
 
 -- before it each gap stays
-pub kept_front : (ps : List Pair) (first : ℕ) (kept : List ℕ) → first ≤ length ps → kept ≡ replicate (length ps) KEEP_GAP → take first kept ≡ replicate first KEEP_GAP
-kept_front ps first kept fits is = ap (take first) is ∙ take-replicate first (length ps) KEEP_GAP fits
+pub prefix_unchanged : (ps : List Pair) (first : ℕ) (kept : List ℕ) → first ≤ length ps → kept ≡ replicate (length ps) KEEP_GAP → take first kept ≡ replicate first KEEP_GAP
+prefix_unchanged ps first kept fits is = ap (take first) is ∙ take-replicate first (length ps) KEEP_GAP fits
 
 pub first_size : (ps : List Pair) (first : ℕ) (gaps : List ℕ) → first ≤ length ps → gaps ≡ replicate first KEEP_GAP ++ all_gap_lens [] [] (lines_from 0 (drop first ps)) → length gaps ≡ length ps
 first_size ps first gaps fits is =
@@ -60,10 +60,10 @@ first_size ps first gaps fits is =
 pub first_stage : (ps : List Pair) (first : ℕ) (gaps : List ℕ) → first ≤ length ps → length ps ≤ 16777216 → gaps ≡ replicate first KEEP_GAP ++ all_gap_lens [] [] (lines_from 0 (drop first ps))
     → with_gaps gaps ps ≡ take first ps ++ pairs_in (format_lines [] [] (lines_from 0 (drop first ps)))
 first_stage ps first gaps fits few is =
-    let front : length (take first ps) ≡ first = length-take-le first ps fits in
-    let kept : with_gaps (replicate first KEEP_GAP) (take first ps) ≡ take first ps = ap (λ n. with_gaps (replicate n KEEP_GAP) (take first ps)) (sym front) ∙ gaps_kept (take first ps) in
+    let leading : length (take first ps) ≡ first = length-take-le first ps fits in
+    let kept : with_gaps (replicate first KEEP_GAP) (take first ps) ≡ take first ps = ap (λ n. with_gaps (replicate n KEEP_GAP) (take first ps)) (sym leading) ∙ gaps_kept (take first ps) in
     ap₂ with_gaps is (sym (take-append-drop first ps))
-    ∙ gaps_append (replicate first KEEP_GAP) (all_gap_lens [] [] (lines_from 0 (drop first ps))) (take first ps) (drop first ps) (length_replicate first KEEP_GAP ∙ sym front)
+    ∙ gaps_append (replicate first KEEP_GAP) (all_gap_lens [] [] (lines_from 0 (drop first ps))) (take first ps) (drop first ps) (length_replicate first KEEP_GAP ∙ sym leading)
     ∙ ap₂ (λ (x y : List Pair). x ++ y) kept (set_stage (drop first ps) (omega (arith, length-drop first ps, few)))
 
 -- ---- the cells
@@ -72,9 +72,9 @@ first_stage ps first gaps fits few is =
 pub record AreStages (ps : List Pair) (first : ℕ) (g0 g1 g2 : List ℕ) : Type 0 where
   pub zero_is : with_gaps g0 ps ≡ take first ps ++ pairs_in (format_lines [] [] (lines_from 0 (drop first ps)))
   pub one_is : drop first (with_gaps g1 ps) ≡ pairs_in (aligned assignment (lines_from 0 (drop first (with_gaps g0 ps))))
-  pub one_front : take first (with_gaps g1 ps) ≡ take first (with_gaps g0 ps)
+  pub one_prefix : take first (with_gaps g1 ps) ≡ take first (with_gaps g0 ps)
   pub two_is : drop first (with_gaps g2 ps) ≡ pairs_in (aligned closing_comment (lines_from 0 (drop first (with_gaps g1 ps))))
-  pub two_front : take first (with_gaps g2 ps) ≡ take first (with_gaps g1 ps)
+  pub two_prefix : take first (with_gaps g2 ps) ≡ take first (with_gaps g1 ps)
 
 pub zero_lines : (ps : List Pair) (first : ℕ) (g0 : List ℕ) → first ≤ length ps → with_gaps g0 ps ≡ take first ps ++ pairs_in (format_lines [] [] (lines_from 0 (drop first ps)))
     → lines_from 0 (drop first (with_gaps g0 ps)) ≡ format_lines [] [] (lines_from 0 (drop first ps))
@@ -99,23 +99,23 @@ stages_make ps g0 g1 g2 fits s =
     let oneth = one_lines ps first g0 g1 zeroth s.one_is in
     let body : drop first (with_gaps g2 ps) ≡ layout_body (drop first ps) =
     s.two_is ∙ ap (λ ls. pairs_in (aligned closing_comment ls)) oneth ∙ ap (λ (ls : List Line). pairs_in (layout_lines ls)) (sym (lines_are (drop first ps))) in
-    let front : take first (with_gaps g2 ps) ≡ take first ps =
-    s.two_front ∙ s.one_front ∙ ap (take first) s.zero_is ∙ take_at (take first ps) (pairs_in (format_lines [] [] (lines_from 0 (drop first ps)))) first (length-take-le first ps fits) in
-    sym (take-append-drop first (with_gaps g2 ps)) ∙ ap₂ (λ (x y : List Pair). x ++ y) front body ∙ sym (layout_first ps)
+    let leading : take first (with_gaps g2 ps) ≡ take first ps =
+    s.two_prefix ∙ s.one_prefix ∙ ap (take first) s.zero_is ∙ take_at (take first ps) (pairs_in (format_lines [] [] (lines_from 0 (drop first ps)))) first (length-take-le first ps fits) in
+    sym (take-append-drop first (with_gaps g2 ps)) ∙ ap₂ (λ (x y : List Pair). x ++ y) leading body ∙ sym (layout_first ps)
 
-pub zero_narrow : (ps : List Pair) (first : ℕ) (g0 : List ℕ) → AreUtf8 ps → length ps ≤ 16777216 → bytes ps ≤ 16777216 → lines_from 0 (drop first (with_gaps g0 ps)) ≡ format_lines [] [] (lines_from 0 (drop first ps))
+pub zero_within_width : (ps : List Pair) (first : ℕ) (g0 : List ℕ) → AreUtf8 ps → length ps ≤ 16777216 → bytes ps ≤ 16777216 → lines_from 0 (drop first (with_gaps g0 ps)) ≡ format_lines [] [] (lines_from 0 (drop first ps))
     → AreAtMost 1073741824 (widths assignment (lines_from 0 (drop first (with_gaps g0 ps))))
-zero_narrow ps first g0 u few short lines =
-    let narrow = base_lines_bounded (drop first ps) (utf8_drop first ps u) (omega (arith, length-drop first ps, few)) (omega (arith, bytes_drop first ps, short)) in
+zero_within_width ps first g0 u few short lines =
+    let widths_bounded = base_lines_bounded (drop first ps) (utf8_drop first ps u) (omega (arith, length-drop first ps, few)) (omega (arith, bytes_drop first ps, short)) in
     subst (λ ls. AreAtMost 1073741824 (widths assignment ls)) (sym lines)
-    (within_more 536870911 1073741824 (widths assignment (format_lines [] [] (lines_from 0 (drop first ps)))) (omega arith) (widths_within 536870911 assignment (format_lines [] [] (lines_from 0 (drop first ps))) narrow))
+    (within_more 536870911 1073741824 (widths assignment (format_lines [] [] (lines_from 0 (drop first ps)))) (omega arith) (widths_within 536870911 assignment (format_lines [] [] (lines_from 0 (drop first ps))) widths_bounded))
 
-pub one_narrow : (ps : List Pair) (first : ℕ) (g1 : List ℕ) → AreUtf8 ps → length ps ≤ 16777216 → bytes ps ≤ 16777216 → lines_from 0 (drop first (with_gaps g1 ps)) ≡ aligned assignment (format_lines [] [] (lines_from 0 (drop first ps)))
+pub one_within_width : (ps : List Pair) (first : ℕ) (g1 : List ℕ) → AreUtf8 ps → length ps ≤ 16777216 → bytes ps ≤ 16777216 → lines_from 0 (drop first (with_gaps g1 ps)) ≡ aligned assignment (format_lines [] [] (lines_from 0 (drop first ps)))
     → AreAtMost 1073741824 (widths closing_comment (lines_from 0 (drop first (with_gaps g1 ps))))
-one_narrow ps first g1 u few short lines =
+one_within_width ps first g1 u few short lines =
     let set : List Line = format_lines [] [] (lines_from 0 (drop first ps)) in
-    let narrow = base_lines_bounded (drop first ps) (utf8_drop first ps u) (omega (arith, length-drop first ps, few)) (omega (arith, bytes_drop first ps, short)) in
-    let moved = aligned_narrow 536870911 assignment set narrow in
+    let widths_bounded = base_lines_bounded (drop first ps) (utf8_drop first ps u) (omega (arith, length-drop first ps, few)) (omega (arith, bytes_drop first ps, short)) in
+    let moved = aligned_within_width 536870911 assignment set widths_bounded in
     subst (λ ls. AreAtMost 1073741824 (widths closing_comment ls)) (sym lines)
     (within_more (536870911 + (1 + 536870911)) 1073741824 (widths closing_comment (aligned assignment set)) (omega arith) (widths_within (536870911 + (1 + 536870911)) closing_comment (aligned assignment set) moved))
 

@@ -14,9 +14,9 @@ use Rattle.std.proofs.lemmas.List.Sums.{sum_by-cons}
 use Rattle.hcl_layout.proofs.GapsLemmas.GapLaw.{length_replicate}
 use Rattle.hcl_layout.proofs.GapsLemmas.CellGaps.{gaps_length}
 use Rattle.hcl_layout.proofs.GapsLemmas.LayoutPieces.{same_is}
-use Rattle.hcl_layout.proofs.GapsLemmas.LineLemmas.{turn, spelling_is, gap_is}
+use Rattle.hcl_layout.proofs.GapsLemmas.LineLemmas.{token_here, spelling_is, gap_is}
 use Rattle.hcl_layout.proofs.GapsLemmas.Narrow.{bytes_joining}
-use Rattle.hcl_layout.proofs.GapsLemmas.EditLemmas.{taken_more, text_turn, last_at}
+use Rattle.hcl_layout.proofs.GapsLemmas.EditLemmas.{taken_more, text_step, last_at}
 
 -- where the gap before token i begins
 pub reached : List Pair → ℕ → ℕ
@@ -24,16 +24,16 @@ reached ps i = length (whole_text (take i ps) [])
 
 -- ---- a range of a text in three pieces
 
-module _ (front piece rest : List ℕ) where
-  range_front : (a : ℕ) → a ≤ length front → slice_range (front ++ (piece ++ rest)) a (length front) ≡ drop a front
-  range_front a h =
-      ap (take (length front - a)) (drop-append-le a front (piece ++ rest) h)
-      ∙ take_at (drop a front) (piece ++ rest) (length front - a) (length-drop a front)
+module _ (leading piece rest : List ℕ) where
+  range_prefix : (a : ℕ) → a ≤ length leading → slice_range (leading ++ (piece ++ rest)) a (length leading) ≡ drop a leading
+  range_prefix a h =
+      ap (take (length leading - a)) (drop-append-le a leading (piece ++ rest) h)
+      ∙ take_at (drop a leading) (piece ++ rest) (length leading - a) (length-drop a leading)
 
-  range_more : (a : ℕ) → a ≤ length front → slice_range (front ++ (piece ++ rest)) a (length front + length piece) ≡ drop a front ++ piece
+  range_more : (a : ℕ) → a ≤ length leading → slice_range (leading ++ (piece ++ rest)) a (length leading + length piece) ≡ drop a leading ++ piece
   range_more a h =
-      ap (take (length front + length piece - a)) (drop-append-le a front (piece ++ rest) h ∙ sym (append_assoc (drop a front) piece rest))
-      ∙ take_at (drop a front ++ piece) rest (length front + length piece - a) (omega (arith, length-append (drop a front) piece, length-drop a front))
+      ap (take (length leading + length piece - a)) (drop-append-le a leading (piece ++ rest) h ∙ sym (append_assoc (drop a leading) piece rest))
+      ∙ take_at (drop a leading ++ piece) rest (length leading + length piece - a) (omega (arith, length-append (drop a leading) piece, length-drop a leading))
 
 -- ---- the text at token i
 
@@ -46,7 +46,7 @@ whole_append (x ∷ xs) ys last =
 module _ (ps : List Pair) (last : List ℕ) (i : ℕ) (g s : List ℕ) (inside : i < length ps) (g_is : Some g ≡ gap_of ps i) (s_is : Some s ≡ spelling_of ps i) where
   split : whole_text ps last ≡ whole_text (take i ps) [] ++ ((g ++ s) ++ whole_text (drop (i + 1) ps) last)
   split =
-      let t = turn ps i (length ps) inside (omega arith) in
+      let t = token_here ps i (length ps) inside (omega arith) in
       let rest : List ℕ = whole_text (drop (i + 1) ps) last in
       let here : whole_text (drop i ps) last ≡ g ++ (s ++ rest) =
       ap (λ (qs : List Pair). whole_text qs last) t.rest
@@ -58,44 +58,44 @@ module _ (ps : List Pair) (last : List ℕ) (i : ℕ) (g s : List ℕ) (inside :
   pub next : reached ps (i + 1) ≡ reached ps i + length (g ++ s)
   unfolding reached
   next =
-      let t = turn ps i (length ps) inside (omega arith) in
-      let front : List ℕ = whole_text (take i ps) [] in
-      let grown : whole_text (take (i + 1) ps) [] ≡ front ++ (g ++ (s ++ [])) =
+      let t = token_here ps i (length ps) inside (omega arith) in
+      let leading : List ℕ = whole_text (take i ps) [] in
+      let extended : whole_text (take (i + 1) ps) [] ≡ leading ++ (g ++ (s ++ [])) =
       ap (λ (qs : List Pair). whole_text qs []) (taken_more ps i t inside)
       ∙ whole_append (take i ps) (t.pair ∷ []) []
-      ∙ ap₂ (λ (x y : List ℕ). front ++ (x ++ (y ++ []))) (sym (gap_is ps i (length ps) g t g_is)) (sym (spelling_is ps i (length ps) s t s_is)) in
-      omega (arith, ap length grown, length-append front (g ++ (s ++ [])), length-append g (s ++ []), length-append s [], length-append g s)
+      ∙ ap₂ (λ (x y : List ℕ). leading ++ (x ++ (y ++ []))) (sym (gap_is ps i (length ps) g t g_is)) (sym (spelling_is ps i (length ps) s t s_is)) in
+      omega (arith, ap length extended, length-append leading (g ++ (s ++ [])), length-append g (s ++ []), length-append s [], length-append g s)
 
   module _ (source : List ℕ) (source_is : source ≡ whole_text ps last) where
     pub within : reached ps (i + 1) ≤ length source
     unfolding reached
     within =
-        let front : List ℕ = whole_text (take i ps) [] in
-        omega (arith, next, ap length source_is, ap length split, length-append front ((g ++ s) ++ whole_text (drop (i + 1) ps) last), length-append (g ++ s) (whole_text (drop (i + 1) ps) last))
+        let leading : List ℕ = whole_text (take i ps) [] in
+        omega (arith, next, ap length source_is, ap length split, length-append leading ((g ++ s) ++ whole_text (drop (i + 1) ps) last), length-append (g ++ s) (whole_text (drop (i + 1) ps) last))
 
     more : (a : ℕ) → a ≤ reached ps i → slice_range source a (reached ps (i + 1)) ≡ slice_range source a (reached ps i) ++ (g ++ s)
     unfolding reached
     more a h =
-        let front : List ℕ = whole_text (take i ps) [] in
+        let leading : List ℕ = whole_text (take i ps) [] in
         let rest : List ℕ = whole_text (drop (i + 1) ps) last in
-        let is : source ≡ front ++ ((g ++ s) ++ rest) = source_is ∙ split in
+        let is : source ≡ leading ++ ((g ++ s) ++ rest) = source_is ∙ split in
         ap₂ (λ (x : List ℕ) n. slice_range x a n) is next
-        ∙ range_more front (g ++ s) rest a h
-        ∙ ap (λ (x : List ℕ). x ++ (g ++ s)) (sym (range_front front (g ++ s) rest a h) ∙ ap (λ (x : List ℕ). slice_range x a (length front)) (sym is))
+        ∙ range_more leading (g ++ s) rest a h
+        ∙ ap (λ (x : List ℕ). x ++ (g ++ s)) (sym (range_prefix leading (g ++ s) rest a h) ∙ ap (λ (x : List ℕ). slice_range x a (length leading)) (sym is))
 
     alone : slice_range source (reached ps i + length g) (reached ps (i + 1)) ≡ s
     unfolding reached
     alone =
-        let front : List ℕ = whole_text (take i ps) [] in
+        let leading : List ℕ = whole_text (take i ps) [] in
         let rest : List ℕ = whole_text (drop (i + 1) ps) last in
-        let is : source ≡ (front ++ g) ++ (s ++ rest) =
-        source_is ∙ split ∙ ap (λ (x : List ℕ). front ++ x) (append_assoc g s rest) ∙ sym (append_assoc front g (s ++ rest)) in
-        let size : length front + length g ≡ length (front ++ g) = sym (length-append front g) in
-        let end : reached ps (i + 1) ≡ length (front ++ g) + length s = omega (arith, next, size, length-append g s) in
-        ap (λ (x : List ℕ). slice_range x (length front + length g) (reached ps (i + 1))) is
-        ∙ ap₂ (λ a n. slice_range ((front ++ g) ++ (s ++ rest)) a n) size end
-        ∙ range_more (front ++ g) s rest (length (front ++ g)) (omega arith)
-        ∙ ap (λ (x : List ℕ). x ++ s) (drop_all (length (front ++ g)) (front ++ g) (omega arith))
+        let is : source ≡ (leading ++ g) ++ (s ++ rest) =
+        source_is ∙ split ∙ ap (λ (x : List ℕ). leading ++ x) (append_assoc g s rest) ∙ sym (append_assoc leading g (s ++ rest)) in
+        let size : length leading + length g ≡ length (leading ++ g) = sym (length-append leading g) in
+        let end : reached ps (i + 1) ≡ length (leading ++ g) + length s = omega (arith, next, size, length-append g s) in
+        ap (λ (x : List ℕ). slice_range x (length leading + length g) (reached ps (i + 1))) is
+        ∙ ap₂ (λ a n. slice_range ((leading ++ g) ++ (s ++ rest)) a n) size end
+        ∙ range_more (leading ++ g) s rest (length (leading ++ g)) (omega arith)
+        ∙ ap (λ (x : List ℕ). x ++ s) (drop_all (length (leading ++ g)) (leading ++ g) (omega arith))
 
     -- ---- one token more: what is written, and copied up to it, with what is to come
 
@@ -106,10 +106,10 @@ module _ (ps : List Pair) (last : List ℕ) (i : ℕ) (g s : List ℕ) (inside :
       stays_on same =
           let rest : List ℕ = whole_text (drop (i + 1) (with_gaps ns ps)) [] in
           let before : List ℕ = slice_range source a (reached ps i) in
-          let come : whole_text (drop i (with_gaps ns ps)) [] ≡ g ++ (s ++ rest) =
-          text_turn ns ps i g s size inside g_is s_is ∙ ap (λ (x : List ℕ). x ++ (s ++ rest)) (sym (same_is g (resolved_gap (get_or ns i 0) g) same)) in
+          let edits_remain : whole_text (drop i (with_gaps ns ps)) [] ≡ g ++ (s ++ rest) =
+          text_step ns ps i g s size inside g_is s_is ∙ ap (λ (x : List ℕ). x ++ (s ++ rest)) (sym (same_is g (resolved_gap (get_or ns i 0) g) same)) in
           ap (λ (x : List ℕ). out ++ (x ++ rest)) (more a h)
-          ∙ ap (λ (x : List ℕ). out ++ x) (append_assoc before (g ++ s) rest ∙ ap (λ (x : List ℕ). before ++ x) (append_assoc g s rest ∙ sym come))
+          ∙ ap (λ (x : List ℕ). out ++ x) (append_assoc before (g ++ s) rest ∙ ap (λ (x : List ℕ). before ++ x) (append_assoc g s rest ∙ sym edits_remain))
           ∙ so_far
 
       pub changes : (copied new : List ℕ) → copied ≡ out ++ slice_range source a (reached ps i) → new ≡ copied ++ resolved_gap (get_or ns i 0) g
@@ -122,13 +122,13 @@ module _ (ps : List Pair) (last : List ℕ) (i : ℕ) (g s : List ℕ) (inside :
           ∙ ap (λ (x : List ℕ). x ++ (s ++ rest)) (second ∙ ap (λ (x : List ℕ). x ++ gap) first)
           ∙ append_assoc (out ++ before) gap (s ++ rest)
           ∙ append_assoc out before (gap ++ (s ++ rest))
-          ∙ ap (λ (x : List ℕ). out ++ (before ++ x)) (sym (text_turn ns ps i g s size inside g_is s_is))
+          ∙ ap (λ (x : List ℕ). out ++ (before ++ x)) (sym (text_step ns ps i g s size inside g_is s_is))
           ∙ so_far
 
 -- each token has a gap
 pub gap_there : (ps : List Pair) (i : ℕ) → i < length ps → (g : List ℕ) × (Some g ≡ gap_of ps i)
 gap_there ps i inside =
-    let t = turn ps i (length ps) inside (omega arith) in
+    let t = token_here ps i (length ps) inside (omega arith) in
     (t.pair.gap, sym (ap (option_map (λ (p : Pair). p.gap)) t.at))
 
 -- at the front nothing is written, and nothing is copied
@@ -139,7 +139,7 @@ nothing_yet source ps out whole none = ap (λ (x : List ℕ). x ++ (slice_range 
 -- each token has a spelling
 pub spelling_there : (ps : List Pair) (i : ℕ) → i < length ps → (s : List ℕ) × (Some s ≡ spelling_of ps i)
 spelling_there ps i inside =
-    let t = turn ps i (length ps) inside (omega arith) in
+    let t = token_here ps i (length ps) inside (omega arith) in
     (t.pair.spelling, sym (ap (option_map (λ (p : Pair). p.spelling)) t.at))
 
 -- one more gap that stays
@@ -157,15 +157,15 @@ module _ (ps : List Pair) (last source : List ℕ) (source_is : source ≡ whole
   pub stay_to : (n from to : ℕ) → to ≡ from + n → to ≤ length ps → AreUnchanged ps ns from to → a ≤ reached ps from
       → out ++ (slice_range source a (reached ps from) ++ whole_text (drop from (with_gaps ns ps)) []) ≡ whole
       → (a ≤ reached ps to) × (out ++ (slice_range source a (reached ps to) ++ whole_text (drop to (with_gaps ns ps)) []) ≡ whole)
-  stay_to zero from to e fits stay behind so_far =
+  stay_to zero from to e fits stay following so_far =
       let same : from ≡ to = omega arith in
-      (subst (λ i. a ≤ reached ps i) same behind, subst (λ i. out ++ (slice_range source a (reached ps i) ++ whole_text (drop i (with_gaps ns ps)) []) ≡ whole) same so_far)
-  stay_to (suc n) from to e fits stay behind so_far =
+      (subst (λ i. a ≤ reached ps i) same following, subst (λ i. out ++ (slice_range source a (reached ps i) ++ whole_text (drop i (with_gaps ns ps)) []) ≡ whole) same so_far)
+  stay_to (suc n) from to e fits stay following so_far =
       let inside : from < length ps = omega arith in
       let (g, g_is) = gap_there ps from inside in
       let (s, s_is) = spelling_there ps from inside in
-      let one = stays_on ps last from g s inside g_is s_is source source_is ns size a behind out whole so_far (stay from g (omega arith) (omega arith) g_is) in
-      let further : a ≤ reached ps (from + 1) = omega (arith, next ps last from g s inside g_is s_is, behind) in
+      let one = stays_on ps last from g s inside g_is s_is source source_is ns size a following out whole so_far (stay from g (omega arith) (omega arith) g_is) in
+      let further : a ≤ reached ps (from + 1) = omega (arith, next ps last from g s inside g_is s_is, following) in
       stay_to n (from + 1) to (omega arith) fits (λ k h later before h_is. stay k h (omega arith) before h_is) further one
 
 -- the places of a token
@@ -173,7 +173,7 @@ pub gap_place : (ps : List Pair) (i : ℕ) (item : Item) (g : List ℕ) → i < 
     → (item.gap_at ≡ reached ps i) × (item.start ≡ reached ps i + length g)
 unfolding reached
 gap_place ps i item g inside item_is g_is =
-    let t = turn ps i (length ps) inside (omega arith) in
+    let t = token_here ps i (length ps) inside (omega arith) in
     let e = item_is ∙ ap (option_map (λ (p : Pair). item_after (take i ps) p)) t.at in
     let f : item ≡ item_after (take i ps) t.pair = cc in (
       ap (λ (x : Item). x.gap_at) f,
@@ -198,7 +198,7 @@ all_copied ns ps last source i a out whole size h source_is so_far =
 -- a token by its places
 item_there : (ps : List Pair) (i : ℕ) (item : Item) → i < length ps → Some item ≡ item_of ps i → (p : Pair) × (Some p.gap ≡ gap_of ps i) × (Some p.spelling ≡ spelling_of ps i) × (item.start ≡ item.gap_at + length p.gap) × (item.stop ≡ item.start + length p.spelling)
 item_there ps i item inside item_is =
-    let t = turn ps i (length ps) inside (omega arith) in
+    let t = token_here ps i (length ps) inside (omega arith) in
     let e = item_is ∙ ap (option_map (λ (p : Pair). item_after (take i ps) p)) t.at in
     let f : item ≡ item_after (take i ps) t.pair = cc in
     let none = bytes_joining (take i ps) [] in
@@ -221,13 +221,13 @@ meant_len m a b c g s true h p q = rw h (omega (arith, p, q))
 meant_len m a b c g s false h p q = rw h (omega (arith, p, q, length_replicate m 32))
 
 -- one token more
-pub item_turn : (ns : List ℕ) (ps : List Pair) (i : ℕ) (item : Item) (n : ℕ) → length ns ≡ length ps → i < length ps → Some item ≡ item_of ps i → n ≡ resolved_len (get_or ns i 0) item
+pub item_step : (ns : List ℕ) (ps : List Pair) (i : ℕ) (item : Item) (n : ℕ) → length ns ≡ length ps → i < length ps → Some item ≡ item_of ps i → n ≡ resolved_len (get_or ns i 0) item
     → length (whole_text (drop i (with_gaps ns ps)) []) ≡ n + length (whole_text (drop (i + 1) (with_gaps ns ps)) [])
-item_turn ns ps i item n size inside item_is n_is =
+item_step ns ps i item n size inside item_is n_is =
     let (p, g, s, start, stop) = item_there ps i item inside item_is in
     let m : ℕ = get_or ns i 0 in
     let rest : List ℕ = whole_text (drop (i + 1) (with_gaps ns ps)) [] in
-    let whole = ap length (text_turn ns ps i p.gap p.spelling size inside g s) in
+    let whole = ap length (text_step ns ps i p.gap p.spelling size inside g s) in
     let len = meant_len m item.gap_at item.start item.stop p.gap p.spelling (m == KEEP_GAP) refl start stop in
     omega (arith, whole, len, n_is, length-append (resolved_gap m p.gap) (p.spelling ++ rest), length-append p.spelling rest)
 

@@ -14,7 +14,7 @@ use Rattle.hcl_layout.specs.Gaps.Kinds.{among, is_line_end, is_line_comment, is_
 use Rattle.hcl_layout.specs.Gaps.Space.{is_after_identifier, is_after_operand, is_splat_star}
 use Rattle.hcl_layout.specs.Gaps.Inner.Stages.{space_len, space_len_at}
 use Rattle.hcl_layout.specs.Gaps.Inner.SpacingFlags.{is_star, flags_after, flags_before}
-use Rattle.hcl_layout.proofs.GapsLemmas.LineLemmas.{turn, kind_is}
+use Rattle.hcl_layout.proofs.GapsLemmas.LineLemmas.{token_here, kind_is}
 use Rattle.hcl_layout.proofs.GapsLemmas.RowLemmas.{no_splat}
 
 -- the table, by what it asks of spellings and of the tokens before
@@ -76,8 +76,8 @@ flags_decide_pair before p q h g =
 pub flags_decide_space : (before : List Kind) (pairs : List Pair) (i : ℕ) (a b : Kind) → 0 < i → i < length pairs → Some a ≡ kind_of pairs (i - 1) → Some b ≡ kind_of pairs i
     → 0 < bit_and (flags_after a) (flags_before b) → 0 < bit_and (bit_and (flags_after a) (flags_before b)) 7 → Some 1 ≡ space_len_at before pairs i
 flags_decide_space before pairs i a b some within a_is b_is h g =
-    let s = turn pairs (i - 1) (length pairs) (omega arith) (omega arith) in
-    let t = turn pairs i (length pairs) within (omega arith) in
+    let s = token_here pairs (i - 1) (length pairs) (omega arith) (omega arith) in
+    let t = token_here pairs i (length pairs) within (omega arith) in
     let same = ap₂ flags_decide (kind_is pairs (i - 1) (length pairs) a s a_is) (kind_is pairs i (length pairs) b t b_is) in
     let len = flags_decide_pair before s.pair t.pair (subst (λ n. 0 < n) same h) (subst (λ n. 0 < bit_and n 7) same g) in
     sym (
@@ -103,8 +103,8 @@ flags_decide_no_pair before p q h g =
 pub flags_decide_no_space : (before : List Kind) (pairs : List Pair) (i : ℕ) (a b : Kind) → 0 < i → i < length pairs → Some a ≡ kind_of pairs (i - 1) → Some b ≡ kind_of pairs i
     → 0 < bit_and (flags_after a) (flags_before b) → bit_and (bit_and (flags_after a) (flags_before b)) 7 ≡ 0 → Some 0 ≡ space_len_at before pairs i
 flags_decide_no_space before pairs i a b some within a_is b_is h g =
-    let s = turn pairs (i - 1) (length pairs) (omega arith) (omega arith) in
-    let t = turn pairs i (length pairs) within (omega arith) in
+    let s = token_here pairs (i - 1) (length pairs) (omega arith) (omega arith) in
+    let t = token_here pairs i (length pairs) within (omega arith) in
     let same = ap₂ flags_decide (kind_is pairs (i - 1) (length pairs) a s a_is) (kind_is pairs i (length pairs) b t b_is) in
     let len = flags_decide_no_pair before s.pair t.pair (subst (λ n. 0 < n) same h) (subst (λ n. bit_and n 7 ≡ 0) same g) in
     sym (

@@ -12,7 +12,7 @@ use Rattle.hcl_token.specs.declared.item.Item.{Item}
 use Rattle.hcl_layout.specs.Gaps.Space.{spaces}
 use Rattle.hcl_layout.specs.Gaps.Inner.CodeViews.{AreSpaces}
 use Rattle.hcl_layout.specs.Gaps.Inner.Stages.{KEEP_GAP, resolved_gap, have_lengths, AreUnchanged}
-use Rattle.hcl_layout.proofs.GapsLemmas.LineLemmas.{turn, gap_is}
+use Rattle.hcl_layout.proofs.GapsLemmas.LineLemmas.{token_here, gap_is}
 use Rattle.hcl_layout.proofs.GapsLemmas.LayoutPieces.{same_self_bytes}
 use Rattle.hcl_layout.proofs.GapsLemmas.Narrow.{bytes_joining}
 use Rattle.hcl_layout.proofs.GapsLemmas.EditLemmas.{all_spaces}
@@ -38,7 +38,7 @@ same_gap g n h k = by_length g n (n == KEEP_GAP) h k
 pub gap_len_is : (ps : List Pair) (i : ℕ) (item : Item) → i < length ps → Some item ≡ item_of ps i
     → (item.gap_at ≤ item.start) × (Some (item.start - item.gap_at) ≡ option_map (λ (p : Pair). length p.gap) (slice_get ps i))
 gap_len_is ps i item inside is =
-    let t = turn ps i (length ps) inside (omega arith) in
+    let t = token_here ps i (length ps) inside (omega arith) in
     let same : item ≡ item_after (take i ps) t.pair = let e = is ∙ ap (option_map (λ (p : Pair). item_after (take i ps) p)) t.at in cc in
     let at : item.gap_at ≡ length (whole_text (take i ps) []) = ap (λ (x : Item). x.gap_at) same in
     let start : item.start ≡ length (whole_text (take i ps) t.pair.gap) = ap (λ (x : Item). x.start) same in
@@ -56,10 +56,10 @@ more_numbers ns i to less within =
     let count : to - i ≡ suc (to - (i + 1)) = omega arith in
     ap₂ (λ n (xs : List ℕ). take n xs) count (drop_more ns i 0 (omega arith))
 
-pub lengths_turn : (ns : List ℕ) (ps : List Pair) (i to k : ℕ) (same : Bool) → length ns ≡ length ps → i < to → to ≤ length ps → Some k ≡ option_map (λ (p : Pair). length p.gap) (slice_get ps i)
+pub lengths_step : (ns : List ℕ) (ps : List Pair) (i to k : ℕ) (same : Bool) → length ns ≡ length ps → i < to → to ≤ length ps → Some k ≡ option_map (λ (p : Pair). length p.gap) (slice_get ps i)
     → ((same && (k == get_or ns i 0 || get_or ns i 0 == KEEP_GAP)) && have_lengths (slice_range ns (i + 1) to) (slice_range ps (i + 1) to)) ≡ (same && have_lengths (slice_range ns i to) (slice_range ps i to))
-lengths_turn ns ps i to k same size less within is =
-    let t = turn ps i to less within in
+lengths_step ns ps i to k same size less within is =
+    let t = token_here ps i to less within in
     let k_is : k ≡ length t.pair.gap = let e = is ∙ ap (option_map (λ (p : Pair). length p.gap)) t.at in cc in
     let rest : Bool = have_lengths (slice_range ns (i + 1) to) (slice_range ps (i + 1) to) in
     let here : have_lengths (slice_range ns i to) (slice_range ps i to) ≡ ((k == get_or ns i 0 || get_or ns i 0 == KEEP_GAP) && rest) =
@@ -78,8 +78,8 @@ none_there ns i to h = let none : to - i ≡ 0 = omega arith in ap (λ n. take n
 pub lengths_end : (ns : List ℕ) (ps : List Pair) (i to : ℕ) (same : Bool) → to ≤ i → (same && have_lengths (slice_range ns i to) (slice_range ps i to)) ≡ same
 lengths_end ns ps i to same h = ap (λ (xs : List ℕ). same && have_lengths xs (slice_range ps i to)) (none_there ns i to h) ∙ and_true same
 
-pub past_first : (from : ℕ) (b : Bool) → 0 < from → (nat_lt 0 from && b) ≡ b
-past_first from b h = let test : nat_lt 0 from ≡ true = grind (arith, nat_tests) in ap (λ x. x && b) test
+pub after_first_token : (from : ℕ) (b : Bool) → 0 < from → (nat_lt 0 from && b) ≡ b
+after_first_token from b h = let test : nat_lt 0 from ≡ true = grind (arith, nat_tests) in ap (λ x. x && b) test
 
 -- ---- gaps up to another one
 
@@ -88,7 +88,7 @@ pub lengths_stay : (ns : List ℕ) (ps : List Pair) → length ns ≡ length ps 
 lengths_stay ns ps size known zero from to e within h = λ k g later before g_is. absurd (omega arith)
 lengths_stay ns ps size known (suc n) from to e within h =
     let less : from < to = omega arith in
-    let t = turn ps from to less within in
+    let t = token_here ps from to less within in
     let here : ((length t.pair.gap == get_or ns from 0 || get_or ns from 0 == KEEP_GAP) && have_lengths (slice_range ns (from + 1) to) (slice_range ps (from + 1) to)) ≡ true =
     sym (ap₂ have_lengths (more_numbers ns from to less (omega (arith, size, within))) t.range) ∙ h in
     let parts = and_parts (length t.pair.gap == get_or ns from 0 || get_or ns from 0 == KEEP_GAP) (have_lengths (slice_range ns (from + 1) to) (slice_range ps (from + 1) to)) here in

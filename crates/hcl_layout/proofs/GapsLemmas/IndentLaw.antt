@@ -133,12 +133,12 @@ running sum [] = []
 running sum (d ∷ ds) = (sum + d) ∷ running (sum + d) ds
 
 -- more openings than closings: each surplus grows
-left_grow : (o c a b : ℕ) (ds : List ℕ) → c < a + o → b + c ≡ a + o → left_of o c (running a ds) ≡ running b ds
-left_grow o c a b [] h e = refl
-left_grow o c a b (d ∷ ds) h e =
+left_extends : (o c a b : ℕ) (ds : List ℕ) → c < a + o → b + c ≡ a + o → left_of o c (running a ds) ≡ running b ds
+left_extends o c a b [] h e = refl
+left_extends o c a b (d ∷ ds) h e =
     let test : nat_lt c (a + d + o) ≡ true = grind (arith, nat_tests) in
     let value : a + d + o - c ≡ b + d = omega arith in
-    rw (test, value) (ap (λ ss. (b + d) ∷ ss) (left_grow o c (a + d) (b + d) ds (omega arith) (omega arith)))
+    rw (test, value) (ap (λ ss. (b + d) ∷ ss) (left_extends o c (a + d) (b + d) ds (omega arith) (omega arith)))
 
 -- more closings than openings: what is taken off
 left_shrink : (o c a m : ℕ) (ds : List ℕ) → a + o + m ≡ c → left_of o c (running a ds) ≡ running 0 (close_brackets m ds)
@@ -148,7 +148,7 @@ left_shrink o c a m (d ∷ ds) e = elim (cases_lt m d) [
       let test : nat_lt c (a + d + o) ≡ true = grind (arith, nat_tests) in
       let own : nat_lt m d ≡ true = grind (arith, nat_tests) in
       let value : a + d + o - c ≡ 0 + (d - m) = omega arith in
-      rw (test, own, value) (ap (λ ss. (0 + (d - m)) ∷ ss) (left_grow o c (a + d) (0 + (d - m)) ds (omega arith) (omega arith)))
+      rw (test, own, value) (ap (λ ss. (0 + (d - m)) ∷ ss) (left_extends o c (a + d) (0 + (d - m)) ds (omega arith) (omega arith)))
   | inr not_less ↦
       let test : nat_lt c (a + d + o) ≡ false = grind (arith, nat_tests) in
       let own : nat_lt m d ≡ false = grind (arith, nat_tests) in
@@ -165,7 +165,7 @@ left_same n [] pos = refl
 left_same n (d ∷ ds) pos =
     let test : nat_lt n (0 + d + n) ≡ true = grind (arith, nat_tests, pos.0) in
     let value : 0 + d + n - n ≡ 0 + d = omega arith in
-    rw (test, value) (ap (λ ss. (0 + d) ∷ ss) (left_grow n n (0 + d) (0 + d) ds (omega (arith, pos.0)) (omega arith)))
+    rw (test, value) (ap (λ ss. (0 + d) ∷ ss) (left_extends n n (0 + d) (0 + d) ds (omega (arith, pos.0)) (omega arith)))
 
 -- the lines that are open at a line
 left_at : (o c : ℕ) (ds : List ℕ) → ArePositive ds
@@ -173,7 +173,7 @@ left_at : (o c : ℕ) (ds : List ℕ) → ArePositive ds
 left_at o c ds pos = (
   λ less. left_shrink o c 0 (c - o) ds (omega arith),
   λ le. elim (cases_lt c o) [
-    | inl less ↦ left_grow o c 0 (o - c) ds (omega arith) (omega arith)
+    | inl less ↦ left_extends o c 0 (o - c) ds (omega arith) (omega arith)
     | inr not_less ↦
         let same : c ≡ o = omega arith in
         let none : o - c ≡ 0 = omega arith in
@@ -193,14 +193,14 @@ length_running a [] = refl
 length_running a (d ∷ ds) = ap suc (length_running (a + d) ds)
 
 -- The stack represents the lines that are open after these lines.
-pub record Stands (lines : List Line) (stack : List ℕ) : Type 0 where
+pub record StackRepresents (lines : List Line) (stack : List ℕ) : Type 0 where
   pub same : surpluses lines ≡ running 0 stack
   pub positive : ArePositive stack
 
 -- how a line changes the stack
 record StackStep (o c : ℕ) (ds : List ℕ) : Type 0 where
   deep : length (left_of o c (running 0 ds)) ≡ length (close_earlier o c ds)
-  behind : one_if (nat_lt c o) (o - c) ++ left_of o c (running 0 ds) ≡ running 0 (open_after_line o c ds)
+  following : one_if (nat_lt c o) (o - c) ++ left_of o c (running 0 ds) ≡ running 0 (open_after_line o c ds)
   positive : ArePositive (open_after_line o c ds)
 
 stack_step : (o c : ℕ) (ds : List ℕ) → ArePositive ds → StackStep o c ds
@@ -211,7 +211,7 @@ stack_step o c ds pos = elim (cases_lt o c) [
       let left = (left_at o c ds pos).0 less in
       record {
         deep = rw closes (ap length left ∙ length_running 0 (close_brackets (c - o) ds));
-        behind = rw (opens, closes) left;
+        following = rw (opens, closes) left;
         positive = rw (opens, closes) (close_positive (c - o) ds pos);
       }
   | inr not_less ↦
@@ -223,7 +223,7 @@ stack_step o c ds pos = elim (cases_lt o c) [
             let sum : o - c ≡ 0 + (o - c) = omega arith in
             record {
               deep = rw closes (ap length left ∙ length_running (o - c) ds);
-              behind = rw (opens, closes) (ap (λ ss. (o - c) ∷ ss) left ∙ ap (λ n. n ∷ running n ds) sum);
+              following = rw (opens, closes) (ap (λ ss. (o - c) ∷ ss) left ∙ ap (λ n. n ∷ running n ds) sum);
               positive = rw (opens, closes) (omega arith, pos);
             }
         | inr not_more ↦
@@ -231,31 +231,31 @@ stack_step o c ds pos = elim (cases_lt o c) [
             let none : o - c ≡ 0 = omega arith in
             record {
               deep = rw closes (ap length left ∙ length_running (o - c) ds);
-              behind = rw (opens, closes) (left ∙ ap (λ n. running n ds) none);
+              following = rw (opens, closes) (left ∙ ap (λ n. running n ds) none);
               positive = rw (opens, closes) pos;
             }
       ]
 ]
 
 -- one more line: how deep it is
-pub line_deep : (lines : List Line) (stack : List ℕ) (x : Line) → Stands lines stack → level lines x ≡ length (close_earlier (openings x.pairs) (closings x.pairs) stack)
+pub line_deep : (lines : List Line) (stack : List ℕ) (x : Line) → StackRepresents lines stack → level lines x ≡ length (close_earlier (openings x.pairs) (closings x.pairs) stack)
 line_deep lines stack x s =
     level_counts lines x ∙ ap (λ ss. length (left_of (openings x.pairs) (closings x.pairs) ss)) s.same
     ∙ (stack_step (openings x.pairs) (closings x.pairs) stack s.positive).deep
 
 -- and the stack after it
-pub line_is_at : (lines : List Line) (stack : List ℕ) (x : Line) → Stands lines stack → Stands (lines ++ x ∷ []) (open_after_line (openings x.pairs) (closings x.pairs) stack)
+pub line_is_at : (lines : List Line) (stack : List ℕ) (x : Line) → StackRepresents lines stack → StackRepresents (lines ++ x ∷ []) (open_after_line (openings x.pairs) (closings x.pairs) stack)
 line_is_at lines stack x s =
     let step = stack_step (openings x.pairs) (closings x.pairs) stack s.positive in
     record {
       same = push_surpluses lines x
           ∙ ap (λ ss. one_if (nat_lt (closings x.pairs) (openings x.pairs)) (openings x.pairs - closings x.pairs) ++ left_of (openings x.pairs) (closings x.pairs) ss) s.same
-          ∙ step.behind;
+          ∙ step.following;
       positive = step.positive;
     }
 
 -- lines set by the stack are those of the definition
-set_after : (earlier : List Line) (stack : List ℕ) (before : List Kind) (lines : List Line) → Stands earlier stack → format_lines earlier before lines ≡ format_lines_by_stack stack before lines
+set_after : (earlier : List Line) (stack : List ℕ) (before : List Kind) (lines : List Line) → StackRepresents earlier stack → format_lines earlier before lines ≡ format_lines_by_stack stack before lines
 set_after earlier stack before [] s = refl
 set_after earlier stack before (x ∷ lines) s =
     ap₂ (λ (y : Line) (ys : List Line). y ∷ ys)

@@ -89,12 +89,12 @@ pub layout_again : (pairs : List Pair) → layout_pairs (layout_pairs pairs) ≡
 layout_again [] = refl
 layout_again (p ∷ ps) = again_if p ps (is_mark p.kind) refl
 
-pub layout_turns : (cut : TokenizedText) → IsTokenization cut.text cut.pairs cut.last → Transforms (layout_edits cut) cut.text (layout_text cut)
-layout_turns cut is = record {
+pub layout_turns : (tokenized : TokenizedText) → IsTokenization tokenized.text tokenized.pairs tokenized.last → Transforms (layout_edits tokenized) tokenized.text (layout_text tokenized)
+layout_turns tokenized is = record {
   len = refl;
-  pieces = pieces cut.pairs (layout_pairs cut.pairs) cut.last;
-  old_is = pieces_old cut.pairs (layout_pairs cut.pairs) cut.last (layout_tokens cut.pairs) ∙ sym is.tokenizes.text_is;
-  new_is = pieces_new cut.pairs (layout_pairs cut.pairs) cut.last (layout_tokens cut.pairs);
+  pieces = pieces tokenized.pairs (layout_pairs tokenized.pairs) tokenized.last;
+  old_is = pieces_old tokenized.pairs (layout_pairs tokenized.pairs) tokenized.last (layout_tokens tokenized.pairs) ∙ sym is.tokenizes.text_is;
+  new_is = pieces_new tokenized.pairs (layout_pairs tokenized.pairs) tokenized.last (layout_tokens tokenized.pairs);
   edits_are = refl;
 }
 
@@ -110,14 +110,14 @@ made_from pieces_make ps old new are o n short =
     subst Q n (subst P o whole)
 
 -- what `make` answers about the edits of the layout
-pub layout_made : PiecesAreMade → (cut : TokenizedText) → IsTokenization cut.text cut.pairs cut.last
-    → make_edits (length cut.text) (layout_edits cut).entries ≡ (if nat_lt MAX_TEXT (length (layout_text cut)) then Err TooLong else Ok (layout_edits cut))
+pub layout_made : PiecesAreMade → (tokenized : TokenizedText) → IsTokenization tokenized.text tokenized.pairs tokenized.last
+    → make_edits (length tokenized.text) (layout_edits tokenized).entries ≡ (if nat_lt MAX_TEXT (length (layout_text tokenized)) then Err TooLong else Ok (layout_edits tokenized))
 unfolding IsMade
-layout_made pieces_make cut is =
-    let ps : List Piece = pieces cut.pairs (layout_pairs cut.pairs) cut.last in
-    let old : old_text ps ≡ cut.text = pieces_old cut.pairs (layout_pairs cut.pairs) cut.last (layout_tokens cut.pairs) ∙ sym is.tokenizes.text_is in
+layout_made pieces_make tokenized is =
+    let ps : List Piece = pieces tokenized.pairs (layout_pairs tokenized.pairs) tokenized.last in
+    let old : old_text ps ≡ tokenized.text = pieces_old tokenized.pairs (layout_pairs tokenized.pairs) tokenized.last (layout_tokens tokenized.pairs) ∙ sym is.tokenizes.text_is in
     let short : length (old_text ps) ≤ MAX_TEXT = omega (arith, ap length old, is.short) in
-    made_from pieces_make ps cut.text (layout_text cut) (pieces_change cut.pairs (layout_pairs cut.pairs) cut.last (layout_tokens cut.pairs)) old (pieces_new cut.pairs (layout_pairs cut.pairs) cut.last (layout_tokens cut.pairs)) short
+    made_from pieces_make ps tokenized.text (layout_text tokenized) (pieces_change tokenized.pairs (layout_pairs tokenized.pairs) tokenized.last (layout_tokens tokenized.pairs)) old (pieces_new tokenized.pairs (layout_pairs tokenized.pairs) tokenized.last (layout_tokens tokenized.pairs)) short
 
 -- ---- what is known of the results of calls
 
@@ -126,9 +126,9 @@ answer_if : (over : Bool) (list : EditList) (answer : Result EditList BadEdits) 
 answer_if true list answer k is same = rw same (ltb-true MAX_TEXT k is)
 answer_if false list answer k is same = rw same refl
 
-pub made_list : PiecesAreMade → (cut : TokenizedText) (answer : Result EditList BadEdits) → IsTokenization cut.text cut.pairs cut.last → make_edits (length cut.text) (layout_edits cut).entries ≡ answer
-    → elim answer as (λ r. Type 0) [ Ok e ↦ e ≡ layout_edits cut | Err e ↦ MAX_TEXT < length (layout_text cut) ]
-made_list pieces_make cut answer is same = answer_if (nat_lt MAX_TEXT (length (layout_text cut))) (layout_edits cut) answer (length (layout_text cut)) refl (sym same ∙ layout_made pieces_make cut is)
+pub made_list : PiecesAreMade → (tokenized : TokenizedText) (answer : Result EditList BadEdits) → IsTokenization tokenized.text tokenized.pairs tokenized.last → make_edits (length tokenized.text) (layout_edits tokenized).entries ≡ answer
+    → elim answer as (λ r. Type 0) [ Ok e ↦ e ≡ layout_edits tokenized | Err e ↦ MAX_TEXT < length (layout_text tokenized) ]
+made_list pieces_make tokenized answer is same = answer_if (nat_lt MAX_TEXT (length (layout_text tokenized))) (layout_edits tokenized) answer (length (layout_text tokenized)) refl (sym same ∙ layout_made pieces_make tokenized is)
 
 -- what is read of the call of `make`
 pub read_made : (text read : List ℕ) (es given : List EditEntry) (answer other : Result EditList BadEdits)

@@ -19,14 +19,14 @@ use Rattle.hcl_layout.specs.declared.gaps.lines.LineSpan.{LineSpan}
 use Rattle.std.proofs.lemmas.Bool.Decides.{nat_tests}
 
 -- token i, which is before token `to`
-pub record Turn (pairs : List Pair) (i to : ℕ) : Type 0 where
+pub record TokenHere (pairs : List Pair) (i to : ℕ) : Type 0 where
   pub pair : Pair
   pub at : slice_get pairs i ≡ Some pair
   pub rest : drop i pairs ≡ pair ∷ drop (i + 1) pairs
   pub range : slice_range pairs i to ≡ pair ∷ slice_range pairs (i + 1) to
 
-pub turn : (pairs : List Pair) (i to : ℕ) → i < to → to ≤ length pairs → Turn pairs i to
-turn pairs i to less within = elim (slice_get_cases pairs i).1 [
+pub token_here : (pairs : List Pair) (i to : ℕ) → i < to → to ≤ length pairs → TokenHere pairs i to
+token_here pairs i to less within = elim (slice_get_cases pairs i).1 [
   | inl (x, inside, found, same) ↦
       let split : drop i pairs ≡ x ∷ drop (i + 1) pairs = rw (← same) (drop_more pairs i x inside) in
       let count : to - i ≡ suc (to - (i + 1)) = omega arith in
@@ -34,13 +34,13 @@ turn pairs i to less within = elim (slice_get_cases pairs i).1 [
   | inr (past, none) ↦ absurd (omega arith)
 ]
 
-pub kind_is : (pairs : List Pair) (i to : ℕ) (k : Kind) (t : Turn pairs i to) → Some k ≡ kind_of pairs i → k ≡ t.pair.kind
+pub kind_is : (pairs : List Pair) (i to : ℕ) (k : Kind) (t : TokenHere pairs i to) → Some k ≡ kind_of pairs i → k ≡ t.pair.kind
 kind_is pairs i to k t h = let e = h ∙ ap (option_map (λ (p : Pair). p.kind)) t.at in cc
 
-pub spelling_is : (pairs : List Pair) (i to : ℕ) (s : List ℕ) (t : Turn pairs i to) → Some s ≡ spelling_of pairs i → s ≡ t.pair.spelling
+pub spelling_is : (pairs : List Pair) (i to : ℕ) (s : List ℕ) (t : TokenHere pairs i to) → Some s ≡ spelling_of pairs i → s ≡ t.pair.spelling
 spelling_is pairs i to s t h = let e = h ∙ ap (option_map (λ (p : Pair). p.spelling)) t.at in cc
 
-pub gap_is : (pairs : List Pair) (i to : ℕ) (g : List ℕ) (t : Turn pairs i to) → Some g ≡ gap_of pairs i → g ≡ t.pair.gap
+pub gap_is : (pairs : List Pair) (i to : ℕ) (g : List ℕ) (t : TokenHere pairs i to) → Some g ≡ gap_of pairs i → g ≡ t.pair.gap
 gap_is pairs i to g t h = let e = h ∙ ap (option_map (λ (p : Pair). p.gap)) t.at in cc
 
 -- ---- the first line
@@ -64,27 +64,27 @@ first_line open_heredocs p (r ∷ ps) = split_if open_heredocs p (r ∷ ps) (end
 len_some : (open_heredocs : ℕ) (p : Pair) (ps : List Pair) → 0 < line_len open_heredocs (p ∷ ps)
 len_some open_heredocs p ps = elim (ends_line open_heredocs p.kind) as (λ b. 0 < (if b then 1 else suc (line_len (heredocs_after open_heredocs p.kind) ps))) [ true ↦ omega arith | false ↦ omega arith ]
 
-begins_held : (frozen : Bool) → nat_lt 0 (open_heredocs_of frozen) ≡ frozen
-begins_held true = refl
-begins_held false = refl
+begins_frozen : (frozen : Bool) → nat_lt 0 (open_heredocs_of frozen) ≡ frozen
+begins_frozen true = refl
+begins_frozen false = refl
 
 -- the first line from token `at` on
 first_at : (pairs : List Pair) (at : ℕ) (frozen : Bool) → at < length pairs
     → (0 < line_len (open_heredocs_of frozen) (drop at pairs))
     × (lines_from (open_heredocs_of frozen) (drop at pairs) ≡ record { frozen = frozen; pairs = take (line_len (open_heredocs_of frozen) (drop at pairs)) (drop at pairs) } ∷ lines_from (open_heredocs_after (open_heredocs_of frozen) (drop at pairs)) (drop (line_len (open_heredocs_of frozen) (drop at pairs)) (drop at pairs)))
 first_at pairs at frozen inside =
-    let t = turn pairs at (length pairs) inside (omega arith) in
+    let t = token_here pairs at (length pairs) inside (omega arith) in
     rw t.rest (
       len_some (open_heredocs_of frozen) t.pair (drop (at + 1) pairs),
       first_line (open_heredocs_of frozen) t.pair (drop (at + 1) pairs)
-          ∙ ap (λ f. record { frozen = f; pairs = take (line_len (open_heredocs_of frozen) (t.pair ∷ drop (at + 1) pairs)) (t.pair ∷ drop (at + 1) pairs) } ∷ lines_from (open_heredocs_after (open_heredocs_of frozen) (t.pair ∷ drop (at + 1) pairs)) (drop (line_len (open_heredocs_of frozen) (t.pair ∷ drop (at + 1) pairs)) (t.pair ∷ drop (at + 1) pairs))) (begins_held frozen),
+          ∙ ap (λ f. record { frozen = f; pairs = take (line_len (open_heredocs_of frozen) (t.pair ∷ drop (at + 1) pairs)) (t.pair ∷ drop (at + 1) pairs) } ∷ lines_from (open_heredocs_after (open_heredocs_of frozen) (t.pair ∷ drop (at + 1) pairs)) (drop (line_len (open_heredocs_of frozen) (t.pair ∷ drop (at + 1) pairs)) (t.pair ∷ drop (at + 1) pairs))) (begins_frozen frozen),
     )
 
 splits : (pairs : List Pair) (at : ℕ) (frozen : Bool) (past : ℕ) (next : Bool) → at < length pairs → past ≤ length pairs
     → at + line_len (open_heredocs_of frozen) (drop at pairs) ≡ past
     → lines_from (open_heredocs_after (open_heredocs_of frozen) (drop at pairs)) (drop past pairs) ≡ lines_from (open_heredocs_of next) (drop past pairs)
     → SplitsLine pairs at frozen past next
-splits pairs at frozen past next inside within len behind =
+splits pairs at frozen past next inside within len following =
     let first = first_at pairs at frozen inside in
     let n : ℕ = line_len (open_heredocs_of frozen) (drop at pairs) in
     let count : n ≡ past - at = omega arith in
@@ -92,57 +92,57 @@ splits pairs at frozen past next inside within len behind =
     record {
       more = omega (arith, first.0);
       within = within;
-      line = first.1 ∙ ap₂ (λ (ps : List Pair) (ls : List Line). record { frozen = frozen; pairs = ps } ∷ ls) (ap (λ k. take k (drop at pairs)) count) (ap (λ ps. lines_from (open_heredocs_after (open_heredocs_of frozen) (drop at pairs)) ps) rest ∙ behind);
+      line = first.1 ∙ ap₂ (λ (ps : List Pair) (ls : List Line). record { frozen = frozen; pairs = ps } ∷ ls) (ap (λ k. take k (drop at pairs)) count) (ap (λ ps. lines_from (open_heredocs_after (open_heredocs_of frozen) (drop at pairs)) ps) rest ∙ following);
     }
 
 -- a line that began at token `at` goes on at token i
 pub record IsInLine (pairs : List Pair) (at : ℕ) (frozen : Bool) (i open_heredocs : ℕ) : Type 0 where
   pub len : at + line_len (open_heredocs_of frozen) (drop at pairs) ≡ i + line_len open_heredocs (drop i pairs)
-  pub behind : open_heredocs_after (open_heredocs_of frozen) (drop at pairs) ≡ open_heredocs_after open_heredocs (drop i pairs)
+  pub following : open_heredocs_after (open_heredocs_of frozen) (drop at pairs) ≡ open_heredocs_after open_heredocs (drop i pairs)
   pub later : at ≤ i
   pub small : open_heredocs + at ≤ i + 1
 
 pub in_line_begins : (pairs : List Pair) (at : ℕ) (frozen : Bool) → IsInLine pairs at frozen at (open_heredocs_of frozen)
-in_line_begins pairs at true = record { len = refl; behind = refl; later = omega arith; small = omega arith }
-in_line_begins pairs at false = record { len = refl; behind = refl; later = omega arith; small = omega arith }
+in_line_begins pairs at true = record { len = refl; following = refl; later = omega arith; small = omega arith }
+in_line_begins pairs at false = record { len = refl; following = refl; later = omega arith; small = omega arith }
 
-grows : (open_heredocs : ℕ) (k : Kind) → heredocs_after open_heredocs k ≤ open_heredocs + 1
-grows open_heredocs HereOpen = omega arith
-grows open_heredocs HereClose = omega arith
-grows open_heredocs k = omega arith
+heredocs_one_more : (open_heredocs : ℕ) (k : Kind) → heredocs_after open_heredocs k ≤ open_heredocs + 1
+heredocs_one_more open_heredocs HereOpen = omega arith
+heredocs_one_more open_heredocs HereClose = omega arith
+heredocs_one_more open_heredocs k = omega arith
 
-pub in_line_goes : (pairs : List Pair) (at : ℕ) (frozen : Bool) (i open_heredocs : ℕ) (k : Kind) → IsInLine pairs at frozen i open_heredocs → i < length pairs → Some k ≡ kind_of pairs i → ends_line open_heredocs k ≡ false
+pub in_line_next : (pairs : List Pair) (at : ℕ) (frozen : Bool) (i open_heredocs : ℕ) (k : Kind) → IsInLine pairs at frozen i open_heredocs → i < length pairs → Some k ≡ kind_of pairs i → ends_line open_heredocs k ≡ false
     → IsInLine pairs at frozen (i + 1) (heredocs_after open_heredocs k)
-in_line_goes pairs at frozen i open_heredocs k l inside is goes =
-    let t = turn pairs i (length pairs) inside (omega arith) in
+in_line_next pairs at frozen i open_heredocs k l inside is continues_line =
+    let t = token_here pairs i (length pairs) inside (omega arith) in
     let same = kind_is pairs i (length pairs) k t is in
-    let goes_on : ends_line open_heredocs t.pair.kind ≡ false = ap (ends_line open_heredocs) (sym same) ∙ goes in
-    let len : line_len open_heredocs (drop i pairs) ≡ suc (line_len (heredocs_after open_heredocs k) (drop (i + 1) pairs)) = rw (t.rest, goes_on, same) refl in
-    let behind : open_heredocs_after open_heredocs (drop i pairs) ≡ open_heredocs_after (heredocs_after open_heredocs k) (drop (i + 1) pairs) = rw (t.rest, goes_on, same) refl in
-    record { len = omega (arith, l.len, len); behind = l.behind ∙ behind; later = omega (arith, l.later); small = omega (arith, l.small, grows open_heredocs k) }
+    let ends_no_line : ends_line open_heredocs t.pair.kind ≡ false = ap (ends_line open_heredocs) (sym same) ∙ continues_line in
+    let len : line_len open_heredocs (drop i pairs) ≡ suc (line_len (heredocs_after open_heredocs k) (drop (i + 1) pairs)) = rw (t.rest, ends_no_line, same) refl in
+    let following : open_heredocs_after open_heredocs (drop i pairs) ≡ open_heredocs_after (heredocs_after open_heredocs k) (drop (i + 1) pairs) = rw (t.rest, ends_no_line, same) refl in
+    record { len = omega (arith, l.len, len); following = l.following ∙ following; later = omega (arith, l.later); small = omega (arith, l.small, heredocs_one_more open_heredocs k) }
 
-next_held : (open_heredocs : ℕ) (k : Kind) → ends_line open_heredocs k ≡ true → heredocs_after open_heredocs k ≡ open_heredocs_of (is_here_open k)
-next_held zero LineEnd h = refl
-next_held zero HereOpen h = refl
-next_held zero k h = absurd (cc)
-next_held (suc open_heredocs) k h = absurd (cc)
+frozen_after_line : (open_heredocs : ℕ) (k : Kind) → ends_line open_heredocs k ≡ true → heredocs_after open_heredocs k ≡ open_heredocs_of (is_here_open k)
+frozen_after_line zero LineEnd h = refl
+frozen_after_line zero HereOpen h = refl
+frozen_after_line zero k h = absurd (cc)
+frozen_after_line (suc open_heredocs) k h = absurd (cc)
 
 pub line_ends : (pairs : List Pair) (at : ℕ) (frozen : Bool) (i open_heredocs : ℕ) (k : Kind) → IsInLine pairs at frozen i open_heredocs → at < length pairs → i < length pairs → Some k ≡ kind_of pairs i → ends_line open_heredocs k ≡ true
     → SplitsLine pairs at frozen (i + 1) (is_here_open k)
 line_ends pairs at frozen i open_heredocs k l begins inside is ends =
-    let t = turn pairs i (length pairs) inside (omega arith) in
+    let t = token_here pairs i (length pairs) inside (omega arith) in
     let same = kind_is pairs i (length pairs) k t is in
     let ends_here : ends_line open_heredocs t.pair.kind ≡ true = ap (ends_line open_heredocs) (sym same) ∙ ends in
     let len : line_len open_heredocs (drop i pairs) ≡ 1 = rw (t.rest, ends_here) refl in
-    let behind : open_heredocs_after open_heredocs (drop i pairs) ≡ open_heredocs_of (is_here_open k) = rw (t.rest, ends_here) (ap (heredocs_after open_heredocs) (sym same) ∙ next_held open_heredocs k ends) in
-    splits pairs at frozen (i + 1) (is_here_open k) begins (omega arith) (l.len ∙ ap (λ n. i + n) len) (ap (λ h. lines_from h (drop (i + 1) pairs)) (l.behind ∙ behind))
+    let following : open_heredocs_after open_heredocs (drop i pairs) ≡ open_heredocs_of (is_here_open k) = rw (t.rest, ends_here) (ap (heredocs_after open_heredocs) (sym same) ∙ frozen_after_line open_heredocs k ends) in
+    splits pairs at frozen (i + 1) (is_here_open k) begins (omega arith) (l.len ∙ ap (λ n. i + n) len) (ap (λ h. lines_from h (drop (i + 1) pairs)) (l.following ∙ following))
 
 pub text_ends : (pairs : List Pair) (at : ℕ) (frozen : Bool) (i open_heredocs : ℕ) → IsInLine pairs at frozen i open_heredocs → at < length pairs → i ≡ length pairs → SplitsLine pairs at frozen (length pairs) false
 text_ends pairs at frozen i open_heredocs l begins e =
     let none : drop i pairs ≡ [] = drop_all i pairs (omega arith) in
-    let gone : drop (length pairs) pairs ≡ [] = drop_all (length pairs) pairs (omega arith) in
+    let none_remain : drop (length pairs) pairs ≡ [] = drop_all (length pairs) pairs (omega arith) in
     let len : line_len open_heredocs (drop i pairs) ≡ 0 = rw none refl in
-    splits pairs at frozen (length pairs) false begins (omega arith) (omega (arith, l.len, len)) (rw gone refl)
+    splits pairs at frozen (length pairs) false begins (omega arith) (omega (arith, l.len, len)) (rw none_remain refl)
 
 -- ---- counts, and the end of a stack
 
@@ -150,7 +150,7 @@ text_ends pairs at frozen i open_heredocs l begins e =
 pub counted : (f : Kind → Bool) (pairs : List Pair) (i to : ℕ) (k : Kind) → i < to → to ≤ length pairs → Some k ≡ kind_of pairs i
     → count_by (λ (p : Pair). f p.kind) (slice_range pairs i to) ≡ (if f k then 1 else 0) + count_by (λ (p : Pair). f p.kind) (slice_range pairs (i + 1) to)
 counted f pairs i to k less within is =
-    let t = turn pairs i to less within in
+    let t = token_here pairs i to less within in
     let same : (if f t.pair.kind then 1 else 0) ≡ (if f k then 1 else 0) = ap (λ j. cond (f j) 1 0) (sym (kind_is pairs i to k t is)) in
     ap (count_by (λ (p : Pair). f p.kind)) t.range
     ∙ sum_by-cons (λ (p : Pair). cond (f p.kind) 1 0) t.pair (slice_range pairs (i + 1) to)
@@ -177,8 +177,8 @@ close_ends xs n left top len is less =
     let head : close_brackets left (top ∷ reverse (take n xs)) ≡ (top - left) ∷ reverse (take n xs) = rw test refl in
     ap (close_brackets left) e.last ∙ head ∙ sym (e.changed (top - left))
 
-pub close_goes : (xs : List ℕ) (n left top : ℕ) → n + 1 ≡ length xs → top ≡ get_or xs n top → top ≤ left → close_brackets left (reverse xs) ≡ close_brackets (left - top) (reverse (take n xs))
-close_goes xs n left top len is less =
+pub close_next : (xs : List ℕ) (n left top : ℕ) → n + 1 ≡ length xs → top ≡ get_or xs n top → top ≤ left → close_brackets left (reverse xs) ≡ close_brackets (left - top) (reverse (take n xs))
+close_next xs n left top len is less =
     let e = end_of xs n top len is in
     let test : nat_lt left top ≡ false = grind (arith, nat_tests) in
     let head : close_brackets left (top ∷ reverse (take n xs)) ≡ close_brackets (left - top) (reverse (take n xs)) = rw test refl in

@@ -16,7 +16,7 @@ use Rattle.hcl_layout.specs.Gaps.Inner.CodeViews.{is_comment, is_here_open, are_
 use Rattle.hcl_layout.specs.Gaps.Inner.Stages.{SplitsLine, lines_from, open_heredocs_of, KEEP_GAP, spaces_from, line_gap_lens, base_gap_lens, all_gap_lens}
 use Rattle.hcl_layout.specs.declared.gaps.lines.LineSpan.{LineSpan}
 use Rattle.std.proofs.lemmas.Bool.Decides.{nat_tests}
-use Rattle.hcl_layout.proofs.GapsLemmas.LineLemmas.{turn, kind_is, range_split, none_there, counted, IsInLine, in_line_goes, line_ends, text_ends}
+use Rattle.hcl_layout.proofs.GapsLemmas.LineLemmas.{token_here, kind_is, range_split, none_there, counted, IsInLine, in_line_next, line_ends, text_ends}
 use Rattle.hcl_layout.proofs.GapsLemmas.LineFlagLemmas.{some_if}
 
 -- ---- what tokens say
@@ -100,16 +100,16 @@ ends_if pairs at i brackets marks k few counts most = by_test (ends_line 0 k) co
     by_test true e = refl
     by_test false e = absurd (omega (arith, e, most, few, counts.few_comments, counts.few_equals))
 
-pub goes_if : (pairs : List Pair) (at i brackets marks : ℕ) (k : Kind) → CountsTo pairs at i brackets marks (if ends_line 0 k then 1 else 0)
+pub counts_if : (pairs : List Pair) (at i brackets marks : ℕ) (k : Kind) → CountsTo pairs at i brackets marks (if ends_line 0 k then 1 else 0)
     → marks < 9223372036854775808 → ends_line 0 k ≡ false
-goes_if pairs at i brackets marks k counts less = by_test (ends_line 0 k) counts.all_marks
+counts_if pairs at i brackets marks k counts less = by_test (ends_line 0 k) counts.all_marks
   where
     by_test : (b : Bool) → marks ≡ number_of is_comment (slice_range pairs at i) + 1073741824 * number_of is_equal (slice_range pairs at i) + 9223372036854775808 * (if b then 1 else 0) → b ≡ false
     by_test true e = absurd (omega (arith, e, less))
     by_test false e = refl
 
 pub none_ends : (pairs : List Pair) (at i brackets marks : ℕ) (k : Kind) → ends_line 0 k ≡ false → CountsTo pairs at i brackets marks (if ends_line 0 k then 1 else 0) → CountsTo pairs at i brackets marks 0
-none_ends pairs at i brackets marks k goes counts = subst (λ (b : Bool). CountsTo pairs at i brackets marks (if b then 1 else 0)) goes counts
+none_ends pairs at i brackets marks k continues_line counts = subst (λ (b : Bool). CountsTo pairs at i brackets marks (if b then 1 else 0)) continues_line counts
 
 -- ---- what the numbers say
 
@@ -142,9 +142,9 @@ opens_none k h = refl
 
 -- it goes on
 pub passes_on : (pairs : List Pair) (at i j : ℕ) (k : Kind) → IsInLine pairs at false i 0 → i < length pairs → j ≡ i + 1 → Some k ≡ kind_of pairs i → ends_line 0 k ≡ false → IsInLine pairs at false j 0
-passes_on pairs at i j k l inside step is goes =
+passes_on pairs at i j k l inside step is continues_line =
     subst (λ n. IsInLine pairs at false n 0) (sym step)
-    (subst (λ h. IsInLine pairs at false (i + 1) h) (none_open k goes) (in_line_goes pairs at false i 0 k l inside is goes))
+    (subst (λ h. IsInLine pairs at false (i + 1) h) (none_open k continues_line) (in_line_next pairs at false i 0 k l inside is continues_line))
 
 -- it ends with token i
 pub ends_here : (pairs : List Pair) (at i j : ℕ) (k : Kind) → IsInLine pairs at false i 0 → at < length pairs → i < length pairs → j ≡ i + 1 → Some k ≡ kind_of pairs i → ends_line 0 k ≡ true
@@ -160,7 +160,7 @@ ends_last pairs at i j k l begins end last is = subst (λ n. SplitsLine pairs at
     by_test true e = subst (λ n. SplitsLine pairs at false n (is_here_open k)) end (line_ends pairs at false i 0 k l begins (omega arith) is e)
     by_test false e =
         subst (λ b. SplitsLine pairs at false (length pairs) b) (sym (opens_none k e))
-        (text_ends pairs at false (i + 1) (heredocs_after 0 k) (in_line_goes pairs at false i 0 k l (omega arith) is e) begins end)
+        (text_ends pairs at false (i + 1) (heredocs_after 0 k) (in_line_next pairs at false i 0 k l (omega arith) is e) begins end)
 
 pub line_passed : (pairs : List Pair) (at past brackets marks ends : ℕ) (next : Bool) (line : LineSpan) → past ≤ 16777216 → SplitsLine pairs at false past next → CountsTo pairs at past brackets marks ends
     → line.past ≡ past → line.next_frozen ≡ next → line.is_balanced ≡ (brackets % 4294967296 == brackets / 4294967296) → line.has_comment ≡ not (marks % 1073741824 == 0) → line.has_equals ≡ not (marks / 1073741824 % 1073741824 == 0)
@@ -211,10 +211,10 @@ pub first_set : (pairs : List Pair) (at past deep : ℕ) (b : List Kind) (k : Ki
     → place ≡ length old → n ≡ (if is_line_end k then 0 else 2 * deep) → gaps ≡ old ++ 0 ∷ spaces_from b (slice_range pairs at past) → new ≡ set gaps place n
     → new ≡ old ++ line_gap_lens deep b (slice_range pairs at past)
 first_set pairs at past deep b k old new gaps place n less within is place_is n_is gaps_is new_is =
-    let t = turn pairs at past less within in
+    let t = token_here pairs at past less within in
     let same = kind_is pairs at past k t is in
-    let front : n ≡ (if is_line_end t.pair.kind then 0 else 2 * deep) = n_is ∙ ap (λ j. cond (is_line_end j) 0 (2 * deep)) same in
-    let whole : line_gap_lens deep b (slice_range pairs at past) ≡ n ∷ spaces_from b (slice_range pairs at past) = rw (t.range, front) refl in
+    let leading : n ≡ (if is_line_end t.pair.kind then 0 else 2 * deep) = n_is ∙ ap (λ j. cond (is_line_end j) 0 (2 * deep)) same in
+    let whole : line_gap_lens deep b (slice_range pairs at past) ≡ n ∷ spaces_from b (slice_range pairs at past) = rw (t.range, leading) refl in
     new_is ∙ ap₂ (λ (g : List ℕ) i. set g i n) gaps_is place_is
     ∙ set-append_seam old 0 (spaces_from b (slice_range pairs at past)) n
     ∙ ap (λ (g : List ℕ). old ++ g) (sym whole)

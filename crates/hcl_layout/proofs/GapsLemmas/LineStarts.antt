@@ -12,7 +12,7 @@ use Rattle.hcl_layout.specs.declared.gaps.cells.CellStart.{CellStart}
 use Rattle.hcl_layout.specs.declared.gaps.lines.LineSpan.{LineSpan}
 use Rattle.hcl_layout.proofs.GapsLemmas.LineLemmas.{no_span, line_at, no_line}
 use Rattle.hcl_layout.proofs.GapsLemmas.CellCode.{gapped_line, lacks_start}
-use Rattle.hcl_layout.proofs.GapsLemmas.Repeats.{KeptSoFar, kept_turn, kept_end}
+use Rattle.hcl_layout.proofs.GapsLemmas.Repeats.{KeptSoFar, kept_step, kept_end}
 
 -- ---- where lines begin
 
@@ -110,7 +110,7 @@ module _ (cell : Cell) (ns : List ℕ) (ps : List Pair) (first : ℕ) (lines : L
       → IfSome p (λ q. q.token < length ps) → KeptAt i in_run starts → KeptAt to now more
   kept_one i to at f in_run now starts more p at_is f_is to_is inside more_is now_is w_is t_is p_inside kept =
       let line = get_or lines i no_span in
-      let past = kept_turn cell ns ps first at f in_run starts more line.past line.next_frozen now p size (is_line i at f at_is f_is inside).split (kept_here i at f in_run starts at_is f_is kept) more_is now_is w_is t_is p_inside in
+      let past = kept_step cell ns ps first at f in_run starts more line.past line.next_frozen now p size (is_line i at f at_is f_is inside).split (kept_here i at f in_run starts at_is f_is kept) more_is now_is w_is t_is p_inside in
       let e : suc i ≡ to = omega (arith, to_is) in
       subst (λ k. KeptAt k now more) e
       (subst (λ a. KeptSoFar cell ns ps first a (is_start_frozen false lines (suc i)) now more) (sym (start_after first lines i inside))

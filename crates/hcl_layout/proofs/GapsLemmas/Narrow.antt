@@ -62,9 +62,9 @@ set_width deep b true ps u = omega (arith, kept_width ps u)
 set_width deep b false ps u = indented_width deep b ps u
 
 -- each line is at most so wide
-abbrev pub AreNarrow : ℕ → List Line → Type 0
-AreNarrow most [] = Unit {0}
-AreNarrow most (line ∷ lines) = (width line.pairs ≤ most) × AreNarrow most lines
+abbrev pub AreWithinWidth : ℕ → List Line → Type 0
+AreWithinWidth most [] = Unit {0}
+AreWithinWidth most (line ∷ lines) = (width line.pairs ≤ most) × AreWithinWidth most lines
 
 utf8_parts : (ps qs : List Pair) → AreUtf8 (ps ++ qs) → AreUtf8 ps × AreUtf8 qs
 utf8_parts [] qs u = (tt, u)
@@ -74,10 +74,10 @@ bytes_append : (ps qs : List Pair) → bytes (ps ++ qs) ≡ bytes ps + bytes qs
 bytes_append [] qs = omega arith
 bytes_append (p ∷ ps) qs = omega (arith, bytes_append ps qs)
 
-set_narrow : (most : ℕ) (s : List ℕ) (b : List Kind) (lines : List Line) → AreUtf8 (pairs_in lines)
-    → 2 * (length s + length lines) + length (pairs_in lines) + bytes (pairs_in lines) ≤ most → AreNarrow most (format_lines_by_stack s b lines)
-set_narrow most s b [] u h = tt
-set_narrow most s b (line ∷ lines) u h =
+set_within_width : (most : ℕ) (s : List ℕ) (b : List Kind) (lines : List Line) → AreUtf8 (pairs_in lines)
+    → 2 * (length s + length lines) + length (pairs_in lines) + bytes (pairs_in lines) ≤ most → AreWithinWidth most (format_lines_by_stack s b lines)
+set_within_width most s b [] u h = tt
+set_within_width most s b (line ∷ lines) u h =
     let o : ℕ = openings line.pairs in
     let c : ℕ = closings line.pairs in
     let parts = utf8_parts line.pairs (pairs_in lines) u in
@@ -85,11 +85,11 @@ set_narrow most s b (line ∷ lines) u h =
     let sizes = length-append line.pairs (pairs_in lines) in
     let total = bytes_append line.pairs (pairs_in lines) in (
       omega (arith, here, at_shorter o c s, sizes, total, h),
-      set_narrow most (open_after_line o c s) (prev_after_all line.pairs b) lines parts.1 (omega (arith, after_shorter o c s, sizes, total, h)),
+      set_within_width most (open_after_line o c s) (prev_after_all line.pairs b) lines parts.1 (omega (arith, after_shorter o c s, sizes, total, h)),
     )
 
 -- cells of narrow lines
-pub widths_within : (most : ℕ) (cell : Line → Option ℕ) (lines : List Line) → AreNarrow most lines → AreAtMost most (widths cell lines)
+pub widths_within : (most : ℕ) (cell : Line → Option ℕ) (lines : List Line) → AreWithinWidth most lines → AreAtMost most (widths cell lines)
 widths_within most cell [] h = tt
 widths_within most cell (line ∷ lines) h = one (cell line) (widths_within most cell lines h.1)
   where
@@ -111,37 +111,37 @@ within_parts : (most : ℕ) (w : Option ℕ) (ws : List (Option ℕ)) → AreAtM
 within_parts most None ws h = (tt, h)
 within_parts most (Some w) ws h = ((h.0, tt), h.1)
 
-moved_narrow : (most more : ℕ) (cell : Line → Option ℕ) (rs : List (Option ℕ)) (lines : List Line) → AreNarrow most lines → AreAtMost more rs → AreNarrow (most + more) (with_cell_gaps cell rs lines)
-moved_narrow most more cell [] lines h k = wider lines h
+moved_within_width : (most more : ℕ) (cell : Line → Option ℕ) (rs : List (Option ℕ)) (lines : List Line) → AreWithinWidth most lines → AreAtMost more rs → AreWithinWidth (most + more) (with_cell_gaps cell rs lines)
+moved_within_width most more cell [] lines h k = wider lines h
   where
-    wider : (ls : List Line) → AreNarrow most ls → AreNarrow (most + more) ls
+    wider : (ls : List Line) → AreWithinWidth most ls → AreWithinWidth (most + more) ls
     wider [] n = tt
     wider (l ∷ ls) n = (omega (arith, n.0), wider ls n.1)
-moved_narrow most more cell (r ∷ rs) [] h k = tt
-moved_narrow most more cell (r ∷ rs) (line ∷ lines) h k =
+moved_within_width most more cell (r ∷ rs) [] h k = tt
+moved_within_width most more cell (r ∷ rs) (line ∷ lines) h k =
     let parts = within_parts more r rs k in
-    (moved_width (cell line) r line most more h.0 parts.0, moved_narrow most more cell rs lines h.1 parts.1)
+    (moved_width (cell line) r line most more h.0 parts.0, moved_within_width most more cell rs lines h.1 parts.1)
 
 cell_gaps_within : (most top : ℕ) (ws : List (Option ℕ)) → top ≤ most → AreAtMost most ws → AreAtMost (1 + most) (cell_gaps_from_width top ws)
 cell_gaps_within most top [] h k = tt
 cell_gaps_within most top (None ∷ ws) h k = cell_gaps_within most (greatest ws) ws (greatest_within most ws k) k
 cell_gaps_within most top (Some w ∷ ws) h k = (omega (arith, h), cell_gaps_within most top ws h k.1)
 
-pub aligned_narrow : (most : ℕ) (cell : Line → Option ℕ) (lines : List Line) → AreNarrow most lines → AreNarrow (most + (1 + most)) (aligned cell lines)
-aligned_narrow most cell lines h =
+pub aligned_within_width : (most : ℕ) (cell : Line → Option ℕ) (lines : List Line) → AreWithinWidth most lines → AreWithinWidth (most + (1 + most)) (aligned cell lines)
+aligned_within_width most cell lines h =
     let ws : List (Option ℕ) = widths cell lines in
     let within = widths_within most cell lines h in
-    subst (AreNarrow (most + (1 + most))) (sym (aligned_is cell lines))
-    (moved_narrow most (1 + most) cell (cell_gaps_from_width (greatest ws) ws) lines h (cell_gaps_within most (greatest ws) ws (greatest_within most ws within) within))
+    subst (AreWithinWidth (most + (1 + most))) (sym (aligned_is cell lines))
+    (moved_within_width most (1 + most) cell (cell_gaps_from_width (greatest ws) ws) lines h (cell_gaps_within most (greatest ws) ws (greatest_within most ws within) within))
 
 -- the lines of a text, indented and spaced
-pub base_lines_bounded : (ps : List Pair) → AreUtf8 ps → length ps ≤ 16777216 → bytes ps ≤ 16777216 → AreNarrow 536870911 (format_lines [] [] (lines_from 0 ps))
+pub base_lines_bounded : (ps : List Pair) → AreUtf8 ps → length ps ≤ 16777216 → bytes ps ≤ 16777216 → AreWithinWidth 536870911 (format_lines [] [] (lines_from 0 ps))
 base_lines_bounded ps u few short =
     let lines : List Line = lines_from 0 ps in
     let all = pairs_of_lines 0 ps in
     let count = fewer_lines 0 ps in
-    subst (λ ls. AreNarrow 536870911 ls) (sym (set_by_stack [] lines))
-    (set_narrow 536870911 [] [] lines (subst AreUtf8 (sym all) u) (omega (arith, ap length all, ap bytes all, count, few, short)))
+    subst (λ ls. AreWithinWidth 536870911 ls) (sym (set_by_stack [] lines))
+    (set_within_width 536870911 [] [] lines (subst AreUtf8 (sym all) u) (omega (arith, ap length all, ap bytes all, count, few, short)))
 
 pub within_more : (a b : ℕ) (ws : List (Option ℕ)) → a ≤ b → AreAtMost a ws → AreAtMost b ws
 within_more a b [] h k = tt

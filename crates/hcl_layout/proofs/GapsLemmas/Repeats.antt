@@ -8,7 +8,7 @@ use Rattle.hcl_layout.specs.Gaps.Inner.CodeViews.{cell_of, width_in, token_in, w
 use Rattle.hcl_layout.specs.Gaps.Inner.Stages.{greatest, set_cell_gaps, cell_gaps_from_width, AreAtMost, SplitsLine}
 use Rattle.hcl_layout.specs.declared.gaps.cells.Cell.{Cell}
 use Rattle.hcl_layout.specs.declared.gaps.cells.CellStart.{CellStart}
-use Rattle.hcl_layout.proofs.GapsLemmas.CellCode.{StartsSoFar, gapped_line, starts_turn, starts_end}
+use Rattle.hcl_layout.proofs.GapsLemmas.CellCode.{StartsSoFar, gapped_line, starts_step, starts_end}
 
 -- ---- pushing
 
@@ -38,13 +38,13 @@ pub record KeptSoFar (cell : Cell) (ns : List ℕ) (ps : List Pair) (first at : 
 pub kept_begins : (cell : Cell) (ns : List ℕ) (ps : List Pair) (first : ℕ) (starts : List (Option CellStart)) → starts ≡ [] → StartsSoFar cell ns ps first first false [] → KeptSoFar cell ns ps first first false false starts
 kept_begins cell ns ps first starts none so_far = record { all = []; so_far = so_far; kept = none; run = refl }
 
-pub kept_turn : (cell : Cell) (ns : List ℕ) (ps : List Pair) (first at : ℕ) (f in_run : Bool) (starts more : List (Option CellStart)) (past : ℕ) (next now : Bool) (p : Option CellStart) → length ns ≡ length ps
+pub kept_step : (cell : Cell) (ns : List ℕ) (ps : List Pair) (first at : ℕ) (f in_run : Bool) (starts more : List (Option CellStart)) (past : ℕ) (next now : Bool) (p : Option CellStart) → length ns ≡ length ps
     → SplitsLine ps at f past next → KeptSoFar cell ns ps first at f in_run starts → more ≡ starts ++ without_repeats in_run (p ∷ []) → now ≡ is_cell p
     → width_in p ≡ width_before (cell_of cell) (gapped_line ns ps at past f) → token_in p ≡ option_map (λ n. at + n) (cell_of cell (gapped_line ns ps at past f)) → IfSome p (λ q. q.token < length ps)
     → KeptSoFar cell ns ps first past next now more
-kept_turn cell ns ps first at f in_run starts more past next now p size split old more_is now_is w_is t_is inside = record {
+kept_step cell ns ps first at f in_run starts more past next now p size split old more_is now_is w_is t_is inside = record {
   all = old.all ++ p ∷ [];
-  so_far = starts_turn cell ns ps first at f old.all (old.all ++ p ∷ []) past next p size split old.so_far refl w_is t_is inside;
+  so_far = starts_step cell ns ps first at f old.all (old.all ++ p ∷ []) past next p size split old.so_far refl w_is t_is inside;
   kept = more_is ∙ ap (λ (ss : List (Option CellStart)). ss ++ without_repeats in_run (p ∷ [])) old.kept
       ∙ ap (λ b. without_repeats false old.all ++ without_repeats b (p ∷ [])) old.run ∙ sym (kept_push false old.all p);
   run = now_is ∙ sym (run_push false old.all p);

@@ -179,17 +179,17 @@ ends_again open_heredocs p f (q ∷ []) xs ends frozen h rest =
     rw here (ap (λ ls. record { frozen = nat_lt 0 open_heredocs; pairs = q ∷ [] } ∷ ls) (ap (λ k. lines_from (heredocs_after open_heredocs k) (pairs_in xs)) h.0 ∙ rest) ∙ same_line f (nat_lt 0 open_heredocs) (q ∷ []) xs frozen)
 ends_again open_heredocs p f (q ∷ r ∷ qs) xs ends frozen h rest = absurd h.2
 
-goes_again : (open_heredocs : ℕ) (p : Pair) (f : Bool) (qs : List Pair) (xs old : List Line) → ends_line open_heredocs p.kind ≡ false → Alike (record { frozen = f; pairs = qs } ∷ xs) (prepend_to_first (nat_lt 0 open_heredocs) p old)
+layout_lines_again : (open_heredocs : ℕ) (p : Pair) (f : Bool) (qs : List Pair) (xs old : List Line) → ends_line open_heredocs p.kind ≡ false → Alike (record { frozen = f; pairs = qs } ∷ xs) (prepend_to_first (nat_lt 0 open_heredocs) p old)
     → ((ys : List Line) → Alike ys old → lines_from (heredocs_after open_heredocs p.kind) (pairs_in ys) ≡ ys) → lines_from open_heredocs (qs ++ pairs_in xs) ≡ record { frozen = f; pairs = qs } ∷ xs
-goes_again open_heredocs p f [] xs [] goes h rest = absurd h.1
-goes_again open_heredocs p f [] xs (r ∷ rs) goes h rest = absurd h.1
-goes_again open_heredocs p f (q ∷ []) [] [] goes h rest =
-    let here : ends_line open_heredocs q.kind ≡ false = ap (ends_line open_heredocs) h.1.0 ∙ goes in
+layout_lines_again open_heredocs p f [] xs [] continues_line h rest = absurd h.1
+layout_lines_again open_heredocs p f [] xs (r ∷ rs) continues_line h rest = absurd h.1
+layout_lines_again open_heredocs p f (q ∷ []) [] [] continues_line h rest =
+    let here : ends_line open_heredocs q.kind ≡ false = ap (ends_line open_heredocs) h.1.0 ∙ continues_line in
     rw here (same_line f (nat_lt 0 open_heredocs) (q ∷ []) [] h.0)
-goes_again open_heredocs p f (q ∷ qs) (x ∷ xs) [] goes h rest = absurd h.2
-goes_again open_heredocs p f (q ∷ r ∷ qs) [] [] goes h rest = absurd h.1.2
-goes_again open_heredocs p f (q ∷ qs) xs (r ∷ rs) goes h rest =
-    let here : ends_line open_heredocs q.kind ≡ false = ap (ends_line open_heredocs) h.1.0 ∙ goes in
+layout_lines_again open_heredocs p f (q ∷ qs) (x ∷ xs) [] continues_line h rest = absurd h.2
+layout_lines_again open_heredocs p f (q ∷ r ∷ qs) [] [] continues_line h rest = absurd h.1.2
+layout_lines_again open_heredocs p f (q ∷ qs) xs (r ∷ rs) continues_line h rest =
+    let here : ends_line open_heredocs q.kind ≡ false = ap (ends_line open_heredocs) h.1.0 ∙ continues_line in
     let next = rest (record { frozen = r.frozen; pairs = qs } ∷ xs) (refl, h.1.2, h.2) in
     rw here (ap (prepend_to_first (nat_lt 0 open_heredocs) q) (ap (λ k. lines_from (heredocs_after open_heredocs k) (qs ++ pairs_in xs)) h.1.0 ∙ next) ∙ same_line f (nat_lt 0 open_heredocs) (q ∷ qs) xs h.0)
 
@@ -203,7 +203,7 @@ again_if : (open_heredocs : ℕ) (p : Pair) (ps : List Pair) (ends : Bool) → e
 again_if open_heredocs p ps true is [] k rest = absurd k
 again_if open_heredocs p ps true is (y ∷ ys) k rest = ends_again open_heredocs p y.frozen y.pairs ys is k.0 k.1 (rest ys k.2)
 again_if open_heredocs p ps false is [] k rest = absurd (no_first (nat_lt 0 open_heredocs) p (lines_from (heredocs_after open_heredocs p.kind) ps) k)
-again_if open_heredocs p ps false is (y ∷ ys) k rest = goes_again open_heredocs p y.frozen y.pairs ys (lines_from (heredocs_after open_heredocs p.kind) ps) is k rest
+again_if open_heredocs p ps false is (y ∷ ys) k rest = layout_lines_again open_heredocs p y.frozen y.pairs ys (lines_from (heredocs_after open_heredocs p.kind) ps) is k rest
 
 -- tokens that are split as lines were, are these lines
 pub split_again : (open_heredocs : ℕ) (ps : List Pair) (xs : List Line) → Alike xs (lines_from open_heredocs ps) → lines_from open_heredocs (pairs_in xs) ≡ xs

@@ -9,7 +9,7 @@ use Rattle.hcl_token.specs.TokenizedText.{gap_of, clusters_of}
 use Rattle.hcl_layout.specs.Gaps.Space.{spaces}
 use Rattle.hcl_layout.specs.Gaps.Cells.{width}
 use Rattle.hcl_layout.specs.Gaps.Inner.Stages.{KEEP_GAP, resolved_gap, with_gaps}
-use Rattle.hcl_layout.proofs.GapsLemmas.LineLemmas.{turn}
+use Rattle.hcl_layout.proofs.GapsLemmas.LineLemmas.{token_here}
 use Rattle.hcl_layout.proofs.GapsLemmas.CellGaps.{gapped, gaps_length}
 use Rattle.hcl_layout.proofs.GapsLemmas.GapLaw.{length_replicate}
 
@@ -17,7 +17,7 @@ use Rattle.hcl_layout.proofs.GapsLemmas.GapLaw.{length_replicate}
 pub gap_length_is : (ns : List ℕ) (ps : List Pair) (i : ℕ) → length ns ≡ length ps → i < length ps
     → (p : Pair) × (slice_get ps i ≡ Some p) × (option_map (λ (q : Pair). length q.gap) (slice_get (with_gaps ns ps) i) ≡ Some (length (resolved_gap (get_or ns i 0) p.gap)))
 gap_length_is ns ps i size inside =
-    let t = turn ps i (length ps) inside (omega arith) in
+    let t = token_here ps i (length ps) inside (omega arith) in
     (t.pair, t.at, ap (option_map (λ (q : Pair). length q.gap)) (gapped ns ps i t.pair size t.at))
 
 pub kept_length : (ns : List ℕ) (ps : List Pair) (i n k : ℕ) (g : List ℕ) → length ns ≡ length ps → i < length ps → n ≡ get_or ns i 0 → (n == KEEP_GAP) ≡ true → Some g ≡ gap_of ps i → k ≡ length g
@@ -38,13 +38,13 @@ spaces_length ns ps i n size inside n_is test =
     sym (h.2 ∙ ap (λ (x : List ℕ). Some (length x)) all ∙ ap Some (length_replicate (get_or ns i 0) 32 ∙ sym n_is))
 
 -- one token more
-pub width_turn : (ns : List ℕ) (ps : List Pair) (i to k c : ℕ) → length ns ≡ length ps → i < to → to ≤ length ps
+pub width_step : (ns : List ℕ) (ps : List Pair) (i to k c : ℕ) → length ns ≡ length ps → i < to → to ≤ length ps
     → Some k ≡ option_map (λ (p : Pair). length p.gap) (slice_get (with_gaps ns ps) i) → Some c ≡ clusters_of ps i
     → width (slice_range (with_gaps ns ps) i to) ≡ (k + c) + width (slice_range (with_gaps ns ps) (i + 1) to)
-width_turn ns ps i to k c size less within k_is c_is =
-    let t = turn ps i (length ps) (omega arith) (omega arith) in
+width_step ns ps i to k c size less within k_is c_is =
+    let t = token_here ps i (length ps) (omega arith) (omega arith) in
     let all = gaps_length ns ps size in
-    let u = turn (with_gaps ns ps) i to less (omega (arith, all)) in
+    let u = token_here (with_gaps ns ps) i to less (omega (arith, all)) in
     let found = gapped ns ps i t.pair size t.at in
     let same : u.pair ≡ record t.pair { gap = resolved_gap (get_or ns i 0) t.pair.gap } = let e = sym u.at ∙ found in cc in
     let k_same : k ≡ length u.pair.gap = let e = k_is ∙ ap (option_map (λ (p : Pair). length p.gap)) u.at in cc in

@@ -25,9 +25,9 @@ searching at run = record {
 }
 
 -- what is left, after the last that is known to come first, in its parts
-parts_of : (left before : List EndOffset) (last x end : EndOffset) (behind : List EndOffset) → Halves left before x behind → end ≡ plus last x
-    → map (plus last) (ends_of left) ≡ map (plus last) (ends_of before) ++ end ∷ map (plus end) (ends_of behind)
-parts_of left before last x end behind h is = halves_beyond last left before x behind h ∙ (λ i. map (plus last) (ends_of before) ++ sym is i ∷ map (plus (sym is i)) (ends_of behind))
+parts_of : (left before : List EndOffset) (last x end : EndOffset) (following : List EndOffset) → Halves left before x following → end ≡ plus last x
+    → map (plus last) (ends_of left) ≡ map (plus last) (ends_of before) ++ end ∷ map (plus end) (ends_of following)
+parts_of left before last x end following h is = halves_beyond last left before x following h ∙ (λ i. map (plus last) (ends_of before) ++ sym is i ∷ map (plus (sym is i)) (ends_of following))
 
 lens_of : (before : List EndOffset) (last : EndOffset) → length (map (plus last) (ends_of before)) ≡ length before
 lens_of before last = length-map (ends_of before) (plus last) ∙ ends_len before
@@ -46,12 +46,12 @@ middle_among es prefix suffix l r m end split parts small =
     let a = subst (λ (z : List EndOffset). AllByRecursion IsSmall z) (to_left es prefix suffix l r m end split parts) small in
     (all_right IsSmall (prefix ++ l) (end ∷ (r ++ suffix)) a).0
 
-pub middle_small : (at : ℕ) (es left before : List EndOffset) (count : ℕ) (last : EndOffset) (next : Option ℕ) (x : EndOffset) (behind : List EndOffset) → Searching at es left count last next → Halves left before x behind → AllByRecursion IsSmall es → IsSmall (plus last x)
-middle_small at es left before count last next x behind s h small =
-    middle_among es s.prefix s.suffix _ _ (map (plus last) (ends_of left)) (plus last x) s.split (parts_of left before last x (plus last x) behind h refl) small
+pub middle_small : (at : ℕ) (es left before : List EndOffset) (count : ℕ) (last : EndOffset) (next : Option ℕ) (x : EndOffset) (following : List EndOffset) → Searching at es left count last next → Halves left before x following → AllByRecursion IsSmall es → IsSmall (plus last x)
+middle_small at es left before count last next x following s h small =
+    middle_among es s.prefix s.suffix _ _ (map (plus last) (ends_of left)) (plus last x) s.split (parts_of left before last x (plus last x) following h refl) small
 
-pub count_fits : (at : ℕ) (run left before : List EndOffset) (count : ℕ) (last : EndOffset) (next : Option ℕ) (x : EndOffset) (behind : List EndOffset) → Searching at (ends_of run) left count last next → Halves left before x behind → count + (length before + 1) ≤ length run
-count_fits at run left before count last next x behind s h =
+pub count_fits : (at : ℕ) (run left before : List EndOffset) (count : ℕ) (last : EndOffset) (next : Option ℕ) (x : EndOffset) (following : List EndOffset) → Searching at (ends_of run) left count last next → Halves left before x following → count + (length before + 1) ≤ length run
+count_fits at run left before count last next x following s h =
     let c = s.count_is in
     let l = ap length s.split in
     let e = ends_len run in
@@ -61,9 +61,9 @@ count_fits at run left before count last next x behind s h =
     let k = h.lens in
     omega (arith, c, l, e, m, a, b, k)
 
-pub goes_right : (at : ℕ) (es left before : List EndOffset) (count : ℕ) (last : EndOffset) (next : Option ℕ) (x end : EndOffset) (behind : List EndOffset) → Searching at es left count last next → Halves left before x behind → end ≡ plus last x → end.new < at
-    → Searching at es behind (count + (length before + 1)) end next
-goes_right at es left before count last next x end behind s h is lt =
+pub search_right : (at : ℕ) (es left before : List EndOffset) (count : ℕ) (last : EndOffset) (next : Option ℕ) (x end : EndOffset) (following : List EndOffset) → Searching at es left count last next → Halves left before x following → end ≡ plus last x → end.new < at
+    → Searching at es following (count + (length before + 1)) end next
+search_right at es left before count last next x end following s h is lt =
     let l = map (plus last) (ends_of before) in
     let n = lens_of before last in
     let c = s.count_is in
@@ -72,18 +72,18 @@ goes_right at es left before count last next x end behind s h is lt =
     record {
       prefix = (s.prefix ++ l) ++ end ∷ [];
       suffix = s.suffix;
-      split = to_right es s.prefix s.suffix l _ _ end s.split (parts_of left before last x end behind h is);
+      split = to_right es s.prefix s.suffix l _ _ end s.split (parts_of left before last x end following h is);
       count_is = omega (arith, n, c, len1, len2);
       last_is = inr (s.prefix ++ l, refl, lt);
       next_is = s.next_is;
     }
 
-pub goes_left : (at : ℕ) (es left before : List EndOffset) (count : ℕ) (last : EndOffset) (next : Option ℕ) (x end : EndOffset) (behind : List EndOffset) → Searching at es left count last next → Halves left before x behind → end ≡ plus last x → at ≤ end.new
+pub search_left : (at : ℕ) (es left before : List EndOffset) (count : ℕ) (last : EndOffset) (next : Option ℕ) (x end : EndOffset) (following : List EndOffset) → Searching at es left count last next → Halves left before x following → end ≡ plus last x → at ≤ end.new
     → Searching at es before count last (Some end.new)
-goes_left at es left before count last next x end behind s h is le = record {
+search_left at es left before count last next x end following s h is le = record {
   prefix = s.prefix;
-  suffix = end ∷ (map (plus end) (ends_of behind) ++ s.suffix);
-  split = to_left es s.prefix s.suffix _ _ _ end s.split (parts_of left before last x end behind h is);
+  suffix = end ∷ (map (plus end) (ends_of following) ++ s.suffix);
+  split = to_left es s.prefix s.suffix _ _ _ end s.split (parts_of left before last x end following h is);
   count_is = s.count_is;
   last_is = s.last_is;
   next_is = (refl, le);
@@ -110,25 +110,25 @@ pub record Seeking (number : ℕ) (es left : List EndOffset) (i : ℕ) (last : E
 pub seeking : (number : ℕ) (run : List EndOffset) → number < length run → Seeking number (ends_of run) run number no_offset
 seeking number run lt = record { prefix = []; suffix = []; split = sym (append-nil _ ∙ from_nowhere (ends_of run)); number_is = omega arith; i_lt = lt }
 
-pub sought_small : (number : ℕ) (es left before : List EndOffset) (i : ℕ) (last : EndOffset) (x : EndOffset) (behind : List EndOffset) → Seeking number es left i last → Halves left before x behind → AllByRecursion IsSmall es → IsSmall (plus last x)
-sought_small number es left before i last x behind s h small =
-    middle_among es s.prefix s.suffix _ _ (map (plus last) (ends_of left)) (plus last x) s.split (parts_of left before last x (plus last x) behind h refl) small
+pub sought_small : (number : ℕ) (es left before : List EndOffset) (i : ℕ) (last : EndOffset) (x : EndOffset) (following : List EndOffset) → Seeking number es left i last → Halves left before x following → AllByRecursion IsSmall es → IsSmall (plus last x)
+sought_small number es left before i last x following s h small =
+    middle_among es s.prefix s.suffix _ _ (map (plus last) (ends_of left)) (plus last x) s.split (parts_of left before last x (plus last x) following h refl) small
 
-pub sought : (number : ℕ) (es left before : List EndOffset) (i : ℕ) (last x end : EndOffset) (behind : List EndOffset) → Seeking number es left i last → Halves left before x behind → end ≡ plus last x → i ≡ length before → IsEndOf es number end
-sought number es left before i last x end behind s h is same =
+pub sought : (number : ℕ) (es left before : List EndOffset) (i : ℕ) (last x end : EndOffset) (following : List EndOffset) → Seeking number es left i last → Halves left before x following → end ≡ plus last x → i ≡ length before → IsEndOf es number end
+sought number es left before i last x end following s h is same =
     let l = map (plus last) (ends_of before) in
     let n = lens_of before last in
     let c = s.number_is in
     let len = length-append s.prefix l in
     record {
       prefix = s.prefix ++ l;
-      suffix = map (plus end) (ends_of behind) ++ s.suffix;
-      split = to_left es s.prefix s.suffix l _ _ end s.split (parts_of left before last x end behind h is);
+      suffix = map (plus end) (ends_of following) ++ s.suffix;
+      split = to_left es s.prefix s.suffix l _ _ end s.split (parts_of left before last x end following h is);
       number_is = omega (arith, n, c, len, same);
     }
 
-pub seeks_right : (number : ℕ) (es left before : List EndOffset) (i : ℕ) (last x end : EndOffset) (behind : List EndOffset) → Seeking number es left i last → Halves left before x behind → end ≡ plus last x → length before < i → Seeking number es behind (i - (length before + 1)) end
-seeks_right number es left before i last x end behind s h is lt =
+pub seeks_right : (number : ℕ) (es left before : List EndOffset) (i : ℕ) (last x end : EndOffset) (following : List EndOffset) → Seeking number es left i last → Halves left before x following → end ≡ plus last x → length before < i → Seeking number es following (i - (length before + 1)) end
+seeks_right number es left before i last x end following s h is lt =
     let l = map (plus last) (ends_of before) in
     let n = lens_of before last in
     let c = s.number_is in
@@ -139,16 +139,16 @@ seeks_right number es left before i last x end behind s h is lt =
     record {
       prefix = (s.prefix ++ l) ++ end ∷ [];
       suffix = s.suffix;
-      split = to_right es s.prefix s.suffix l _ _ end s.split (parts_of left before last x end behind h is);
+      split = to_right es s.prefix s.suffix l _ _ end s.split (parts_of left before last x end following h is);
       number_is = omega (arith, n, c, len1, len2, lt);
       i_lt = omega (arith, k, t, lt);
     }
 
-pub seeks_left : (number : ℕ) (es left before : List EndOffset) (i : ℕ) (last x : EndOffset) (behind : List EndOffset) → Seeking number es left i last → Halves left before x behind → i < length before → Seeking number es before i last
-seeks_left number es left before i last x behind s h lt = record {
+pub seeks_left : (number : ℕ) (es left before : List EndOffset) (i : ℕ) (last x : EndOffset) (following : List EndOffset) → Seeking number es left i last → Halves left before x following → i < length before → Seeking number es before i last
+seeks_left number es left before i last x following s h lt = record {
   prefix = s.prefix;
-  suffix = plus last x ∷ (map (plus (plus last x)) (ends_of behind) ++ s.suffix);
-  split = to_left es s.prefix s.suffix _ _ _ (plus last x) s.split (parts_of left before last x (plus last x) behind h refl);
+  suffix = plus last x ∷ (map (plus (plus last x)) (ends_of following) ++ s.suffix);
+  split = to_left es s.prefix s.suffix _ _ _ (plus last x) s.split (parts_of left before last x (plus last x) following h refl);
   number_is = s.number_is;
   i_lt = lt;
 }

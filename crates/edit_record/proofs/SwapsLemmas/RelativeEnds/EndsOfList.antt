@@ -5,7 +5,7 @@ use Rattle.std.proofs.lemmas.List.{take_at, drop_at, append-nil, take-append-dro
 use Rattle.edit_record.specs.declared.lists.edits.TheConstants.{MAX_TEXT}
 use Rattle.edit_record.specs.Lists.Pieces.{EditEntry, EditList, added_len, removed_len}
 use Rattle.edit_record.specs.Lists.Validity.{AreDisjoint, AreValidEdits, new_len}
-use Rattle.edit_record.proofs.ListsLemmas.Placed.{placed_room}
+use Rattle.edit_record.proofs.ListsLemmas.Placed.{placed_within}
 use Rattle.edit_record.specs.declared.swaps.relative_ends.EndOffset.{EndOffset}
 use Rattle.edit_record.specs.Swaps.Inner.RelativeEnds.{no_offset, ends, ends_of, plus, IsSmall, EndsAfterBy, CanShift, shifted, shifted_from}
 use Rattle.edit_record.specs.Swaps.Inner.EditEnds.{ends_at}
@@ -32,12 +32,12 @@ all_nowhere (suc n) (y ∷ ys) l h =
     let w : Halved run x = halved_or run y (omega arith) in
     let a = w.left_len in let b = w.right_len in let c = w.middle_lt in
     let P : EndOffset → Type 0 = λ r. r ≡ no_offset in
-    let cut = subst (λ (l : List EndOffset). AllByRecursion P l) (sym (take-append-drop m run)) h in
-    let is_before = all_left P (take m run) (drop m run) cut in
-    let behind = subst (λ (l : List EndOffset). AllByRecursion P l) w.middle_is (all_right P (take m run) (drop m run) cut) in
+    let split_is = subst (λ (l : List EndOffset). AllByRecursion P l) (sym (take-append-drop m run)) h in
+    let is_before = all_left P (take m run) (drop m run) split_is in
+    let following = subst (λ (l : List EndOffset). AllByRecursion P l) w.middle_is (all_right P (take m run) (drop m run) split_is) in
     let p = all_nowhere n (take m run) (omega (arith, a, c, l)) is_before in
-    let q = all_nowhere n (drop (m + 1) run) (omega (arith, b, l)) behind.1 in
-    subst (λ (l : List EndOffset). AllByRecursion P l) (sym (ends_step n run x w)) (all_both P (ends n (take m run)) _ p (behind.0, nowhere_beyond x (ends n (drop (m + 1) run)) behind.0 q))
+    let q = all_nowhere n (drop (m + 1) run) (omega (arith, b, l)) following.1 in
+    subst (λ (l : List EndOffset). AllByRecursion P l) (sym (ends_step n run x w)) (all_both P (ends n (take m run)) _ p (following.0, nowhere_beyond x (ends n (drop (m + 1) run)) following.0 q))
 
 constant : (last : EndOffset) (xs : List EndOffset) (es : List EditEntry) → AllByRecursion (λ r. r ≡ last) xs → length xs ≡ length es → xs ≡ map (λ _. last) es
 constant last [] [] h l = refl
@@ -107,7 +107,7 @@ module _ (n : ℕ) (es : List EditEntry) (i old : ℕ) (found : List EndOffset) 
   last_small : IsSmall b.last
   last_small =
       let o = b.last_old in let w = b.last_new in let s = b.sums in
-      let r = placed_room n old b.left b.disjoint in
+      let r = placed_within n old b.left b.disjoint in
       (omega (arith, o, r, n_small), omega (arith, o, w, s, r, n_small, few))
 
   pub built_small : AllByRecursion IsSmall found
@@ -122,8 +122,8 @@ module _ (n : ℕ) (es : List EditEntry) (i old : ℕ) (found : List EndOffset) 
   drop_done : drop i found ≡ map (λ _. b.last) b.left
   drop_done = ap (drop i) b.found_is ∙ drop_at (ends_at 0 0 b.done) (map (λ _. b.last) b.left) i (ends_len_at 0 0 b.done ∙ b.count)
 
-  pub built_room : CanShift 0 i found
-  built_room = record {
+  pub built_can_shift : CanShift 0 i found
+  built_can_shift = record {
     start = far_zero (drop i found);
     after_others = subst (λ (l : List EndOffset). AllByRecursion (λ f. AllByRecursion (EndsAfterBy 0 f) l) (take i found)) (sym drop_done)
         (subst (λ (l : List EndOffset). AllByRecursion (λ f. AllByRecursion (EndsAfterBy 0 f) (map (λ _. b.last) b.left)) l) (sym take_done)
@@ -161,7 +161,7 @@ module _ (n : ℕ) (es : List EditEntry) (i old : ℕ) (found : List EndOffset) 
         let d = length-append b.done (y ∷ []) in
         let s = b.sums in
         let sl = ap added_len left_is in
-        let front : ends_at 0 0 (b.done ++ y ∷ []) ≡ ends_at 0 0 b.done ++ end ∷ [] =
+        let leading : ends_at 0 0 (b.done ++ y ∷ []) ≡ ends_at 0 0 b.done ++ end ∷ [] =
         ends_append 0 0 b.done (y ∷ []) ∙ (let e1 : 0 + added_len b.done ≡ added_len b.done = omega arith in let e2 : 0 + removed_len b.done ≡ removed_len b.done = omega arith in λ j. ends_at 0 0 b.done ++ ends_at (e1 j) (e2 j) (y ∷ [])) in
         let tail : map (shifted later 0) (drop i found) ≡ end ∷ map (λ _. end) rest = ap (map (shifted later 0)) (drop_done ∙ ap (map (λ _. b.last)) left_is) ∙ to_last later end (y ∷ rest) moves in
         record {
@@ -172,8 +172,8 @@ module _ (n : ℕ) (es : List EditEntry) (i old : ℕ) (found : List EndOffset) 
           last = end;
           last_old = refl;
           last_new = omega (arith, o, w, p, sa, sr);
-          found_is = is ∙ (λ j. take_done j ++ tail j) ∙ sym (append_assoc (ends_at 0 0 b.done) (end ∷ []) (map (λ _. end) rest)) ∙ ap (λ (z : List EndOffset). z ++ map (λ _. end) rest) (sym front);
-          before = subst (λ (l : List EndOffset). AllByRecursion (λ f. (f.old ≤ end.old) × (f.new ≤ end.new)) l) (sym front)
+          found_is = is ∙ (λ j. take_done j ++ tail j) ∙ sym (append_assoc (ends_at 0 0 b.done) (end ∷ []) (map (λ _. end) rest)) ∙ ap (λ (z : List EndOffset). z ++ map (λ _. end) rest) (sym leading);
+          before = subst (λ (l : List EndOffset). AllByRecursion (λ f. (f.old ≤ end.old) × (f.new ≤ end.new)) l) (sym leading)
               (all_both (λ f. (f.old ≤ end.old) × (f.new ≤ end.new)) (ends_at 0 0 b.done) (end ∷ [])
               (all_map (λ f. (f.old ≤ b.last.old) × (f.new ≤ b.last.new)) (λ f. (f.old ≤ end.old) × (f.new ≤ end.new)) (λ f h. let x = h.0 in let z = h.1 in (omega (arith, x, o, p), omega (arith, z, o, w, p))) (ends_at 0 0 b.done) b.before)
               ((omega arith, omega arith), tt));

@@ -21,25 +21,25 @@ use Rattle.edit_record.proofs.SwapsLemmas.Spans.{added_later}
 -- ---- members by their numbers
 
 -- it is in the first part, or in the second
-at_split : (k : ℕ) (o : Span) (front back : List Span) → IsItem k o (front ++ back) → ((k < length front) × IsItem k o front) ⊎ ((d : ℕ) × (k ≡ length front + d) × IsItem d o back)
+at_split : (k : ℕ) (o : Span) (leading back : List Span) → IsItem k o (leading ++ back) → ((k < length leading) × IsItem k o leading) ⊎ ((d : ℕ) × (k ≡ length leading + d) × IsItem d o back)
 at_split k o [] back h = inr (k, omega arith, h)
-at_split zero o (f ∷ front) back h = inl (omega arith, h)
-at_split (suc k) o (f ∷ front) back h =
+at_split zero o (f ∷ leading) back h = inl (omega arith, h)
+at_split (suc k) o (f ∷ leading) back h =
     ⊎_elim
     (λ one. let lt = one.0 in inl (omega (arith, lt), one.1))
     (λ other. let is = other.1 in inr (other.0, omega (arith, is), other.2))
-    (at_split k o front back h)
+    (at_split k o leading back h)
 
 at_all : (P : Span → Type 0) (k : ℕ) (o : Span) (xs : List Span) → AllByRecursion P xs → IsItem k o xs → P o
 at_all P k o [] a h = elim h [ ]
 at_all P zero o (x ∷ xs) a h = subst P (sym h) a.0
 at_all P (suc k) o (x ∷ xs) a h = at_all P k o xs a.1 h
 
-at_seam : (o : Span) (front rest : List Span) (k : ℕ) → k ≡ length front → IsItem k o (front ++ o ∷ rest)
+at_seam : (o : Span) (leading rest : List Span) (k : ℕ) → k ≡ length leading → IsItem k o (leading ++ o ∷ rest)
 at_seam o [] rest zero e = refl
 at_seam o [] rest (suc k) e = absurd (omega (arith, e))
-at_seam o (f ∷ front) rest zero e = absurd (omega (arith, e))
-at_seam o (f ∷ front) rest (suc k) e = at_seam o front rest k (omega (arith, e))
+at_seam o (f ∷ leading) rest zero e = absurd (omega (arith, e))
+at_seam o (f ∷ leading) rest (suc k) e = at_seam o leading rest k (omega (arith, e))
 
 -- ---- edits of the first list
 
@@ -51,19 +51,19 @@ record Halves (at : ℕ) (all : List EditEntry) (spans : List Span) (back : List
   added : ℕ
   removed : ℕ
   done : List EditEntry
-  front : List Span
+  leading : List Span
   xs : List EditEntry
   all_is : all ≡ done ++ xs
-  is : spans ≡ front ++ added_spans old mid xs
+  is : spans ≡ leading ++ added_spans old mid xs
   done_is : count ≡ length done
-  count_is : count ≡ length front
-  before : AllByRecursion (λ x. span_end x < at) front
+  count_is : count ≡ length leading
+  before : AllByRecursion (λ x. span_end x < at) leading
   disjoint : AreDisjoint n old xs
   level : mid + removed ≡ old + added
   ends : ends_at added removed xs ≡ back
 
-halves : (at n old mid a r : ℕ) (xs : List EditEntry) (front back : List EndOffset) → AreDisjoint n old xs → mid + r ≡ old + a → ends_at a r xs ≡ front ++ back → AllByRecursion (λ e. e.new < at) front
-    → Halves at xs (added_spans old mid xs) back (length front)
+halves : (at n old mid a r : ℕ) (xs : List EditEntry) (leading back : List EndOffset) → AreDisjoint n old xs → mid + r ≡ old + a → ends_at a r xs ≡ leading ++ back → AllByRecursion (λ e. e.new < at) leading
+    → Halves at xs (added_spans old mid xs) back (length leading)
 halves at n old mid a r xs [] back p l e h = record {
   n = n;
   old = old;
@@ -71,7 +71,7 @@ halves at n old mid a r xs [] back p l e h = record {
   added = a;
   removed = r;
   done = [];
-  front = [];
+  leading = [];
   xs = xs;
   all_is = refl;
   is = refl;
@@ -82,13 +82,13 @@ halves at n old mid a r xs [] back p l e h = record {
   level = l;
   ends = e;
 }
-halves at n old mid a r [] (f ∷ front) back p l e h = let q = ap length e in absurd (omega (arith, q))
-halves at n old mid a r (x ∷ xs) (f ∷ front) back p l e h =
+halves at n old mid a r [] (f ∷ leading) back p l e h = let q = ap length e in absurd (omega (arith, q))
+halves at n old mid a r (x ∷ xs) (f ∷ leading) back p l e h =
     let w = p.0.later in
     let first : (x.at + a + length x.added) - r ≡ f.new = ap (head_new 0) e in
     let lt = h.0 in
     let from = mid + (x.at - old) in
-    let rest = halves at n (x.at + length x.removed) (from + length x.added) (a + length x.added) (r + length x.removed) xs front back p.1 (omega (arith, w, l)) (ap (drop 1) e) h.1 in
+    let rest = halves at n (x.at + length x.removed) (from + length x.added) (a + length x.added) (r + length x.removed) xs leading back p.1 (omega (arith, w, l)) (ap (drop 1) e) h.1 in
     let c = rest.count_is in
     let d = rest.done_is in
     let span : Span = record { from = from; len = length x.added; other = length x.removed } in
@@ -99,7 +99,7 @@ halves at n old mid a r (x ∷ xs) (f ∷ front) back p l e h =
       added = rest.added;
       removed = rest.removed;
       done = x ∷ rest.done;
-      front = span ∷ rest.front;
+      leading = span ∷ rest.leading;
       xs = rest.xs;
       all_is = ap (λ (z : List EditEntry). x ∷ z) rest.all_is;
       is = ap (λ (z : List Span). span ∷ z) rest.is;
@@ -121,7 +121,7 @@ pub record Next (at : ℕ) (all : List EditEntry) (spans : List Span) (count end
   pub one : Span
   pub one_is : IsItem count one spans
   pub len_is : one.len ≡ length x.added
-  pub past_is : span_end one ≡ end
+  pub span_end_is : span_end one ≡ end
   pub after : at ≤ end
   pub lowest : (i : ℕ) (o : Span) → IsItem i o spans → at ≤ span_end o → (count ≤ i) × (one.from ≤ o.from)
 
@@ -137,9 +137,9 @@ no_spans a r old mid d o (x ∷ xs) e h = let l = ap length e in absurd (omega (
 nothing_found : (at : ℕ) (all : List EditEntry) (spans : List Span) (count : ℕ) → Halves at all spans [] count → (i : ℕ) (o : Span) → IsItem i o spans → span_end o < at
 nothing_found at all spans count h i o a =
     ⊎_elim
-    (λ one. at_all (λ x. span_end x < at) i o h.front h.before one.1)
+    (λ one. at_all (λ x. span_end x < at) i o h.leading h.before one.1)
     (λ other. absurd (no_spans h.added h.removed h.old h.mid other.0 o h.xs h.ends other.2))
-    (at_split i o h.front (added_spans h.old h.mid h.xs) (subst (λ (l : List Span). IsItem i o l) h.is a))
+    (at_split i o h.leading (added_spans h.old h.mid h.xs) (subst (λ (l : List Span). IsItem i o l) h.is a))
 
 -- of these the first is the one
 next_lowest : (n old mid : ℕ) (x : EditEntry) (xs : List EditEntry) (d : ℕ) (o : Span) → AreDisjoint n old (x ∷ xs) → IsItem d o (added_spans old mid (x ∷ xs)) → mid + (x.at - old) ≤ o.from
@@ -154,7 +154,7 @@ found_next at all spans e es count (x ∷ xs) h is le =
     let w = p.0.later in
     let v = h.level in
     let one : Span = record { from = h.mid + (x.at - h.old); len = length x.added; other = length x.removed } in
-    let cut : spans ≡ h.front ++ added_spans h.old h.mid (x ∷ xs) = h.is ∙ ap (λ (l : List EditEntry). h.front ++ added_spans h.old h.mid l) is in
+    let split_is : spans ≡ h.leading ++ added_spans h.old h.mid (x ∷ xs) = h.is ∙ ap (λ (l : List EditEntry). h.leading ++ added_spans h.old h.mid l) is in
     let first : (x.at + h.added + length x.added) - h.removed ≡ e.new = ap (head_new 0) (sym (ap (ends_at h.added h.removed) is) ∙ h.ends) in
     let c = h.count_is in
     record {
@@ -164,15 +164,15 @@ found_next at all spans e es count (x ∷ xs) h is le =
       all_is = h.all_is ∙ ap (λ (l : List EditEntry). h.done ++ l) is;
       done_is = h.done_is;
       one = one;
-      one_is = subst (λ (l : List Span). IsItem count one l) (sym cut) (at_seam one h.front _ count c);
+      one_is = subst (λ (l : List Span). IsItem count one l) (sym split_is) (at_seam one h.leading _ count c);
       len_is = refl;
-      past_is = omega (arith, w, v, first);
+      span_end_is = omega (arith, w, v, first);
       after = le;
       lowest = λ i o a late.
           ⊎_elim
-          (λ front. let b = at_all (λ x. span_end x < at) i o h.front h.before front.1 in absurd (omega (arith, b, late)))
+          (λ leading. let b = at_all (λ x. span_end x < at) i o h.leading h.before leading.1 in absurd (omega (arith, b, late)))
           (λ back. let k = back.1 in (omega (arith, k, c), next_lowest h.n h.old h.mid x xs back.0 o p back.2))
-          (at_split i o h.front (added_spans h.old h.mid (x ∷ xs)) (subst (λ (l : List Span). IsItem i o l) cut a));
+          (at_split i o h.leading (added_spans h.old h.mid (x ∷ xs)) (subst (λ (l : List Span). IsItem i o l) split_is a));
     }
 
 found_in : (at : ℕ) (all : List EditEntry) (spans : List Span) (back : List EndOffset) (count : ℕ) (next : Option ℕ) → Halves at all spans back count → NextEndsAt at back next → Found at all spans count next
@@ -184,17 +184,17 @@ found_in at all spans (e ∷ es) count (Some end) h g =
     let same : end ≡ e.new = cc in
     subst (λ n. Next at all spans count n) (sym same) (found_next at all spans e es count h.xs h refl g.1)
 
-front_before : (at n : ℕ) (xs : List EditEntry) (front back : List EndOffset) (last : EndOffset) → AreDisjoint n 0 xs → ends_at 0 0 xs ≡ front ++ back → LastEndsBefore at front last → AllByRecursion (λ e. e.new < at) front
-front_before at n xs front back last p e (inl none) = subst (λ (l : List EndOffset). AllByRecursion (λ e. e.new < at) l) (sym none.0) tt
-front_before at n xs front back last p e (inr some) =
-    all_before n 0 0 0 0 0 at xs front back last p (omega arith) (omega arith) (ap (ends_at 0 0) (later_same xs) ∙ e) some.0 some.1 some.2
+prefix_before : (at n : ℕ) (xs : List EditEntry) (leading back : List EndOffset) (last : EndOffset) → AreDisjoint n 0 xs → ends_at 0 0 xs ≡ leading ++ back → LastEndsBefore at leading last → AllByRecursion (λ e. e.new < at) leading
+prefix_before at n xs leading back last p e (inl none) = subst (λ (l : List EndOffset). AllByRecursion (λ e. e.new < at) l) (sym none.0) tt
+prefix_before at n xs leading back last p e (inr some) =
+    all_before n 0 0 0 0 0 at xs leading back last p (omega arith) (omega arith) (ap (ends_at 0 0) (later_same xs) ∙ e) some.0 some.1 some.2
 
 -- what a search finds among the edits
 pub found_by : (m : MovingEdits) (at count : ℕ) (last : EndOffset) (next : Option ℕ) → IsWellFormed m → IsPartition at (ends_of m.ends.items) count last next → Found at (edits_now m).entries (added_spans 0 0 (edits_now m).entries) count next
 found_by m at count last next moving p =
     let xs = (edits_now m).entries in
-    let cut = sym moving.ends ∙ p.split in
-    let h = halves at m.old_len 0 0 0 0 xs p.prefix p.suffix moving.made.disjoint refl cut (front_before at m.old_len xs p.prefix p.suffix last moving.made.disjoint cut p.last_is) in
+    let split_is = sym moving.ends ∙ p.split in
+    let h = halves at m.old_len 0 0 0 0 xs p.prefix p.suffix moving.made.disjoint refl split_is (prefix_before at m.old_len xs p.prefix p.suffix last moving.made.disjoint split_is p.last_is) in
     found_in at xs (added_spans 0 0 xs) p.suffix count next (subst (λ (k : ℕ). Halves at xs (added_spans 0 0 xs) p.suffix k) (sym p.count_is) h) p.next_is
 
 -- the edit that is found, by its number in the code
@@ -211,11 +211,11 @@ itself m at count end moving f =
     let sl = s.len in
     let d = f.done_is in
     let all = ap length s.is in
-    let c = length-append s.front (s.y ∷ s.rest) in
-    let at_front : count ≡ length s.front = omega (arith, d, sl) in
+    let c = length-append s.leading (s.y ∷ s.rest) in
+    let at_text_start : count ≡ length s.leading = omega (arith, d, sl) in
     record {
-      in_range = omega (arith, all, c, at_front);
-      added = λ d. ap (λ (z : EditEntry). length z.added) ((λ i. get_or (s.is i) (at_front i) d) ∙ get_or-append_seam s.front s.y s.rest d) ∙ ap length (sym s.added);
+      in_range = omega (arith, all, c, at_text_start);
+      added = λ d. ap (λ (z : EditEntry). length z.added) ((λ i. get_or (s.is i) (at_text_start i) d) ∙ get_or-append_seam s.leading s.y s.rest d) ∙ ap length (sym s.added);
     }
 
 -- how many bytes it adds, as the code reads them
@@ -295,24 +295,24 @@ module _ (a b : EditList) (j : ℕ) (y : EditEntry) (lt : j < length b.entries) 
       (cases_lt m j)
 
   -- where no edit of the first list ends there or after it
-  pub past_all : (count : ℕ) → Found y.at a.entries (added_spans 0 0 a.entries) count None → NoneMeets a b (j + 1)
-  past_all count f = one_more (λ i o at linked. let l = f i o at in let w = linked.other_way in absurd (omega (arith, l, w)))
+  pub meets_none_of_all : (count : ℕ) → Found y.at a.entries (added_spans 0 0 a.entries) count None → NoneMeets a b (j + 1)
+  meets_none_of_all count f = one_more (λ i o at linked. let l = f i o at in let w = linked.other_way in absurd (omega (arith, l, w)))
 
   -- where the first that does begins after the edit
-  pub past_one : (count end : ℕ) (f : Next y.at a.entries (added_spans 0 0 a.entries) count end) → y.at + length y.removed < end - length f.x.added → NoneMeets a b (j + 1)
-  past_one count end f after =
+  pub meets_none_of_one : (count end : ℕ) (f : Next y.at a.entries (added_spans 0 0 a.entries) count end) → y.at + length y.removed < end - length f.x.added → NoneMeets a b (j + 1)
+  meets_none_of_one count end f after =
       one_more (λ i o at linked.
       let v = linked.one_way in
       let low = f.lowest i o at linked.other_way in
       let l = low.1 in
-      let p = f.past_is in
+      let p = f.span_end_is in
       let n = f.len_is in
       absurd (omega (arith, v, l, p, n, after)))
 
   -- where it does not
   pub first_met : (count end : ℕ) (f : Next y.at a.entries (added_spans 0 0 a.entries) count end) → end - length f.x.added ≤ y.at + length y.removed → FirstMeeting a b count j
   first_met count end f touches =
-      let p = f.past_is in
+      let p = f.span_end_is in
       let n = f.len_is in
       let late = f.after in
       record {

@@ -5,7 +5,7 @@ use Rattle.std.proofs.Math.Seq.{get_or-append_seam}
 use Rattle.std.proofs.lemmas.Bool.{cases_lt}
 use Rattle.edit_record.specs.Lists.Pieces.{EditEntry, EditList, added_len, removed_len}
 use Rattle.edit_record.specs.Lists.Validity.{AreValidEdits, new_len}
-use Rattle.edit_record.proofs.ListsLemmas.Placed.{drop_item, placed_room}
+use Rattle.edit_record.proofs.ListsLemmas.Placed.{drop_item, placed_within}
 use Rattle.edit_record.specs.Squashes.Groups.{Span}
 use Rattle.edit_record.specs.Swaps.Swap.{NoneMeet, AreRelocated, FirstMeeting}
 use Rattle.edit_record.specs.Swaps.Inner.SwapState.{State, relocate, second_is_next, with_second, initial}
@@ -18,14 +18,14 @@ use Rattle.edit_record.proofs.SwapsLemmas.SwapSteps.{under_end}
 use Rattle.edit_record.proofs.SwapsLemmas.RelativeEnds.RelativeEndsLemmas.{ends_len}
 use Rattle.edit_record.proofs.SwapsLemmas.RelativeEnds.PendingEnds.{later}
 use Rattle.edit_record.proofs.SwapsLemmas.RelativeEnds.SetPlaces.{SameTexts, placed_texts}
-use Rattle.edit_record.proofs.SwapsLemmas.RelativeEnds.MoveInvariant.{Going, Decided, decided, going_start, going_small, going_room, second_one, may_go, they_meet, holds_added, finish}
+use Rattle.edit_record.proofs.SwapsLemmas.RelativeEnds.MoveInvariant.{Going, Decided, decided, going_start, going_small, moving_can_shift, second_one, may_move, they_meet, holds_added, finish}
 
-pub record PassingEach (a b : EditList) (m n : MovingEdits) (us ys : List EditEntry) (come gone : ℕ) : Type 0 where
+pub record PassingEach (a b : EditList) (m n : MovingEdits) (us ys : List EditEntry) (inserted_len deleted_len : ℕ) : Type 0 where
   pub place : State
   pub left : List EditEntry
   pub bound : ℕ
-  pub going : Going a.old_len b.old_len (added_len b.entries) (removed_len b.entries) a.entries b.entries place left ys (ends_of n.ends.items) come gone bound
-  pub bounded : bound ≤ place.mid + come
+  pub going : Going a.old_len b.old_len (added_len b.entries) (removed_len b.entries) a.entries b.entries place left ys (ends_of n.ends.items) inserted_len deleted_len bound
+  pub bounded : bound ≤ place.mid + inserted_len
   pub us_are : place.us ≡ us
   pub edits : n.edits.items ≡ m.edits.items
   pub len : length n.ends.items ≡ length m.ends.items
@@ -51,22 +51,22 @@ moved_len others (y ∷ xs) [] news h = elim h [ ]
 moved_len others (y ∷ xs) (o ∷ olds) [] h = elim h [ ]
 
 -- edits with the texts of others, cut where these are cut
-pub record CutAt (n : ℕ) (x : EditEntry) (ys : List EditEntry) : Type 0 where
-  pub front : List EditEntry
+pub record SplitAt (n : ℕ) (x : EditEntry) (ys : List EditEntry) : Type 0 where
+  pub leading : List EditEntry
   pub y : EditEntry
   pub rest : List EditEntry
-  pub is : ys ≡ front ++ y ∷ rest
-  pub len : length front ≡ n
+  pub is : ys ≡ leading ++ y ∷ rest
+  pub len : length leading ≡ n
   pub added : x.added ≡ y.added
 
-pub texts_split : (front : List EditEntry) (x : EditEntry) (rest ys : List EditEntry) → SameTexts (front ++ x ∷ rest) ys → CutAt (length front) x ys
+pub texts_split : (leading : List EditEntry) (x : EditEntry) (rest ys : List EditEntry) → SameTexts (leading ++ x ∷ rest) ys → SplitAt (length leading) x ys
 texts_split [] x rest [] h = absurd h
-texts_split [] x rest (y ∷ ys) h = record { front = []; y = y; rest = ys; is = refl; len = refl; added = h.1 }
-texts_split (f ∷ front) x rest [] h = absurd h
-texts_split (f ∷ front) x rest (y ∷ ys) h =
-    let k = texts_split front x rest ys h.2 in
+texts_split [] x rest (y ∷ ys) h = record { leading = []; y = y; rest = ys; is = refl; len = refl; added = h.1 }
+texts_split (f ∷ leading) x rest [] h = absurd h
+texts_split (f ∷ leading) x rest (y ∷ ys) h =
+    let k = texts_split leading x rest ys h.2 in
     let l = k.len in
-    record { front = y ∷ k.front; y = k.y; rest = k.rest; is = ap (λ (z : List EditEntry). y ∷ z) k.is; len = omega (arith, l); added = k.added }
+    record { leading = y ∷ k.leading; y = k.y; rest = k.rest; is = ap (λ (z : List EditEntry). y ∷ z) k.is; len = omega (arith, l); added = k.added }
 
 -- ---- the two lists
 
@@ -79,13 +79,13 @@ pub made_second : (b : EditList) (es : List EditEntry) → es ≡ b.entries → 
 made_second b es is h = subst (λ (l : List EditEntry). AreValidEdits b.old_len (new_len b) l) is h
 
 pub few_added : (n k : ℕ) (es : List EditEntry) → AreValidEdits n k es → added_len es ≤ 2 ^ 35
-few_added n k es h = let r = placed_room n 0 es h.disjoint in let s = h.new in let f = h.new_fits in let o = h.old_fits in omega (arith, r, s, f, o)
+few_added n k es h = let r = placed_within n 0 es h.disjoint in let s = h.new in let f = h.new_fits in let o = h.old_fits in omega (arith, r, s, f, o)
 
 pub next_item : (items entries : List EditEntry) (i : ℕ) (y : EditEntry) → items ≡ entries → i < length items → y ≡ get_or items i y → drop i entries ≡ y ∷ drop (i + 1) entries
 next_item items entries i y same lt is = subst (λ (l : List EditEntry). drop i l ≡ y ∷ drop (i + 1) l) same (drop_item items i y lt is)
 
-pub passing_next : (a b : EditList) (m n : MovingEdits) (us ys : List EditEntry) (come gone : ℕ) (y : EditEntry) (rest : List EditEntry) → PassingEach a b m n us ys come gone → ys ≡ y ∷ rest → PassingEach a b m n us (y ∷ rest) come gone
-passing_next a b m n us ys come gone y rest p is = subst (λ (l : List EditEntry). PassingEach a b m n us l come gone) is p
+pub passing_next : (a b : EditList) (m n : MovingEdits) (us ys : List EditEntry) (inserted_len deleted_len : ℕ) (y : EditEntry) (rest : List EditEntry) → PassingEach a b m n us ys inserted_len deleted_len → ys ≡ y ∷ rest → PassingEach a b m n us (y ∷ rest) inserted_len deleted_len
+passing_next a b m n us ys inserted_len deleted_len y rest p is = subst (λ (l : List EditEntry). PassingEach a b m n us l inserted_len deleted_len) is p
 
 module _ (m : MovingEdits) (b : EditList) (moving : IsWellFormed m) (follows : new_len (edits_now m) ≡ b.old_len) (made : AreValidEdits b.old_len (new_len b) b.entries) where
   pub passing_start : (us : List EditEntry) → us ≡ [] → PassingEach (edits_now m) b m m us b.entries 0 0
@@ -104,13 +104,13 @@ module _ (m : MovingEdits) (b : EditList) (moving : IsWellFormed m) (follows : n
         new_len = refl;
       }
 
-  module _ (n : MovingEdits) (us : List EditEntry) (y : EditEntry) (ys : List EditEntry) (come gone : ℕ) (p : PassingEach (edits_now m) b m n us (y ∷ ys) come gone) where
+  module _ (n : MovingEdits) (us : List EditEntry) (y : EditEntry) (ys : List EditEntry) (inserted_len deleted_len : ℕ) (p : PassingEach (edits_now m) b m n us (y ∷ ys) inserted_len deleted_len) where
     pub record Bounds : Type 0 where
-      pub come_small : come ≤ 2 ^ 36
+      pub inserted_small : inserted_len ≤ 2 ^ 36
       pub at_small : y.at ≤ 2 ^ 33
       pub added_small : length y.added ≤ 2 ^ 36
       pub removed_small : length y.removed ≤ 2 ^ 33
-      pub gone_le : gone ≤ y.at + come
+      pub deleted_le : deleted_len ≤ y.at + inserted_len
       pub bound_small : p.bound ≤ 2 ^ 38
 
     pub bounds : Bounds
@@ -120,25 +120,25 @@ module _ (m : MovingEdits) (b : EditList) (moving : IsWellFormed m) (follows : n
         let aside = f.other_balance in
         let with_sums = g.other_balance in let enough = g.enough in let bounded = p.bounded in
         let la_fits = f.a_fits in let lb_fits = f.b_fits in let w_fits = f.w_fits in
-        let r1 = placed_room m.old_len p.place.old p.left f.first_placed in
-        let r2 = placed_room b.old_len p.place.mid (y ∷ ys) f.second_placed in
+        let r1 = placed_within m.old_len p.place.old p.left f.first_placed in
+        let r2 = placed_within b.old_len p.place.mid (y ∷ ys) f.second_placed in
         let w = f.second_placed.0.later in
         let v = f.second_placed.0.within in
         record {
-          come_small = omega (arith, aside, with_sums, enough, la_fits, lb_fits, w_fits, r1, r2);
+          inserted_small = omega (arith, aside, with_sums, enough, la_fits, lb_fits, w_fits, r1, r2);
           at_small = omega (arith, v, lb_fits);
           added_small = omega (arith, aside, la_fits, lb_fits, w_fits, r1, r2);
           removed_small = omega (arith, v, lb_fits);
-          gone_le = omega (arith, enough, w);
+          deleted_le = omega (arith, enough, w);
           bound_small = omega (arith, bounded, aside, with_sums, enough, la_fits, lb_fits, w_fits, r1, r2);
         }
 
     pub small_here : AllByRecursion IsSmall (ends_of n.ends.items)
-    small_here = going_small m.old_len b.old_len (added_len b.entries) (removed_len b.entries) (edits_now m).entries b.entries p.place p.left (y ∷ ys) (ends_of n.ends.items) come gone p.bound p.going bounds.bound_small (few_added m.old_len b.old_len (edits_now m).entries (made_first m b moving follows))
+    small_here = going_small m.old_len b.old_len (added_len b.entries) (removed_len b.entries) (edits_now m).entries b.entries p.place p.left (y ∷ ys) (ends_of n.ends.items) inserted_len deleted_len p.bound p.going bounds.bound_small (few_added m.old_len b.old_len (edits_now m).entries (made_first m b moving follows))
 
-    module _ (at count : ℕ) (last : EndOffset) (next : Option ℕ) (at_is : at + gone ≡ y.at + come) (found : IsPartition at (ends_of n.ends.items) count last next) where
-      pub here : Decided m.old_len b.old_len (added_len b.entries) (removed_len b.entries) (edits_now m).entries b.entries p.place y ys (ends_of n.ends.items) come gone at count last next
-      here = decided m.old_len b.old_len (added_len b.entries) (removed_len b.entries) (edits_now m).entries b.entries p.place p.left y ys (ends_of n.ends.items) come gone p.bound at count last next p.going p.bounded at_is found
+    module _ (at count : ℕ) (last : EndOffset) (next : Option ℕ) (at_is : at + deleted_len ≡ y.at + inserted_len) (found : IsPartition at (ends_of n.ends.items) count last next) where
+      pub here : Decided m.old_len b.old_len (added_len b.entries) (removed_len b.entries) (edits_now m).entries b.entries p.place y ys (ends_of n.ends.items) inserted_len deleted_len at count last next
+      here = decided m.old_len b.old_len (added_len b.entries) (removed_len b.entries) (edits_now m).entries b.entries p.place p.left y ys (ends_of n.ends.items) inserted_len deleted_len p.bound at count last next p.going p.bounded at_is found
 
       -- the next edit of the first list, where there is one
       pub record HasNext (end : ℕ) : Type 0 where
@@ -181,58 +181,58 @@ module _ (m : MovingEdits) (b : EditList) (moving : IsWellFormed m) (follows : n
           let ml = moving.len in
           let t = placed_texts m.edits.items (ends_of m.ends.items) (omega (arith, l, ml)) in
           let s = texts_split u.first_entries h.x h.xs m.edits.items (subst (λ (z : List EditEntry). SameTexts z m.edits.items) whole t) in
-          let c = length-append s.front (s.y ∷ s.rest) in
+          let c = length-append s.leading (s.y ∷ s.rest) in
           let sl = s.len in
           let all = ap length s.is in
           let same = ap length p.edits in
-          let at_front : count ≡ length s.front = omega (arith, k, lens, sl) in
+          let at_text_start : count ≡ length s.leading = omega (arith, k, lens, sl) in
           record {
-            in_range = omega (arith, same, all, c, at_front);
-            added = λ d. ap (λ (z : EditEntry). length z.added) ((λ i. get_or ((p.edits ∙ s.is) i) (at_front i) d) ∙ get_or-append_seam s.front s.y s.rest d) ∙ ap length (sym s.added);
+            in_range = omega (arith, same, all, c, at_text_start);
+            added = λ d. ap (λ (z : EditEntry). length z.added) ((λ i. get_or ((p.edits ∙ s.is) i) (at_text_start i) d) ∙ get_or-append_seam s.leading s.y s.rest d) ∙ ap length (sym s.added);
           }
 
-      pub held : (end : ℕ) (h : HasNext end) → length h.x.added ≤ end
-      held end h =
-          let g = subst (λ (l : List EditEntry). Going m.old_len b.old_len (added_len b.entries) (removed_len b.entries) (edits_now m).entries b.entries here.place l (y ∷ ys) (ends_of n.ends.items) come gone (y.at + come)) h.left_is here.going in
-          holds_added m.old_len b.old_len (added_len b.entries) (removed_len b.entries) (edits_now m).entries b.entries here.place h.x h.xs (y ∷ ys) (ends_of n.ends.items) come gone (y.at + come) end g h.end_is
+      pub within_end : (end : ℕ) (h : HasNext end) → length h.x.added ≤ end
+      within_end end h =
+          let g = subst (λ (l : List EditEntry). Going m.old_len b.old_len (added_len b.entries) (removed_len b.entries) (edits_now m).entries b.entries here.place l (y ∷ ys) (ends_of n.ends.items) inserted_len deleted_len (y.at + inserted_len)) h.left_is here.going in
+          holds_added m.old_len b.old_len (added_len b.entries) (removed_len b.entries) (edits_now m).entries b.entries here.place h.x h.xs (y ∷ ys) (ends_of n.ends.items) inserted_len deleted_len (y.at + inserted_len) end g h.end_is
 
-      pub goes : (end : ℕ) (h : HasNext end) → at + length y.removed < end - length h.x.added → second_is_next here.place here.left (y ∷ ys) ≡ true
-      goes end h lt =
-          let g = subst (λ (l : List EditEntry). Going m.old_len b.old_len (added_len b.entries) (removed_len b.entries) (edits_now m).entries b.entries here.place l (y ∷ ys) (ends_of n.ends.items) come gone (y.at + come)) h.left_is here.going in
-          ap (λ (l : List EditEntry). second_is_next here.place l (y ∷ ys)) h.left_is ∙ may_go m.old_len b.old_len (added_len b.entries) (removed_len b.entries) (edits_now m).entries b.entries here.place h.x h.xs y ys (ends_of n.ends.items) come gone at end g at_is h.end_is lt
+      pub walks_to : (end : ℕ) (h : HasNext end) → at + length y.removed < end - length h.x.added → second_is_next here.place here.left (y ∷ ys) ≡ true
+      walks_to end h lt =
+          let g = subst (λ (l : List EditEntry). Going m.old_len b.old_len (added_len b.entries) (removed_len b.entries) (edits_now m).entries b.entries here.place l (y ∷ ys) (ends_of n.ends.items) inserted_len deleted_len (y.at + inserted_len)) h.left_is here.going in
+          ap (λ (l : List EditEntry). second_is_next here.place l (y ∷ ys)) h.left_is ∙ may_move m.old_len b.old_len (added_len b.entries) (removed_len b.entries) (edits_now m).entries b.entries here.place h.x h.xs y ys (ends_of n.ends.items) inserted_len deleted_len at end g at_is h.end_is lt
 
       pub meet : (end : ℕ) (h : HasNext end) → end - length h.x.added ≤ at + length y.removed → (i : ℕ) × (j : ℕ) × FirstMeeting (edits_now m) b i j
       meet end h le =
-          let g = subst (λ (l : List EditEntry). Going m.old_len b.old_len (added_len b.entries) (removed_len b.entries) (edits_now m).entries b.entries here.place l (y ∷ ys) (ends_of n.ends.items) come gone (y.at + come)) h.left_is here.going in
-          they_meet m.old_len b.old_len (added_len b.entries) (removed_len b.entries) (edits_now m).entries b.entries here.place h.x h.xs y ys (ends_of n.ends.items) come gone at end g at_is h.end_is h.after le
+          let g = subst (λ (l : List EditEntry). Going m.old_len b.old_len (added_len b.entries) (removed_len b.entries) (edits_now m).entries b.entries here.place l (y ∷ ys) (ends_of n.ends.items) inserted_len deleted_len (y.at + inserted_len)) h.left_is here.going in
+          they_meet m.old_len b.old_len (added_len b.entries) (removed_len b.entries) (edits_now m).entries b.entries here.place h.x h.xs y ys (ends_of n.ends.items) inserted_len deleted_len at end g at_is h.end_is h.after le
 
-      pub room_here : second_is_next here.place here.left (y ∷ ys) ≡ true → CanShift (length y.removed) count (ends_of n.ends.items)
-      room_here t = subst (λ (k : ℕ). CanShift (length y.removed) k (ends_of n.ends.items)) (sym here.count_is)
-          (going_room m.old_len b.old_len (added_len b.entries) (removed_len b.entries) (edits_now m).entries b.entries here.place here.left y ys (ends_of n.ends.items) come gone here.going t)
+      pub can_shift_at : second_is_next here.place here.left (y ∷ ys) ≡ true → CanShift (length y.removed) count (ends_of n.ends.items)
+      can_shift_at t = subst (λ (k : ℕ). CanShift (length y.removed) k (ends_of n.ends.items)) (sym here.count_is)
+          (moving_can_shift m.old_len b.old_len (added_len b.entries) (removed_len b.entries) (edits_now m).entries b.entries here.place here.left y ys (ends_of n.ends.items) inserted_len deleted_len here.going t)
 
       pub place_small : here.place.old + (y.at - here.place.mid) ≤ 2 ^ 36
       place_small =
           let f = here.going.under.fair in
           let la_fits = f.a_fits in
-          let r1 = placed_room m.old_len here.place.old here.left f.first_placed in
+          let r1 = placed_within m.old_len here.place.old here.left f.first_placed in
           let b2 = bounds.at_small in
           omega (arith, la_fits, r1, b2)
 
       -- where it goes to
-      pub goes_to : (last.old + (at - last.new) + gone) - come ≡ here.place.old + (y.at - here.place.mid)
-      goes_to = let k = here.where_it_goes in omega (arith, k)
+      pub moved_to_place : (last.old + (at - last.new) + deleted_len) - inserted_len ≡ here.place.old + (y.at - here.place.mid)
+      moved_to_place = let k = here.moved_place_is in omega (arith, k)
 
       pub passing_more : (k : MovingEdits) (more : List EditEntry) (u : EditEntry) → second_is_next here.place here.left (y ∷ ys) ≡ true → more ≡ us ++ u ∷ [] → u ≡ relocate here.place.mid y here.place.old
           → ends_of k.ends.items ≡ shifted_from count (record { old = length y.added; new = length y.added }) (length y.removed) (ends_of n.ends.items)
           → k.edits.items ≡ n.edits.items → length k.ends.items ≡ length n.ends.items → k.old_len ≡ n.old_len → k.new_len ≡ n.new_len
-          → PassingEach (edits_now m) b m k more ys (come + length y.added) (gone + length y.removed)
+          → PassingEach (edits_now m) b m k more ys (inserted_len + length y.added) (deleted_len + length y.removed)
       passing_more k more u t more_is u_is ends_are edits_are len_is old_is new_is =
-          let g = second_one m.old_len b.old_len (added_len b.entries) (removed_len b.entries) (edits_now m).entries b.entries here.place here.left y ys (ends_of n.ends.items) (ends_of k.ends.items) come gone here.going t
+          let g = second_one m.old_len b.old_len (added_len b.entries) (removed_len b.entries) (edits_now m).entries b.entries here.place here.left y ys (ends_of n.ends.items) (ends_of k.ends.items) inserted_len deleted_len here.going t
           (ends_are ∙ ap (λ (j : ℕ). shifted_from j (record { old = length y.added; new = length y.added }) (length y.removed) (ends_of n.ends.items)) here.count_is) in
           record {
             place = with_second y here.place;
             left = here.left;
-            bound = (y.at + come) + length y.removed;
+            bound = (y.at + inserted_len) + length y.removed;
             going = g;
             bounded = omega arith;
             us_are = ap (λ (l : List EditEntry). l ++ relocate here.place.mid y here.place.old ∷ []) (here.us_are ∙ p.us_are) ∙ ap (λ (z : EditEntry). us ++ z ∷ []) (sym u_is) ∙ sym more_is;
@@ -242,8 +242,8 @@ module _ (m : MovingEdits) (b : EditList) (moving : IsWellFormed m) (follows : n
             new_len = new_is ∙ p.new_len;
           }
 
-  pub passing_end : (n : MovingEdits) (us : List EditEntry) (come gone : ℕ) → PassingEach (edits_now m) b m n us [] come gone → HasMovedPast (edits_now m) b us m n
-  passing_end n us come gone p =
+  pub passing_end : (n : MovingEdits) (us : List EditEntry) (inserted_len deleted_len : ℕ) → PassingEach (edits_now m) b m n us [] inserted_len deleted_len → HasMovedPast (edits_now m) b us m n
+  passing_end n us inserted_len deleted_len p =
       let g = p.going in
       let f = finish m.old_len b.old_len (added_len b.entries) (removed_len b.entries) (edits_now m).entries b.entries p.place p.left (ends_of n.ends.items) g.under g.ends in
       record {
@@ -260,83 +260,83 @@ module _ (m : MovingEdits) (b : EditList) (moving : IsWellFormed m) (follows : n
 -- ---- one turn
 
 -- what is known of the next edit of the second list
-pub record Turn (m n : MovingEdits) (b : EditList) (us : List EditEntry) (y : EditEntry) (rest : List EditEntry) (come gone : ℕ) : Type 0 where
+pub record NextEditStep (m n : MovingEdits) (b : EditList) (us : List EditEntry) (y : EditEntry) (rest : List EditEntry) (inserted_len deleted_len : ℕ) : Type 0 where
   pub moving : IsWellFormed m
   pub lengths_match : new_len (edits_now m) ≡ b.old_len
   pub made : AreValidEdits b.old_len (new_len b) b.entries
-  pub left : PassingEach (edits_now m) b m n us (y ∷ rest) come gone
-  pub come_small : come ≤ 2 ^ 36
+  pub left : PassingEach (edits_now m) b m n us (y ∷ rest) inserted_len deleted_len
+  pub inserted_small : inserted_len ≤ 2 ^ 36
   pub at_small : y.at ≤ 2 ^ 33
   pub added_small : length y.added ≤ 2 ^ 36
   pub removed_small : length y.removed ≤ 2 ^ 33
-  pub gone_le : gone ≤ y.at + come
+  pub deleted_le : deleted_len ≤ y.at + inserted_len
   pub small : AllByRecursion IsSmall (ends_of n.ends.items)
 
-pub turn : (m n : MovingEdits) (b : EditList) (us : List EditEntry) (j : ℕ) (y : EditEntry) (items : List EditEntry) (come gone : ℕ) → IsWellFormed m → new_len (edits_now m) ≡ b.old_len → items ≡ b.entries → AreValidEdits b.old_len (new_len b) items
-    → j < length items → y ≡ get_or items j y → PassingEach (edits_now m) b m n us (drop j b.entries) come gone → Turn m n b us y (drop (j + 1) b.entries) come gone
-turn m n b us j y items come gone moving follows same placed lt is p =
+pub next_edit_step : (m n : MovingEdits) (b : EditList) (us : List EditEntry) (j : ℕ) (y : EditEntry) (items : List EditEntry) (inserted_len deleted_len : ℕ) → IsWellFormed m → new_len (edits_now m) ≡ b.old_len → items ≡ b.entries → AreValidEdits b.old_len (new_len b) items
+    → j < length items → y ≡ get_or items j y → PassingEach (edits_now m) b m n us (drop j b.entries) inserted_len deleted_len → NextEditStep m n b us y (drop (j + 1) b.entries) inserted_len deleted_len
+next_edit_step m n b us j y items inserted_len deleted_len moving follows same placed lt is p =
     let made = made_second b items same placed in
     let rest = drop (j + 1) b.entries in
-    let left = passing_next (edits_now m) b m n us _ come gone y rest p (next_item items b.entries j y same lt is) in
-    let s = bounds m b moving follows made n us y rest come gone left in
+    let left = passing_next (edits_now m) b m n us _ inserted_len deleted_len y rest p (next_item items b.entries j y same lt is) in
+    let s = bounds m b moving follows made n us y rest inserted_len deleted_len left in
     record {
       moving = moving;
       lengths_match = follows;
       made = made;
       left = left;
-      come_small = s.come_small;
+      inserted_small = s.inserted_small;
       at_small = s.at_small;
       added_small = s.added_small;
       removed_small = s.removed_small;
-      gone_le = s.gone_le;
-      small = small_here m b moving follows made n us y rest come gone left;
+      deleted_le = s.deleted_le;
+      small = small_here m b moving follows made n us y rest inserted_len deleted_len left;
     }
 
 -- where it goes to
-pub record Spot (last : EndOffset) (at come gone : ℕ) : Type 0 where
+pub record Spot (last : EndOffset) (at inserted_len deleted_len : ℕ) : Type 0 where
   pub to : ℕ
   pub last_before : last.new ≤ at
-  pub is : last.old + (at - last.new) + gone ≡ to + come
+  pub is : last.old + (at - last.new) + deleted_len ≡ to + inserted_len
   pub small : to ≤ 2 ^ 36
 
-module _ (m n : MovingEdits) (b : EditList) (us : List EditEntry) (y : EditEntry) (rest : List EditEntry) (come gone : ℕ) (t : Turn m n b us y rest come gone) (at count : ℕ) (last : EndOffset) (next : Option ℕ) (run : List EndOffset) (at_is : at + gone ≡ y.at + come) (run_is : run ≡ n.ends.items) (place : IsPartition at (ends_of run) count last next) where
+module _ (m n : MovingEdits) (b : EditList) (us : List EditEntry) (y : EditEntry) (rest : List EditEntry) (inserted_len deleted_len : ℕ) (t : NextEditStep m n b us y rest inserted_len deleted_len) (at count : ℕ) (last : EndOffset) (next : Option ℕ) (run : List EndOffset) (at_is : at + deleted_len ≡ y.at + inserted_len) (run_is : run ≡ n.ends.items) (place : IsPartition at (ends_of run) count last next) where
   found : IsPartition at (ends_of n.ends.items) count last next
   found = subst (λ (l : List EndOffset). IsPartition at (ends_of l) count last next) run_is place
 
-  pub spot : Spot last at come gone
+  pub spot : Spot last at inserted_len deleted_len
   spot =
-      let d = here m b t.moving t.lengths_match t.made n us y rest come gone t.left at count last next at_is found in
+      let d = here m b t.moving t.lengths_match t.made n us y rest inserted_len deleted_len t.left at count last next at_is found in
       record {
         to = d.place.old + (y.at - d.place.mid);
         last_before = d.last_before;
-        is = d.where_it_goes;
-        small = place_small m b t.moving t.lengths_match t.made n us y rest come gone t.left at count last next at_is found;
+        is = d.moved_place_is;
+        small = place_small m b t.moving t.lengths_match t.made n us y rest inserted_len deleted_len t.left at count last next at_is found;
       }
 
   module _ (apart : NoneMeet (edits_now m) b) where
     -- none of the edits meets it
-    goes_on : let d = here m b t.moving t.lengths_match t.made n us y rest come gone t.left at count last next at_is found in second_is_next d.place d.left (y ∷ rest) ≡ true
-    goes_on =
-        let d = here m b t.moving t.lengths_match t.made n us y rest come gone t.left at count last next at_is found in
+    continues_with : let d = here m b t.moving t.lengths_match t.made n us y rest inserted_len deleted_len t.left at count last next at_is found in second_is_next d.place d.left (y ∷ rest) ≡ true
+    continues_with =
+        let d = here m b t.moving t.lengths_match t.made n us y rest inserted_len deleted_len t.left at count last next at_is found in
         elim next as (λ o. next ≡ o → second_is_next d.place d.left (y ∷ rest) ≡ true) [
-          | None ↦ λ e. nothing_next m b t.moving t.lengths_match t.made n us y rest come gone t.left at count last next at_is found e
+          | None ↦ λ e. nothing_next m b t.moving t.lengths_match t.made n us y rest inserted_len deleted_len t.left at count last next at_is found e
           | Some end ↦ λ e.
-              let h = has_next m b t.moving t.lengths_match t.made n us y rest come gone t.left at count last next at_is found end e in
+              let h = has_next m b t.moving t.lengths_match t.made n us y rest inserted_len deleted_len t.left at count last next at_is found end e in
               ⊎_elim
-              (λ (lt : at + length y.removed < end - length h.x.added). goes m b t.moving t.lengths_match t.made n us y rest come gone t.left at count last next at_is found end h lt)
+              (λ (lt : at + length y.removed < end - length h.x.added). walks_to m b t.moving t.lengths_match t.made n us y rest inserted_len deleted_len t.left at count last next at_is found end h lt)
               (λ (le : end - length h.x.added ≤ at + length y.removed).
-              let met = meet m b t.moving t.lengths_match t.made n us y rest come gone t.left at count last next at_is found end h le in
+              let met = meet m b t.moving t.lengths_match t.made n us y rest inserted_len deleted_len t.left at count last next at_is found end h le in
               absurd (apart met.0 met.1 met.2.meet))
               (cases_lt (at + length y.removed) (end - length h.x.added))
         ] refl
 
-    pub room : CanShift (length y.removed) count (ends_of n.ends.items)
-    room = room_here m b t.moving t.lengths_match t.made n us y rest come gone t.left at count last next at_is found goes_on
+    pub can_shift_here : CanShift (length y.removed) count (ends_of n.ends.items)
+    can_shift_here = can_shift_at m b t.moving t.lengths_match t.made n us y rest inserted_len deleted_len t.left at count last next at_is found continues_with
 
-    pub turned : (k : MovingEdits) (more : List EditEntry) (u : EditEntry) → more ≡ us ++ u ∷ [] → u ≡ record { at = (last.old + (at - last.new) + gone) - come; removed = y.removed; added = y.added }
+    pub turned : (k : MovingEdits) (more : List EditEntry) (u : EditEntry) → more ≡ us ++ u ∷ [] → u ≡ record { at = (last.old + (at - last.new) + deleted_len) - inserted_len; removed = y.removed; added = y.added }
         → ends_of k.ends.items ≡ shifted_from count (record { old = length y.added; new = length y.added }) (length y.removed) (ends_of n.ends.items)
         → k.edits.items ≡ n.edits.items → length k.ends.items ≡ length n.ends.items → k.old_len ≡ n.old_len → k.new_len ≡ n.new_len
-        → PassingEach (edits_now m) b m k more rest (come + length y.added) (gone + length y.removed)
+        → PassingEach (edits_now m) b m k more rest (inserted_len + length y.added) (deleted_len + length y.removed)
     turned k more u more_is u_is ends_are edits_are len_is old_is new_is =
-        let to = goes_to m b t.moving t.lengths_match t.made n us y rest come gone t.left at count last next at_is found in
-        passing_more m b t.moving t.lengths_match t.made n us y rest come gone t.left at count last next at_is found k more u goes_on more_is (u_is ∙ (λ i. record { at = to i; removed = y.removed; added = y.added })) ends_are edits_are len_is old_is new_is
+        let to = moved_to_place m b t.moving t.lengths_match t.made n us y rest inserted_len deleted_len t.left at count last next at_is found in
+        passing_more m b t.moving t.lengths_match t.made n us y rest inserted_len deleted_len t.left at count last next at_is found k more u continues_with more_is (u_is ∙ (λ i. record { at = to i; removed = y.removed; added = y.added })) ends_are edits_are len_is old_is new_is

@@ -3,7 +3,7 @@ use Rattle.std.proofs.Common.{◌≡◌, ℕ, ◌+◌, ◌-◌, ◌^◌, ◌≤�
 use Rattle.std.specs.List.{AllByRecursion}
 use Rattle.edit_record.specs.Lists.Pieces.{EditEntry, removed_len, added_len}
 use Rattle.edit_record.specs.Lists.Validity.{AreDisjoint, AreValidEdits}
-use Rattle.edit_record.proofs.ListsLemmas.Placed.{placed_room}
+use Rattle.edit_record.proofs.ListsLemmas.Placed.{placed_within}
 use Rattle.edit_record.specs.declared.swaps.relative_ends.EndOffset.{EndOffset}
 use Rattle.edit_record.specs.Swaps.Inner.SwapState.{relocate}
 use Rattle.edit_record.specs.Swaps.Inner.RelativeEnds.{IsSmall, shifted}
@@ -122,50 +122,50 @@ all_before n from old other a r at (x ∷ xs) (y ∷ z ∷ mids) back last h le 
 
 -- each ends by this place in the other order, and before that one in the new text
 abbrev pub Done : ℕ → ℕ → ℕ → ℕ → ℕ → List EditEntry → Type 0
-Done other bound gone a r [] = Unit {0}
-Done other bound gone a r (v ∷ vs) =
-    ((r ≤ v.at + a) × (v.at + length v.removed ≤ other) × ((v.at + a + length v.added) + gone < bound + r))
-    × Done other bound gone (a + length v.added) (r + length v.removed) vs
+Done other bound deleted_len a r [] = Unit {0}
+Done other bound deleted_len a r (v ∷ vs) =
+    ((r ≤ v.at + a) × (v.at + length v.removed ≤ other) × ((v.at + a + length v.added) + deleted_len < bound + r))
+    × Done other bound deleted_len (a + length v.added) (r + length v.removed) vs
 
-pub done_push : (other bound gone a r : ℕ) (vs : List EditEntry) (v : EditEntry) → Done other bound gone a r vs
-    → (r + removed_len vs ≤ v.at + (a + added_len vs)) × (v.at + length v.removed ≤ other) × ((v.at + (a + added_len vs) + length v.added) + gone < bound + (r + removed_len vs))
-    → Done other bound gone a r (vs ++ v ∷ [])
-done_push other bound gone a r [] v d p = let x = p.0 in let y = p.2 in ((omega (arith, x), p.1, omega (arith, y)), tt)
-done_push other bound gone a r (w ∷ vs) v d p =
-    let x = p.0 in let y = p.2 in (d.0, done_push other bound gone (a + length w.added) (r + length w.removed) vs v d.1 (omega (arith, x), p.1, omega (arith, y)))
+pub done_push : (other bound deleted_len a r : ℕ) (vs : List EditEntry) (v : EditEntry) → Done other bound deleted_len a r vs
+    → (r + removed_len vs ≤ v.at + (a + added_len vs)) × (v.at + length v.removed ≤ other) × ((v.at + (a + added_len vs) + length v.added) + deleted_len < bound + (r + removed_len vs))
+    → Done other bound deleted_len a r (vs ++ v ∷ [])
+done_push other bound deleted_len a r [] v d p = let x = p.0 in let y = p.2 in ((omega (arith, x), p.1, omega (arith, y)), tt)
+done_push other bound deleted_len a r (w ∷ vs) v d p =
+    let x = p.0 in let y = p.2 in (d.0, done_push other bound deleted_len (a + length w.added) (r + length w.removed) vs v d.1 (omega (arith, x), p.1, omega (arith, y)))
 
-pub done_more : (other bound gone other' bound' gone' a r : ℕ) (vs : List EditEntry) → Done other bound gone a r vs → other ≤ other' → bound + gone' ≤ bound' + gone → Done other' bound' gone' a r vs
-done_more other bound gone other' bound' gone' a r [] d o b = tt
-done_more other bound gone other' bound' gone' a r (v ∷ vs) d o b =
-    let x = d.0.1 in let y = d.0.2 in ((d.0.0, omega (arith, x, o), omega (arith, y, b)), done_more other bound gone other' bound' gone' (a + length v.added) (r + length v.removed) vs d.1 o b)
+pub done_more : (other bound deleted_len other' bound' deleted_len' a r : ℕ) (vs : List EditEntry) → Done other bound deleted_len a r vs → other ≤ other' → bound + deleted_len' ≤ bound' + deleted_len → Done other' bound' deleted_len' a r vs
+done_more other bound deleted_len other' bound' deleted_len' a r [] d o b = tt
+done_more other bound deleted_len other' bound' deleted_len' a r (v ∷ vs) d o b =
+    let x = d.0.1 in let y = d.0.2 in ((d.0.0, omega (arith, x, o), omega (arith, y, b)), done_more other bound deleted_len other' bound' deleted_len' (a + length v.added) (r + length v.removed) vs d.1 o b)
 
-pub done_ends : (other bound gone a r : ℕ) (vs : List EditEntry) → Done other bound gone a r vs → AllByRecursion (λ f. (f.old ≤ other) × (f.new + gone < bound)) (ends_at a r vs)
-done_ends other bound gone a r [] d = tt
-done_ends other bound gone a r (v ∷ vs) d =
-    let x = d.0.0 in let y = d.0.2 in ((d.0.1, omega (arith, x, y)), done_ends other bound gone (a + length v.added) (r + length v.removed) vs d.1)
+pub done_ends : (other bound deleted_len a r : ℕ) (vs : List EditEntry) → Done other bound deleted_len a r vs → AllByRecursion (λ f. (f.old ≤ other) × (f.new + deleted_len < bound)) (ends_at a r vs)
+done_ends other bound deleted_len a r [] d = tt
+done_ends other bound deleted_len a r (v ∷ vs) d =
+    let x = d.0.0 in let y = d.0.2 in ((d.0.1, omega (arith, x, y)), done_ends other bound deleted_len (a + length v.added) (r + length v.removed) vs d.1)
 
 -- where the last of them ends
-pub done_last : (other bound gone a r : ℕ) (vs : List EditEntry) (init : List EndOffset) (last : EndOffset) → Done other bound gone a r vs → ends_at a r vs ≡ init ++ last ∷ [] → last.new + (r + removed_len vs) ≡ last.old + (a + added_len vs)
-done_last other bound gone a r [] init last d e = let l = ap length e in let b = length-append init (last ∷ []) in absurd (omega (arith, l, b))
-done_last other bound gone a r (v ∷ []) [] last d e =
+pub done_last : (other bound deleted_len a r : ℕ) (vs : List EditEntry) (init : List EndOffset) (last : EndOffset) → Done other bound deleted_len a r vs → ends_at a r vs ≡ init ++ last ∷ [] → last.new + (r + removed_len vs) ≡ last.old + (a + added_len vs)
+done_last other bound deleted_len a r [] init last d e = let l = ap length e in let b = length-append init (last ∷ []) in absurd (omega (arith, l, b))
+done_last other bound deleted_len a r (v ∷ []) [] last d e =
     let x = d.0.0 in let o = ap (head_old 0) e in let n = ap (head_new 0) e in omega (arith, x, o, n)
-done_last other bound gone a r (v ∷ []) (i ∷ init) last d e = let l = ap length e in let b = length-append init (last ∷ []) in absurd (omega (arith, l, b))
-done_last other bound gone a r (v ∷ w ∷ vs) [] last d e = let l = ap length e in absurd (omega (arith, l))
-done_last other bound gone a r (v ∷ w ∷ vs) (i ∷ init) last d e =
-    let k = done_last other bound gone (a + length v.added) (r + length v.removed) (w ∷ vs) init last d.1 (ap (drop 1) e) in omega (arith, k)
+done_last other bound deleted_len a r (v ∷ []) (i ∷ init) last d e = let l = ap length e in let b = length-append init (last ∷ []) in absurd (omega (arith, l, b))
+done_last other bound deleted_len a r (v ∷ w ∷ vs) [] last d e = let l = ap length e in absurd (omega (arith, l))
+done_last other bound deleted_len a r (v ∷ w ∷ vs) (i ∷ init) last d e =
+    let k = done_last other bound deleted_len (a + length v.added) (r + length v.removed) (w ∷ vs) init last d.1 (ap (drop 1) e) in omega (arith, k)
 
 -- two cuts of one list: the second is after the first or at it, or it is before
-pub data Cuts (xs ys front back : List EndOffset) : Type 0 where
-  behind : (mids : List EndOffset) → front ≡ xs ++ mids → ys ≡ mids ++ back → Cuts xs ys front back
-  is_before : (z : EndOffset) (zs : List EndOffset) → xs ≡ front ++ z ∷ zs → back ≡ z ∷ zs ++ ys → Cuts xs ys front back
+pub data SplitOrder (xs ys leading back : List EndOffset) : Type 0 where
+  following : (mids : List EndOffset) → leading ≡ xs ++ mids → ys ≡ mids ++ back → SplitOrder xs ys leading back
+  is_before : (z : EndOffset) (zs : List EndOffset) → xs ≡ leading ++ z ∷ zs → back ≡ z ∷ zs ++ ys → SplitOrder xs ys leading back
 
-pub cuts : (xs ys front back : List EndOffset) → xs ++ ys ≡ front ++ back → Cuts xs ys front back
-cuts [] ys front back e = behind front refl e
-cuts (x ∷ xs) ys [] back e = is_before x xs refl (sym e)
-cuts (x ∷ xs) ys (f ∷ front) back e =
+pub split_order : (xs ys leading back : List EndOffset) → xs ++ ys ≡ leading ++ back → SplitOrder xs ys leading back
+split_order [] ys leading back e = following leading refl e
+split_order (x ∷ xs) ys [] back e = is_before x xs refl (sym e)
+split_order (x ∷ xs) ys (f ∷ leading) back e =
     let same : x ≡ f = ap (head_or f) e in
-    elim (cuts xs ys front back (ap (drop 1) e)) [
-      | behind mids p q ↦ behind mids (λ i. sym same i ∷ p i) q
+    elim (split_order xs ys leading back (ap (drop 1) e)) [
+      | following mids p q ↦ following mids (λ i. sym same i ∷ p i) q
       | is_before z zs p q ↦ is_before z zs (λ i. same i ∷ p i) q
     ]
 
@@ -184,6 +184,6 @@ later_same (x ∷ xs) =
 
 pub small_ends : (n m : ℕ) (es : List EditEntry) → AreValidEdits n m es → AllByRecursion IsSmall (ends_at 0 0 es)
 small_ends n m es h =
-    let r = placed_room n 0 es h.disjoint in
+    let r = placed_within n 0 es h.disjoint in
     let s = h.new in let o = h.old_fits in let f = h.new_fits in
     subst (λ (l : List EditEntry). AllByRecursion IsSmall (ends_at 0 0 l)) (later_same es) (small_later n 0 0 0 0 0 es h.disjoint (omega arith) (omega (arith, o)) (omega (arith, r, s, f)))

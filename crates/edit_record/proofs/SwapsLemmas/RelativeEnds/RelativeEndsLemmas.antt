@@ -97,9 +97,9 @@ beyond_both a b [] = refl
 beyond_both a b (e ∷ es) = let p = sym (beyond_assoc a b e) in let q = beyond_both a b es in λ i. p i ∷ q i
 
 -- a run in its two parts and the middle
-pub record Halves (left before : List EndOffset) (x : EndOffset) (behind : List EndOffset) : Type 0 where
-  pub parts : ends_of left ≡ ends_of before ++ x ∷ map (plus x) (ends_of behind)
-  pub lens : length left ≡ length before + 1 + length behind
+pub record Halves (left before : List EndOffset) (x : EndOffset) (following : List EndOffset) : Type 0 where
+  pub parts : ends_of left ≡ ends_of before ++ x ∷ map (plus x) (ends_of following)
+  pub lens : length left ≡ length before + 1 + length following
 
 pub in_halves : (run : List EndOffset) (x : EndOffset) → Halved run x → Halves run (take (length run / 2) run) x (drop (length run / 2 + 1) run)
 in_halves run x h = let a = h.left_len in let b = h.right_len in record { parts = ends_half run x h; lens = omega (arith, a, b) }
@@ -112,12 +112,12 @@ split_halves left before rest b r lt =
     let n = ap length r in
     let h = halved_or left no_offset (omega (arith, l, n, lt)) in
     let x = get_or left (length left / 2) no_offset in
-    let behind = drop (length left / 2 + 1) left in
-    let whole : rest ≡ x ∷ behind = r ∙ h.middle_is in
-    let m : drop 1 (x ∷ behind) ≡ behind = refl in
+    let following = drop (length left / 2 + 1) left in
+    let whole : rest ≡ x ∷ following = r ∙ h.middle_is in
+    let m : drop 1 (x ∷ following) ≡ following = refl in
     let k = ap length whole in
-    let all : take (length rest - 1) behind ≡ behind = take_all (length rest - 1) behind (omega (arith, k)) in
-    let back : take (length rest - 1) (drop 1 rest) ≡ behind = ap (λ (z : List EndOffset). take (length rest - 1) (drop 1 z)) whole ∙ all in
+    let all : take (length rest - 1) following ≡ following = take_all (length rest - 1) following (omega (arith, k)) in
+    let back : take (length rest - 1) (drop 1 rest) ≡ following = ap (λ (z : List EndOffset). take (length rest - 1) (drop 1 z)) whole ∙ all in
     let item : get_or rest 0 no_offset ≡ x = ap (λ (z : List EndOffset). get_or z 0 no_offset) whole in
     let g = in_halves left x h in
     subst (λ (z : List EndOffset). Halves left z (get_or rest 0 no_offset) (take (length rest - 1) (drop 1 rest))) (sym b)
@@ -125,11 +125,11 @@ split_halves left before rest b r lt =
     (subst (λ (z : List EndOffset). Halves left (take (length left / 2) left) x z) (sym back) g))
 
 -- a run after a place, halved
-pub halves_beyond : (last : EndOffset) (left before : List EndOffset) (x : EndOffset) (behind : List EndOffset) → Halves left before x behind
-    → map (plus last) (ends_of left) ≡ map (plus last) (ends_of before) ++ plus last x ∷ map (plus (plus last x)) (ends_of behind)
-halves_beyond last left before x behind h =
+pub halves_beyond : (last : EndOffset) (left before : List EndOffset) (x : EndOffset) (following : List EndOffset) → Halves left before x following
+    → map (plus last) (ends_of left) ≡ map (plus last) (ends_of before) ++ plus last x ∷ map (plus (plus last x)) (ends_of following)
+halves_beyond last left before x following h =
     let l = ends_of before in
-    let r = ends_of behind in
+    let r = ends_of following in
     ap (map (plus last)) h.parts ∙ map-append (plus last) l (x ∷ map (plus x) r) ∙ ap (λ (z : List EndOffset). map (plus last) l ++ plus last x ∷ z) (beyond_both last x r)
 
 pub all_left : {X : Type 0} (P : X → Type 0) (xs ys : List X) → AllByRecursion P (xs ++ ys) → AllByRecursion P xs

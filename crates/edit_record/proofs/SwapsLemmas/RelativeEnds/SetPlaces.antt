@@ -17,17 +17,17 @@ placed_len [] es l = refl
 placed_len (x ∷ xs) [] l = absurd (omega (arith, l))
 placed_len (x ∷ xs) (e ∷ es) l = let i = placed_len xs es (omega (arith, l)) in omega (arith, i)
 
-placed_push : (xs : List EditEntry) (x : EditEntry) (front : List EndOffset) (end : EndOffset) (back : List EndOffset) → length front ≡ length xs → with_ends (xs ++ x ∷ []) (front ++ end ∷ back) ≡ with_ends xs (front ++ end ∷ back) ++ put_at x end ∷ []
+placed_push : (xs : List EditEntry) (x : EditEntry) (leading : List EndOffset) (end : EndOffset) (back : List EndOffset) → length leading ≡ length xs → with_ends (xs ++ x ∷ []) (leading ++ end ∷ back) ≡ with_ends xs (leading ++ end ∷ back) ++ put_at x end ∷ []
 placed_push [] x [] end back l = refl
-placed_push [] x (f ∷ front) end back l = absurd (omega (arith, l))
+placed_push [] x (f ∷ leading) end back l = absurd (omega (arith, l))
 placed_push (w ∷ xs) x [] end back l = absurd (omega (arith, l))
-placed_push (w ∷ xs) x (f ∷ front) end back l = ap (λ (z : List EditEntry). put_at w f ∷ z) (placed_push xs x front end back (omega (arith, l)))
+placed_push (w ∷ xs) x (f ∷ leading) end back l = ap (λ (z : List EditEntry). put_at w f ∷ z) (placed_push xs x leading end back (omega (arith, l)))
 
-hold_at : (xs : List EditEntry) (x : EditEntry) (rest : List EditEntry) (front : List EndOffset) (end : EndOffset) (back : List EndOffset) → length front ≡ length xs → FitRemoved (xs ++ x ∷ rest) (front ++ end ∷ back) → length x.removed ≤ end.old
+hold_at : (xs : List EditEntry) (x : EditEntry) (rest : List EditEntry) (leading : List EndOffset) (end : EndOffset) (back : List EndOffset) → length leading ≡ length xs → FitRemoved (xs ++ x ∷ rest) (leading ++ end ∷ back) → length x.removed ≤ end.old
 hold_at [] x rest [] end back l h = h.0
-hold_at [] x rest (f ∷ front) end back l h = absurd (omega (arith, l))
+hold_at [] x rest (f ∷ leading) end back l h = absurd (omega (arith, l))
 hold_at (w ∷ xs) x rest [] end back l h = absurd (omega (arith, l))
-hold_at (w ∷ xs) x rest (f ∷ front) end back l h = hold_at xs x rest front end back (omega (arith, l)) h.1
+hold_at (w ∷ xs) x rest (f ∷ leading) end back l h = hold_at xs x rest leading end back (omega (arith, l)) h.1
 
 -- one more is where it belongs
 pub record PutOne (all now : List EditEntry) (es : List EndOffset) (i : ℕ) (x : EditEntry) (end : EndOffset) : Type 0 where
@@ -43,13 +43,13 @@ put_one_at all now es i y x end d t l m is x_is e h =
     let same : x ≡ y = x_is ∙ (λ j. get_or (now_is j) (sym len j) x) ∙ get_or-append_seam p y (drop (i + 1) all) x in
     let n = e.number_is in
     let whole : all ≡ take i all ++ y ∷ drop (i + 1) all = sym (take-append-drop i all) ∙ ap (λ (z : List EditEntry). take i all ++ z) d in
-    let front_len : length e.prefix ≡ length (take i all) = omega (arith, n, l) in
-    let held : length y.removed ≤ end.old = hold_at (take i all) y (drop (i + 1) all) e.prefix end e.suffix front_len (subst (λ (z : List EditEntry). FitRemoved z (e.prefix ++ end ∷ e.suffix)) whole (subst (λ (z : List EndOffset). FitRemoved all z) e.split h)) in
+    let leading_len : length e.prefix ≡ length (take i all) = omega (arith, n, l) in
+    let within_end : length y.removed ≤ end.old = hold_at (take i all) y (drop (i + 1) all) e.prefix end e.suffix leading_len (subst (λ (z : List EditEntry). FitRemoved z (e.prefix ++ end ∷ e.suffix)) whole (subst (λ (z : List EndOffset). FitRemoved all z) e.split h)) in
     record {
-      holds = subst (λ (z : EditEntry). length z.removed ≤ end.old) (sym same) held;
+      holds = subst (λ (z : EditEntry). length z.removed ≤ end.old) (sym same) within_end;
       next = λ v v_is.
           let pushed : with_ends (take (i + 1) all) es ≡ p ++ put_at y end ∷ [] =
-          (λ j. with_ends (t j) (e.split j)) ∙ placed_push (take i all) y e.prefix end e.suffix front_len ∙ (λ j. with_ends (take i all) (sym e.split j) ++ put_at y end ∷ []) in
+          (λ j. with_ends (t j) (e.split j)) ∙ placed_push (take i all) y e.prefix end e.suffix leading_len ∙ (λ j. with_ends (take i all) (sym e.split j) ++ put_at y end ∷ []) in
           let v_at : v ≡ put_at y end = v_is ∙ ap (λ (z : EditEntry). put_at z end) same in
           (λ j. set (now_is j) (sym len j) v) ∙ set-append_seam p y (drop (i + 1) all) v ∙ ap (λ (z : EditEntry). p ++ z ∷ drop (i + 1) all) v_at
           ∙ sym (append_assoc p (put_at y end ∷ []) (drop (i + 1) all)) ∙ ap (λ (z : List EditEntry). z ++ drop (i + 1) all) (sym pushed);
@@ -102,11 +102,11 @@ placed_back a r (x ∷ xs) (v ∷ vs) h =
 placed_back a r [] (v ∷ vs) h = absurd h
 placed_back a r (x ∷ xs) [] h = absurd h
 
-pub held_ends : (a r : ℕ) (xs vs : List EditEntry) → SameTexts vs xs → FitRemoved xs (ends_at a r vs)
-held_ends a r [] [] h = tt
-held_ends a r (x ∷ xs) (v ∷ vs) h = let n = ap length h.0 in (omega (arith, n), held_ends (a + length v.added) (r + length v.removed) xs vs h.2)
-held_ends a r [] (v ∷ vs) h = absurd h
-held_ends a r (x ∷ xs) [] h = absurd h
+pub fitting_ends : (a r : ℕ) (xs vs : List EditEntry) → SameTexts vs xs → FitRemoved xs (ends_at a r vs)
+fitting_ends a r [] [] h = tt
+fitting_ends a r (x ∷ xs) (v ∷ vs) h = let n = ap length h.0 in (omega (arith, n), fitting_ends (a + length v.added) (r + length v.removed) xs vs h.2)
+fitting_ends a r [] (v ∷ vs) h = absurd h
+fitting_ends a r (x ∷ xs) [] h = absurd h
 
 pub put_as : (x g v : EditEntry) (end : EndOffset) (n : ℕ) → x ≡ g → n ≡ length g.removed → v ≡ record { at = end.old - n; removed = g.removed; added = g.added } → v ≡ put_at x end
 put_as x g v end n same n_is v_is = v_is ∙ ap (λ (k : ℕ). record { at = end.old - k; removed = g.removed; added = g.added }) n_is ∙ ap (λ (z : EditEntry). put_at z end) (sym same)

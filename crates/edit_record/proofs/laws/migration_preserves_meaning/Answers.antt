@@ -1,5 +1,5 @@
-use Rattle.edit_record.proofs.LawsOfText.{turn_alike}
+use Rattle.edit_record.proofs.LawsOfText.{transform_alike}
 use Rattle.edit_record.proofs.laws.migration_preserves_meaning.Goals as goal
 
 pub returns : goal.returns
-returns c = turn_alike
+returns c = transform_alike

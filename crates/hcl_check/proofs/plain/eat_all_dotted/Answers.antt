@@ -1,5 +1,5 @@
 use Rattle.std.proofs.Common.{◌≡◌, ◌-◌, length, ap, ◌∙◌, arith}
-use Rattle.hcl_expr.proofs.Turns.{turn_left}
+use Rattle.hcl_expr.proofs.Turns.{one_left}
 use Rattle.hcl_check.specs.Passes.{deeper}
 use Rattle.hcl_check.specs.Rules as spec
 use Rattle.hcl_check.proofs.Ends.{not_called, one_tail}
@@ -14,5 +14,5 @@ loop-turn-init c = λ quiet.
 pub loop-turn-preserved : goal.loop-turn-preserved
 loop-turn-preserved c = λ quiet.
     let here = c.args.reader.now in
-    turn_left (λ n. spec.tails_from here n c.loop-turn.at) c.loop-turn-test.true (c.loop-turn.invariant (c.eat_dotted.ensures.called c.if-not-eat_dotted.false))
+    one_left (λ n. spec.tails_from here n c.loop-turn.at) c.loop-turn-test.true (c.loop-turn.invariant (c.eat_dotted.ensures.called c.if-not-eat_dotted.false))
     ∙ one_tail here.tokens here.depth (deeper here.tokens here.depth) here.skip_newlines _ c.loop-turn.at c.eat_dotted.new.at (c.eat_dotted.ensures.taken c.if-not-eat_dotted.false)

@@ -3,7 +3,7 @@ use Rattle.std.proofs.lemmas.List.{with_items_is}
 use Rattle.hcl_token.specs.declared.span.Span.{Span}
 use Rattle.hcl_token.specs.Pairs.{spans_from}
 use Rattle.hcl_rescan.specs.Inner.MovedSpans.{AreMovable, moved_spans}
-use Rattle.hcl_rescan.proofs.MovedLemmas.{behind_at, moved_length, spans_length, start_short, stretch_movable, stretch_moved, written}
+use Rattle.hcl_rescan.proofs.MovedLemmas.{range_after_prefix_at, moved_length, spans_length, start_short, stretch_movable, stretch_moved, written}
 use Rattle.hcl_rescan.proofs.incremental.push_relocated.Goals as goal
 
 pub span_range-requires-clause-within : goal.span_range-requires-clause-within
@@ -20,7 +20,7 @@ move_spans-requires c =
     let from = c.args.from in
     let known = c.spans.ensures ∙ ap (spans_from 0) c.places.ensures in
     let is = c.slice_mut.ensures.value
-    ∙ behind_at c.extend_from_slice.new.self.items c.args.tokens.now.items c.span_range.result.now c.len-begin.result _ c.in_ok-extend_from_slice.ensures.items
+    ∙ range_after_prefix_at c.extend_from_slice.new.self.items c.args.tokens.now.items c.span_range.result.now c.len-begin.result _ c.in_ok-extend_from_slice.ensures.items
     (c.len-begin.ensures ∙ c.args.tokens.now.ok.0) c.extend_from_slice.new.self.ok.0
     ∙ c.span_range.ensures in
     subst (AreMovable from.at c.args.at) (sym is) (stretch_movable old from.index from.at c.args.to c.args.at c.spans.result.now c.requires.line_start known c.requires.ordered c.requires.fits)
@@ -38,7 +38,7 @@ returns c =
     let known = c.spans.ensures ∙ ap (spans_from 0) c.places.ensures in
     let all = c.in_ok-extend_from_slice.ensures.items in
     let begins = c.len-begin.ensures ∙ c.args.tokens.now.ok.0 in
-    let is = c.slice_mut.ensures.value ∙ behind_at items first more begin _ all begins c.extend_from_slice.new.self.ok.0 in
+    let is = c.slice_mut.ensures.value ∙ range_after_prefix_at items first more begin _ all begins c.extend_from_slice.new.self.ok.0 in
     let moved = c.move_spans.ensures ∙ ap (moved_spans from.at at) is in
     let same : length new ≡ length more = ap length moved ∙ moved_length from.at at more in
     let put = written items first more new begin all begins same in

@@ -1,5 +1,5 @@
-use Rattle.hcl_scan.proofs.TokenizationOrFault.{cut_or_fault}
+use Rattle.hcl_scan.proofs.TokenizationOrFault.{tokens_or_fault}
 use Rattle.hcl_scan.proofs.laws.tokenization_or_fault.Goals as goal
 
 pub returns : goal.returns
-returns c = cut_or_fault
+returns c = tokens_or_fault

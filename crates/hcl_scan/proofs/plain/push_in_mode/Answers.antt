@@ -26,5 +26,5 @@ loop-bytes-preserved c =
     record {
       state = step c.loop-bytes.at (modes_of openings) (places_of openings) c.requires.mode gap found c.loop-bytes.invariant.state;
       onward = omega (arith, gap, onward, c.loop-bytes.invariant.onward);
-      room = c.loop-bytes.invariant.room ∙ ap (λ n. n - 2) (sym c.put_plain.ensures.capacity);
+      limit_in_capacity = c.loop-bytes.invariant.limit_in_capacity ∙ ap (λ n. n - 2) (sym c.put_plain.ensures.capacity);
     }

@@ -7,7 +7,7 @@ abbrev pub invariant-loop-bytes : goal.invariant-loop-bytes
 invariant-loop-bytes l = record {
   state : IsTokenizedTo l.text l.tokens.items l.at (modes_of l.openings.items) (places_of l.openings.items);
   onward : l.from ≤ l.at;
-  room : l.limit ≡ vec_capacity l.tokens - 2;
+  limit_in_capacity : l.limit ≡ vec_capacity l.tokens - 2;
 }
 
 abbrev pub decreases-loop-bytes : goal.decreases-loop-bytes

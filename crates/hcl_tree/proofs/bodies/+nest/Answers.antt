@@ -2,7 +2,7 @@ use Rattle.std.proofs.Common.{◌≡◌, ◌-◌, ℕ, zero, suc, Bool, List, []
 use Rattle.std.proofs.lemmas.Grind.{common_steps}
 use Rattle.hcl_grammar.specs.Pure.BodyParser.{deeper_members, members, members_from}
 use Rattle.hcl_grammar.specs.Tokens.{Token}
-use Rattle.hcl_expr.proofs.Turns.{turn_left, none_left, refused}
+use Rattle.hcl_expr.proofs.Turns.{one_left, none_left, refused}
 use Rattle.hcl_tree.specs.BodyRules as spec
 use Rattle.hcl_tree.proofs.bodies.+nest.Goals as goal
 
@@ -20,14 +20,14 @@ members-loop-turn-init t c =
 pub members-returns-in_err-member : goal.members-returns-in_err-member
 unfolding members_from
 members-returns-in_err-member t c =
-    let e = turn_left (λ n. spec.members_from c.args.reader.now n c.loop-turn.found c.loop-turn.at) c.loop-turn-test.true c.loop-turn.invariant in
+    let e = one_left (λ n. spec.members_from c.args.reader.now n c.loop-turn.found c.loop-turn.at) c.loop-turn-test.true c.loop-turn.invariant in
     let h = rw (c.eat_newline.ensures, c.if-eat_newline.false) at e in
     refused _ 0 _ (search rules) h c.in_err-member.ensures
 
 pub members-returns-in_default : goal.members-returns-in_default
 unfolding members_from
 members-returns-in_default t c =
-    let e = turn_left (λ n. spec.members_from c.args.reader.now n c.loop-turn.found c.loop-turn.at) c.loop-turn-test.true c.loop-turn.invariant in
+    let e = one_left (λ n. spec.members_from c.args.reader.now n c.loop-turn.found c.loop-turn.at) c.loop-turn-test.true c.loop-turn.invariant in
     first_of (search rules, grind (arith, common_steps))
 
 pub members-returns : goal.members-returns
@@ -39,14 +39,14 @@ members-returns t c =
 pub members-loop-turn-preserved-then-eat_newline : goal.members-loop-turn-preserved-then-eat_newline
 unfolding members_from
 members-loop-turn-preserved-then-eat_newline t c =
-    let e = turn_left (λ n. spec.members_from c.args.reader.now n c.loop-turn.found c.loop-turn.at) c.loop-turn-test.true c.loop-turn.invariant in
+    let e = one_left (λ n. spec.members_from c.args.reader.now n c.loop-turn.found c.loop-turn.at) c.loop-turn-test.true c.loop-turn.invariant in
     let h = rw (c.eat_newline.ensures, c.if-eat_newline.true) at e in
     first_of (search rules, cc, grind arith)
 
 pub members-loop-turn-preserved : goal.members-loop-turn-preserved
 unfolding members_from
 members-loop-turn-preserved t c =
-    let e = turn_left (λ n. spec.members_from c.args.reader.now n c.loop-turn.found c.loop-turn.at) c.loop-turn-test.true c.loop-turn.invariant in
+    let e = one_left (λ n. spec.members_from c.args.reader.now n c.loop-turn.found c.loop-turn.at) c.loop-turn-test.true c.loop-turn.invariant in
     let h = rw (c.eat_newline.ensures, c.if-eat_newline.false) at e in
     let k = rw (c.in_ok-member.ensures {u = tt}, c.in-Some.is) at h in
     first_of (search rules, cc, grind arith)

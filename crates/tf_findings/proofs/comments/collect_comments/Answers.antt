@@ -2,7 +2,7 @@ use Rattle.std.proofs.Common.{◌<◌, ◌++◌, ◌||◌, ◌+◌, length, drop
 use Rattle.tf_findings.proofs.AnnotationLemmas.{or_assoc}
 use Rattle.tf_findings.proofs.CommentLemmas.{found_step, increase_more}
 use Rattle.tf_findings.proofs.LineLemmas.{silenced_step}
-use Rattle.tf_findings.proofs.NextCommentLemmas.{goes_on}
+use Rattle.tf_findings.proofs.NextCommentLemmas.{comments_continue}
 use Rattle.tf_findings.specs.Silencing.{silenced_from}
 use Rattle.tf_findings.specs.Inner.Annotations.{silences_among}
 use Rattle.tf_findings.proofs.comments.collect_comments.Goals as goal
@@ -10,7 +10,7 @@ use Rattle.tf_findings.proofs.comments.collect_comments.Goals as goal
 pub loop-i-init : goal.loop-i-init
 loop-i-init c =
     let pairs = c.args.scanned.now.pairs in
-    let on = goes_on pairs 0 c.next_comment-i.result c.next_comment-i.ensures.later c.next_comment-i.ensures.within c.next_comment-i.ensures.none in
+    let on = comments_continue pairs 0 c.next_comment-i.result c.next_comment-i.ensures.later c.next_comment-i.ensures.within c.next_comment-i.ensures.none in
     record {
       within = c.next_comment-i.ensures.within;
       found = ap (λ l. c.args.found.now.items ++ l) (sym (on.found c.args.rules));
@@ -26,7 +26,7 @@ loop-i-preserved c =
     let i = c.loop-i.i in
     let next = c.next_comment-i-in-loop-i.result in
     let within : i < length pairs = omega (arith, c.loop-i-test.true, c.len.ensures.value) in
-    let on = goes_on pairs (i + 1) next c.next_comment-i-in-loop-i.ensures.later c.next_comment-i-in-loop-i.ensures.within c.next_comment-i-in-loop-i.ensures.none in
+    let on = comments_continue pairs (i + 1) next c.next_comment-i-in-loop-i.ensures.later c.next_comment-i-in-loop-i.ensures.within c.next_comment-i-in-loop-i.ensures.none in
     let new = c.collect_comment.new.found.items in
     record {
       within = c.next_comment-i-in-loop-i.ensures.within;

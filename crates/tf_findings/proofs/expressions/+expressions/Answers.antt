@@ -6,7 +6,7 @@ use Rattle.tf_rules.specs.Preorder.{expr, term, part, tail, elem_children, expr_
 use Rattle.tf_rules.specs.Rules.Interpolation.{sole_interpolation}
 use Rattle.tf_rules.specs.Rules.Lookup.{lookup_findings}
 use Rattle.tf_findings.proofs.LeafLemmas.{leaf, branch}
-use Rattle.tf_findings.proofs.WalkLemmas.{where_ok, joined, whole, nowhere, among, turn, finished}
+use Rattle.tf_findings.proofs.WalkLemmas.{where_ok, joined, whole, nowhere, among, loop_step, finished}
 use Rattle.tf_findings.proofs.TreeLayers.{is-Conditional, is-Chain, is-Tailed, is-Number, is-Identifier, is-Tuple, is-Object, is-Parens, is-Literal, is-Name, is-Legacy, is-AttributeSplat, is-FullSplat}
 use Rattle.tf_findings.proofs.expressions.+expressions.Goals as goal
 
@@ -73,23 +73,23 @@ walk_if_directive-returns t c = joined c.in_ok-walk_expr.ensures (joined c.in_ok
 
 pub walk_elems-loop-x-preserved : goal.walk_elems-loop-x-preserved
 walk_elems-loop-x-preserved t c =
-    turn (flat_map elem_children) _ c.loop-x.x-index c.x-item.result _ _ c.x-item.is c.loop-x-test.true refl c.loop-x.invariant (joined c.in_ok-walk_expr.ensures c.in_ok-walk_expr-2.ensures)
+    loop_step (flat_map elem_children) _ c.loop-x.x-index c.x-item.result _ _ c.x-item.is c.loop-x-test.true refl c.loop-x.invariant (joined c.in_ok-walk_expr.ensures c.in_ok-walk_expr-2.ensures)
 
 pub walk_exprs-loop-e-preserved : goal.walk_exprs-loop-e-preserved
 walk_exprs-loop-e-preserved t c =
-    turn (map (expr c.args.role)) _ c.loop-e.e-index c.e-item.result _ _ c.e-item.is c.loop-e-test.true refl c.loop-e.invariant c.in_ok-walk_expr.ensures
+    loop_step (map (expr c.args.role)) _ c.loop-e.e-index c.e-item.result _ _ c.e-item.is c.loop-e-test.true refl c.loop-e.invariant c.in_ok-walk_expr.ensures
 
 pub walk_operations-loop-link-preserved : goal.walk_operations-loop-link-preserved
 walk_operations-loop-link-preserved t c =
-    turn (map (λ (x : Operation). expr role.Elsewhere x.operand)) _ c.loop-link.link-index c.link-item.result _ _ c.link-item.is c.loop-link-test.true refl c.loop-link.invariant
+    loop_step (map (λ (x : Operation). expr role.Elsewhere x.operand)) _ c.loop-link.link-index c.link-item.result _ _ c.link-item.is c.loop-link-test.true refl c.loop-link.invariant
     c.in_ok-walk_expr.ensures
 
 pub walk_parts-loop-x-preserved : goal.walk_parts-loop-x-preserved
-walk_parts-loop-x-preserved t c = turn (map part) _ c.loop-x.x-index c.x-item.result _ _ c.x-item.is c.loop-x-test.true refl c.loop-x.invariant (whole (part c.x-item.result) (sym (append-nil _)) c.in_ok-walk_part.ensures)
+walk_parts-loop-x-preserved t c = loop_step (map part) _ c.loop-x.x-index c.x-item.result _ _ c.x-item.is c.loop-x-test.true refl c.loop-x.invariant (whole (part c.x-item.result) (sym (append-nil _)) c.in_ok-walk_part.ensures)
 
 pub walk_tails-loop-t-preserved : goal.walk_tails-loop-t-preserved
 walk_tails-loop-t-preserved t c =
-    turn (nodes_of_tails c.loop-t.splat) c.as_slice-t-items.result.now c.loop-t.t-index c.t-item.result (tail c.loop-t.splat c.t-item.result ∷ []) _ c.t-item.is c.loop-t-test.true
+    loop_step (nodes_of_tails c.loop-t.splat) c.as_slice-t-items.result.now c.loop-t.t-index c.t-item.result (tail c.loop-t.splat c.t-item.result ∷ []) _ c.t-item.is c.loop-t-test.true
     (ap (λ s. tail c.loop-t.splat c.t-item.result ∷ nodes_of_tails s (drop (c.loop-t.t-index + 1) c.as_slice-t-items.result.now)) (sym c.splat_after-splat.ensures))
     c.loop-t.invariant c.in_ok-walk_tail.ensures
 

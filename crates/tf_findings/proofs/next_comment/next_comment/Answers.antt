@@ -1,6 +1,6 @@
 use Rattle.std.proofs.Common.{◌≡◌, ◌+◌, ℕ, subst, arith}
 use Rattle.tf_findings.specs.Inner.NextComment.{AreNoComments}
-use Rattle.tf_findings.proofs.NextCommentLemmas.{none_joined, comment_or_past}
+use Rattle.tf_findings.proofs.NextCommentLemmas.{none_joined, comment_or_end}
 use Rattle.tf_findings.proofs.next_comment.next_comment.Goals as goal
 
 pub returns-clause-none : goal.returns-clause-none
@@ -16,4 +16,4 @@ returns-clause-none c =
 pub returns-clause-comment : goal.returns-clause-comment
 returns-clause-comment c =
     let pairs = c.args.scanned.now.pairs in
-    comment_or_past pairs c.first_comment.result (λ within. c.first_comment.ensures.comment (omega (arith, within, c.len-count.ensures.value)))
+    comment_or_end pairs c.first_comment.result (λ within. c.first_comment.ensures.comment (omega (arith, within, c.len-count.ensures.value)))

@@ -1,7 +1,7 @@
 use Rattle.std.proofs.Common.{◌∙◌, ◌+◌, ◌*◌, ◌≤◌, subst, arith, rules}
 use Rattle.tf_fix.specs.declared.boundary.Boundary.{Boundary}
 use Rattle.tf_fix.specs.Inner.Views.{boundary_index, prev_view}
-use Rattle.tf_fix.proofs.PrevTokenLemmas.{is_not, empty_is, nonempty_is, glued_after_gap, glued_after_blank, glued_short, glued_after_token}
+use Rattle.tf_fix.proofs.PrevTokenLemmas.{is_not, empty_is, nonempty_is, glued_after_gap, glued_after_whitespace, glued_short, glued_after_token}
 use Rattle.tf_fix.proofs.prev_token.is_glued.Goals as goal
 
 pub returns-then-is_empty : goal.returns-then-is_empty
@@ -17,7 +17,7 @@ returns-else-is_empty c =
     let pairs = c.args.scanned.now.pairs in
     let i = c.in-Gap.i in
     let past : 2 * i + 2 ≤ boundary_index c.args.to = search rules in
-    rw c.in-Gap.is (glued_after_blank pairs c.args.scanned.now.last (prev_view c.args.prev) i (boundary_index c.args.to) c.gap.result.now
+    rw c.in-Gap.is (glued_after_whitespace pairs c.args.scanned.now.last (prev_view c.args.prev) i (boundary_index c.args.to) c.gap.result.now
     (omega (arith, past, c.requires.within)) c.gap.ensures.value (nonempty_is c.gap.result.now c.is_empty.result c.is_empty.ensures c.if-is_empty.false))
 
 pub returns-else-is_after : goal.returns-else-is_after

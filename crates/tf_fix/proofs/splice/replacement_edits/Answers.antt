@@ -6,7 +6,7 @@ use Rattle.tf_fix.specs.Parts.{parts}
 use Rattle.tf_fix.specs.Inner.Views.{boundary_index, prev_view, replacements}
 use Rattle.tf_fix.specs.declared.splice.Replacement.{Replacement}
 use Rattle.tf_fix.proofs.InsertionLemmas.{insertion_after}
-use Rattle.tf_fix.proofs.ComparisonLemmas.{IsTold, split_first, order_le, order_next, turn}
+use Rattle.tf_fix.proofs.ComparisonLemmas.{IsCompared, split_first, order_le, order_next, loop_step}
 use Rattle.tf_fix.proofs.splice.replacement_edits.Goals as goal
 
 -- the first that is left, and the rest
@@ -19,7 +19,7 @@ prev_before-prev-requires-clause-within c =
     let whole = changed_entries 0 (replaced_pieces (parts c.args.scanned.now) (replacements pairs c.args.all.now)) in
     let left = c.loop-left.left.now in
     let rest = take (length left - 1) (drop 1 left) in
-    let told = subst (λ (rs : List Replacement). IsTold pairs c.args.scanned.now.last whole c.loop-left.edits.items (prev_view c.loop-left.prev) (boundary_index c.loop-left.at) rs)
+    let told = subst (λ (rs : List Replacement). IsCompared pairs c.args.scanned.now.last whole c.loop-left.edits.items (prev_view c.loop-left.prev) (boundary_index c.loop-left.at) rs)
     (split left c.unpack-one.result _ c.in-len1-up.len_at_least (c.unpack-one.ensures ∙ c.first-item.is)) c.loop-left.invariant in
     omega (arith, told.1.1, order_le _ (replacements pairs (rest)) (2 * length pairs) told.1.2)
 
@@ -29,7 +29,7 @@ replacement_edit-requires-clause-within c =
     let whole = changed_entries 0 (replaced_pieces (parts c.args.scanned.now) (replacements pairs c.args.all.now)) in
     let left = c.loop-left.left.now in
     let rest = take (length left - 1) (drop 1 left) in
-    let told = subst (λ (rs : List Replacement). IsTold pairs c.args.scanned.now.last whole c.loop-left.edits.items (prev_view c.loop-left.prev) (boundary_index c.loop-left.at) rs)
+    let told = subst (λ (rs : List Replacement). IsCompared pairs c.args.scanned.now.last whole c.loop-left.edits.items (prev_view c.loop-left.prev) (boundary_index c.loop-left.at) rs)
     (split left c.unpack-one.result _ c.in-len1-up.len_at_least (c.unpack-one.ensures ∙ c.first-item.is)) c.loop-left.invariant in
     order_le _ (replacements pairs (rest)) (2 * length pairs) told.1.2
 
@@ -39,7 +39,7 @@ replacement_edit-requires-clause-end c =
     let whole = changed_entries 0 (replaced_pieces (parts c.args.scanned.now) (replacements pairs c.args.all.now)) in
     let left = c.loop-left.left.now in
     let rest = take (length left - 1) (drop 1 left) in
-    let told = subst (λ (rs : List Replacement). IsTold pairs c.args.scanned.now.last whole c.loop-left.edits.items (prev_view c.loop-left.prev) (boundary_index c.loop-left.at) rs)
+    let told = subst (λ (rs : List Replacement). IsCompared pairs c.args.scanned.now.last whole c.loop-left.edits.items (prev_view c.loop-left.prev) (boundary_index c.loop-left.at) rs)
     (split left c.unpack-one.result _ c.in-len1-up.len_at_least (c.unpack-one.ensures ∙ c.first-item.is)) c.loop-left.invariant in
     let next = order_next _ (replacements pairs (rest)) (2 * length pairs) told.1.2 in
     let said = c.next_boundary.ensures in
@@ -53,12 +53,12 @@ loop-left-preserved c =
     let one = c.unpack-one.result in
     let rest = take (length left - 1) (drop 1 left) in
     let whole = changed_entries 0 (replaced_pieces (parts c.args.scanned.now) (replacements pairs c.args.all.now)) in
-    let told = subst (λ (rs : List Replacement). IsTold pairs last whole c.loop-left.edits.items (prev_view c.loop-left.prev) (boundary_index c.loop-left.at) rs)
+    let told = subst (λ (rs : List Replacement). IsCompared pairs last whole c.loop-left.edits.items (prev_view c.loop-left.prev) (boundary_index c.loop-left.at) rs)
     (split left c.unpack-one.result _ c.in-len1-up.len_at_least (c.unpack-one.ensures ∙ c.first-item.is)) c.loop-left.invariant in
     let pushed : c.push.new.self.items ≡ c.loop-left.edits.items ++ c.in_ok-replacement_edit.field-0 ∷ [] =
     c.in_ok-push.ensures.items in
     let e_is : c.in_ok-replacement_edit.field-0 ≡ _ = rw (c.in_ok-replacement_edit.ensures.at, c.in_ok-replacement_edit.ensures.removed, c.in_ok-replacement_edit.ensures.added, c.next_boundary.ensures) refl in
-    let next = turn pairs last whole c.loop-left.edits.items c.in_ok-replacement_edit.field-0 (prev_view c.loop-left.prev) (prev_view c.prev_before-prev.result) (boundary_index c.loop-left.at)
+    let next = loop_step pairs last whole c.loop-left.edits.items c.in_ok-replacement_edit.field-0 (prev_view c.loop-left.prev) (prev_view c.prev_before-prev.result) (boundary_index c.loop-left.at)
     one (rest) told c.prev_before-prev.ensures e_is in
-    let P : List EditEntry → Prev → Type 0 = λ es prev. IsTold pairs last whole es prev (boundary_index one.to) (rest) in
+    let P : List EditEntry → Prev → Type 0 = λ es prev. IsCompared pairs last whole es prev (boundary_index one.to) (rest) in
     subst (λ es. P es (prev_view c.prev_after_insertion-prev.result)) (sym pushed) (subst (λ prev. P (c.loop-left.edits.items ++ c.in_ok-replacement_edit.field-0 ∷ []) prev) (sym (c.prev_after_insertion-prev.ensures pairs one.first ∙ sym (insertion_after pairs (prev_view c.prev_before-prev.result) one.from one.to one.first one.insertion))) next)

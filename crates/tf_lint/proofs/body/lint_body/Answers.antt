@@ -2,7 +2,7 @@
 use Rattle.std.proofs.Common.{◌≡◌, ◌≢◌, ◌+◌, ◌-◌, ℕ, [], ◌∷◌, ◌++◌, length, true, Err, ap, ◌∙◌, arith}
 use Rattle.std.proofs.lemmas.List.{length-map}
 use Rattle.hcl_token.specs.Tokens.{Pair}
-use Rattle.hcl_expr.proofs.Turns.{turn_left, none_left}
+use Rattle.hcl_expr.proofs.Turns.{one_left, none_left}
 use Rattle.hcl_grammar.specs.Pure.BodyParser.{members}
 use Rattle.hcl_grammar.specs.declared.fault.TokenFault.{TokenFault}
 use Rattle.hcl_grammar.specs.declared.fault.TokenFault.TheVariants.{Memory}
@@ -26,7 +26,7 @@ loop-turn-preserved-then-eat_newline c =
     let ts = tokens_of c.args.scanned.now.pairs in
     let so_far = c.loop-turn.invariant in
     let n = c.len-turn-end.result - (c.loop-turn._turn + 1) in
-    let e = turn_left (λ k. left ts MAX_NESTING k so_far.0 c.loop-turn.at) c.loop-turn-test.true so_far.1 in
+    let e = one_left (λ k. left ts MAX_NESTING k so_far.0 c.loop-turn.at) c.loop-turn-test.true so_far.1 in
     (so_far.0, e ∙ at_line ts MAX_NESTING n so_far.0 c.loop-turn.at (rw c.new-reader.ensures at c.eat_newline.ensures) c.if-eat_newline.true, so_far.2)
 
 pub returns-in_err-x-clause-fault : goal.returns-in_err-x-clause-fault
@@ -34,7 +34,7 @@ returns-in_err-x-clause-fault c =
     let ts = tokens_of c.args.scanned.now.pairs in
     let so_far = c.loop-turn.invariant in
     let n = c.len-turn-end.result - (c.loop-turn._turn + 1) in
-    let e = turn_left (λ k. left ts MAX_NESTING k so_far.0 c.loop-turn.at) c.loop-turn-test.true so_far.1 in
+    let e = one_left (λ k. left ts MAX_NESTING k so_far.0 c.loop-turn.at) c.loop-turn-test.true so_far.1 in
     residual c.from_residual.result c.in_err-x.field-0.0 (λ (f : TokenFault). f ≢ Memory → members ts MAX_NESTING c.args.at.now ≡ Err f) c.from_residual.ensures
     (λ other. begins ts MAX_NESTING c.args.at.now ∙ (e ∙ at_fault ts MAX_NESTING n so_far.0 c.loop-turn.at (rw c.new-reader.ensures at c.eat_newline.ensures) c.if-eat_newline.false (c.in_err-x.ensures.fault other)))
 
@@ -43,7 +43,7 @@ returns-in_default-clause-members_linted c =
     let ts = tokens_of c.args.scanned.now.pairs in
     let so_far = c.loop-turn.invariant in
     let n = c.len-turn-end.result - (c.loop-turn._turn + 1) in
-    let e = turn_left (λ k. left ts MAX_NESTING k so_far.0 c.loop-turn.at) c.loop-turn-test.true so_far.1 in
+    let e = one_left (λ k. left ts MAX_NESTING k so_far.0 c.loop-turn.at) c.loop-turn-test.true so_far.1 in
     let none = rw c.in_default.is at c.in_ok-x.ensures.next in
     (so_far.0, begins ts MAX_NESTING c.args.at.now ∙ (e ∙ at_none ts MAX_NESTING n so_far.0 c.loop-turn.at (rw c.new-reader.ensures at c.eat_newline.ensures) c.if-eat_newline.false none), so_far.2)
 
@@ -52,7 +52,7 @@ loop-turn-preserved c =
     let ts = tokens_of c.args.scanned.now.pairs in
     let so_far = c.loop-turn.invariant in
     let n = c.len-turn-end.result - (c.loop-turn._turn + 1) in
-    let e = turn_left (λ k. left ts MAX_NESTING k so_far.0 c.loop-turn.at) c.loop-turn-test.true so_far.1 in
+    let e = one_left (λ k. left ts MAX_NESTING k so_far.0 c.loop-turn.at) c.loop-turn-test.true so_far.1 in
     let some = rw c.in-Some.is at c.in_ok-x.ensures.next in (
       so_far.0 ++ some.2.member ∷ [],
       e ∙ at_member ts MAX_NESTING n so_far.0 c.loop-turn.at (rw c.new-reader.ensures at c.eat_newline.ensures) c.if-eat_newline.false (read_as some),

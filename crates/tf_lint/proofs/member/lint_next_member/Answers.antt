@@ -12,13 +12,13 @@ returns-clause-next c =
     let x = c.in-Some.x in
     let read : member_of ts MAX_NESTING (deeper_members ts MAX_NESTING) c.args.at.now
     ≡ Ok (Some x, c.member.new.at) = search rules in
-    let stands = member_derives ts MAX_NESTING c.args.at.now x c.member.new.at read in
+    let member_is_derived = member_derives ts MAX_NESTING c.args.at.now x c.member.new.at read in
     let seen = c.in_ok-lint_member.ensures in (
       seen.place.0,
       seen.place.1,
       record {
         member = x;
-        is_member = rw seen.place.0 (rw seen.place.1 stands);
+        is_member = rw seen.place.0 (rw seen.place.1 member_is_derived);
         at_nodes = seen.at_nodes;
         at_block = seen.at_block;
       },

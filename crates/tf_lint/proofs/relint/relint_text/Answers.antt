@@ -5,20 +5,20 @@ use Rattle.hcl_token.specs.TokenizedText.{TokenizedText}
 use Rattle.tf_lint.specs.Faults.{fault_of_scan}
 use Rattle.tf_lint.specs.ParseFaults.{IsReadFault}
 use Rattle.tf_lint.proofs.RunLemmas.{residual}
-use Rattle.tf_lint.proofs.LintLemmas.{not_cut}
+use Rattle.tf_lint.proofs.LintLemmas.{not_tokenized}
 use Rattle.tf_lint.proofs.relint.relint_text.Goals as goal
 
 -- the tokens of a text that parses don't join
 pub rescan-requires : goal.rescan-requires
 rescan-requires c =
     let (p, text, previous) = c.requires in
-    let cut = p.scanned in
-    subst (λ (x : TokenizedText). AreApart x.pairs) (sym (c.attach-old.ensures cut text previous.tokens)) (c.parsed_tokens_are_apart.ensures cut.text cut.pairs cut.last MAX_NESTING p.tree previous.reads.1 previous.reads.2)
+    let tokenized = p.scanned in
+    subst (λ (x : TokenizedText). AreApart x.pairs) (sym (c.attach-old.ensures tokenized text previous.tokens)) (c.parsed_tokens_are_apart.ensures tokenized.text tokenized.pairs tokenized.last MAX_NESTING p.tree previous.reads.1 previous.reads.2)
 
 pub returns-in_err-scanned-clause-fault : goal.returns-in_err-scanned-clause-fault
 returns-in_err-scanned-clause-fault c =
     let why = c.in_err-scanned.field-0.0 in
-    residual c.from_residual.result (fault_of_scan why) (IsReadFault c.args.text.now) c.from_residual.ensures (not_cut c.args.text.now why c.in_err-scanned.ensures.fault)
+    residual c.from_residual.result (fault_of_scan why) (IsReadFault c.args.text.now) c.from_residual.ensures (not_tokenized c.args.text.now why c.in_err-scanned.ensures.fault)
 
 pub returns-in_err-linted-clause-fault : goal.returns-in_err-linted-clause-fault
 returns-in_err-linted-clause-fault c =

@@ -9,7 +9,7 @@ use Rattle.tf_lint.specs.declared.fault.FixFault.{FixFault}
 use Rattle.tf_lint.specs.declared.fault.FixFault.TheVariants.{Memory}
 use Rattle.tf_lint.specs.declared.step.StepResult.{StepResult}
 use Rattle.tf_lint.specs.Inner.FirstChange.{has_step, IsChange, IsStep, RunFixable, IsFirstChange}
-use Rattle.tf_lint.proofs.RunLemmas.{split_first, no_rules, skipped_pass, stayed_pass, changed_pass, changed_transforms, GoesOn, if_ok, if_err}
+use Rattle.tf_lint.proofs.RunLemmas.{split_first, no_rules, skipped_pass, stayed_pass, changed_pass, changed_transforms, StepsContinue, if_ok, if_err}
 use Rattle.tf_lint.proofs.steps.+find_first_change.Goals as goal
 
 -- a step that changes nothing, before those that can't be done
@@ -52,10 +52,10 @@ returns-in-Some-clause-found_change n c = λ p h.
     let shorter = ap length split in
     let step = c.in_ok-taken.field-0 in
     let few = (c.in_ok-taken.ensures.step p h).count_within_limit in
-    let room = c.requires.count_within_limit in
-    let on = subst (λ (rs : List Rule). GoesOn c.args.linted.now.rules rs rest rule p step.count c.in-Some.change) (sym split)
+    let count_limit = c.requires.count_within_limit in
+    let on = subst (λ (rs : List Rule). StepsContinue c.args.linted.now.rules rs rest rule p step.count c.in-Some.change) (sym split)
     (changed_pass c.args.linted.now.rules rule rest p step c.in-Some.change chosen (c.in_ok-taken.ensures.step p h) c.in-Some.is) in
-    (step.count, refl, omega (arith, shorter, few, room), omega (arith, shorter), changed_transforms rule p step c.in-Some.change (c.in_ok-taken.ensures.step p h) c.in-Some.is, on.0, on.1, on.2)
+    (step.count, refl, omega (arith, shorter, few, count_limit), omega (arith, shorter), changed_transforms rule p step c.in-Some.change (c.in_ok-taken.ensures.step p h) c.in-Some.is, on.0, on.1, on.2)
 
 pub returns-in_default-clause-found_change : goal.returns-in_default-clause-found_change
 returns-in_default-clause-found_change n c = λ p h. (0, omega arith, rw (no_rules c.args.order.now c.in_default.len_below) refl)

@@ -18,7 +18,7 @@ use Rattle.tf_lint.proofs.steps.+run_steps.Goals as goal
 -- a rule that changed the text is none of those that are left
 fewer : (rules : RuleSet) (order : List Rule) (p : Parsed) (count : ℕ) (found_change : FirstChange) → IsFirstChange rules order p count found_change → left found_change ≤ length order
 fewer rules order p count (NoChange fixed) told = omega arith
-fewer rules order p count (Changed fixed change by rest) (n, number, few, shorter, turns, on, off, gone) = omega (arith, shorter)
+fewer rules order p count (Changed fixed change by rest) (n, number, few, shorter, turns, on, off, unread_after) = omega (arith, shorter)
 
 -- the edits of the step that changed the text
 step_transforms : (rules : RuleSet) (order : List Rule) (p : Parsed) (text : List ℕ) (count fixed : ℕ) (change : NewText) (by : Rule) (rest : Bor (List Rule)) (found_change : FirstChange) → p.scanned.text ≡ text

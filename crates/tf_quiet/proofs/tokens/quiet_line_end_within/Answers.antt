@@ -4,7 +4,7 @@ use Rattle.hcl_token.specs.TokenizedText.{kind_of}
 use Rattle.hcl_token.specs.declared.kind.Kind.TheVariants.{LineEnd}
 use Rattle.tf_quiet.specs.LineEnds.{line_end_by, line_end_from}
 use Rattle.tf_quiet.proofs.QuietRuns.{one_more}
-use Rattle.tf_quiet.proofs.LineWalks.{line_class, other_class, ends_here, goes_on, by_other, by_inner, depth_fits, plain_passed, name_passed, line_end_at}
+use Rattle.tf_quiet.proofs.LineWalks.{line_class, other_class, ends_here, line_continues, by_other, by_inner, depth_fits, plain_passed, name_passed, line_end_at}
 use Rattle.tf_quiet.proofs.tokens.quiet_line_end_within.Goals as goal
 use Rattle.tf_quiet.proofs.tokens.quiet_line_end_within.Goals.{in_default-via-in-LineEnd+else-depth-eq0, in_default-via-in_default}
 
@@ -41,7 +41,7 @@ quiet-preserved c =
       | in_default-via-in-LineEnd+else-depth-eq0 w ↦ (λ rest. by_inner t c.quiet.depth (Some (suc n)) rest w.if-depth-eq0.false)
       | in_default-via-in_default w ↦ (λ rest. by_other t c.quiet.depth (Some (suc n)) rest (other_class t (λ e. w.in_default.not-LineEnd (class ∙ e))))
     ] in
-    let more = goes_on pairs n c.quiet.depth t kind inner in
+    let more = line_continues pairs n c.quiet.depth t kind inner in
     let few = depth_fits t c.quiet.depth in
     let same = c.in_ok-depth-in_default.ensures.depth in
     record {

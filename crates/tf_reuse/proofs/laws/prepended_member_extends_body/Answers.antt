@@ -1,5 +1,5 @@
-use Rattle.tf_reuse.proofs.MoveBodies.{in_front}
+use Rattle.tf_reuse.proofs.MoveBodies.{member_first}
 use Rattle.tf_reuse.proofs.laws.prepended_member_extends_body.Goals as goal
 
 pub returns : goal.returns
-returns c = λ ts d x ms i n l one others. in_front one others
+returns c = λ ts d x ms i n l one others. member_first one others

@@ -1,5 +1,5 @@
-use Rattle.tf_session.proofs.RunLaws.{reverts_take_off}
+use Rattle.tf_session.proofs.RunLaws.{reverts_pop}
 use Rattle.tf_session.proofs.laws.reverts_pop_the_last.Goals as goal
 
 pub returns : goal.returns
-returns c = reverts_take_off
+returns c = reverts_pop

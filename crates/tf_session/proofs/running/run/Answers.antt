@@ -20,12 +20,12 @@ loop-command-preserved c =
     let high = c.loop-command.invariant.1 in
     let g = moved c.change_result_is_unique.ensures c.move_to_end_is_unique.ensures c.transformed_lengths_match.ensures _ high.0 _ _ _ c.step-reply.result _ _ _ _ high.1 high.2 high.3 high.4
     c.step-reply.ensures.done c.step-reply.ensures.refused c.step-reply.ensures.text c.step-reply.ensures.journal in
-    let gone = subst (λ (commands : List Command). HistoryRun (initial_history c.args.text.items) commands (c.loop-command.replies.items ++ c.step-reply.result ∷ []) g.0) (sym more) g.1 in (
+    let deleted = subst (λ (commands : List Command). HistoryRun (initial_history c.args.text.items) commands (c.loop-command.replies.items ++ c.step-reply.result ∷ []) g.0) (sym more) g.1 in (
       λ untaken.
           let all = subst WithoutTake more untaken in
           let inv = c.loop-command.invariant.0 (without_before _ _ all) in
           let h = stepped c.change_result_is_unique.ensures _ inv.0 _ _ _ c.step-reply.result _ _ _ _ (without_last _ _ all) inv.1 inv.2 inv.3 c.step-reply.ensures.done c.step-reply.ensures.refused c.step-reply.ensures.text c.step-reply.ensures.journal in
-          let grown = subst (λ (commands : List Command). StackRun (initial_stack c.args.text.items) commands (c.loop-command.replies.items ++ c.step-reply.result ∷ []) h.0) (sym more) h.1 in
-          (h.0, rw c.in_ok-push.ensures.items grown, h.2, h.3),
-      (g.0, rw c.in_ok-push.ensures.items gone, g.2, g.3, g.4),
+          let extended = subst (λ (commands : List Command). StackRun (initial_stack c.args.text.items) commands (c.loop-command.replies.items ++ c.step-reply.result ∷ []) h.0) (sym more) h.1 in
+          (h.0, rw c.in_ok-push.ensures.items extended, h.2, h.3),
+      (g.0, rw c.in_ok-push.ensures.items deleted, g.2, g.3, g.4),
     )

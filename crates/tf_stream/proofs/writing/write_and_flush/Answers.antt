@@ -14,7 +14,7 @@ loop-sent-preserved g c =
     let bound = simp take_rest at c.in-Ok.ensures.bound in
     record {
       within = omega (arith, bound, length-drop c.loop-sent.sent c.args.bytes.now);
-      held = rw take-add (Appends-trans _ _ _ _ _ c.loop-sent.invariant.held bytes);
+      appended = rw take-add (Appends-trans _ _ _ _ _ c.loop-sent.invariant.appended bytes);
       fresh = some_taken _ _ c.in-Ok.n _ c.in-Ok.ensures.failed some ∙ c.loop-sent.invariant.fresh;
     }
 

@@ -7,7 +7,7 @@ use Rattle.tf_stream.proofs.writing.write_and_flush.Given as goal
 abbrev pub invariant-loop-sent : goal.invariant-loop-sent
 invariant-loop-sent g l = record {
   within : l.sent ≤ length l.bytes;
-  held : Appends (g.W.Write.contents (inner_of l.fn.writer)) (g.W.Write.contents (inner_of l.writer)) (take l.sent l.bytes);
+  appended : Appends (g.W.Write.contents (inner_of l.fn.writer)) (g.W.Write.contents (inner_of l.writer)) (take l.sent l.bytes);
   fresh : has_failed l.writer ≡ false;
 }
 

@@ -14,8 +14,8 @@ returns-clause-summed c =
     let near = c.requires.near in
     let later = c.requires.follows.later in
     let small = c.requires.follows.few in
-    let cut : length (take removed texts) ≡ removed = length-take-le removed texts (omega (arith, few, c.told-texts)) in
+    let split_is : length (take removed texts) ≡ removed = length-take-le removed texts (omega (arith, few, c.told-texts)) in
     let new : length (take added (drop removed texts)) ≡ added = length-take-le added (drop removed texts) (omega (arith, few, length-drop removed texts, c.told-texts)) in
     λ es h. one_more es (record { at = at; removed = take removed texts; added = take added (drop removed texts) }) c.args.self _ h later
-    (omega (arith, c.requires.follows.some, cut, new))
-    (omega (arith, cut, near, few)) (omega (arith, cut, near, few, fewer, later)) (omega (arith, new, small, few))
+    (omega (arith, c.requires.follows.some, split_is, new))
+    (omega (arith, split_is, near, few)) (omega (arith, split_is, near, few, fewer, later)) (omega (arith, new, small, few))

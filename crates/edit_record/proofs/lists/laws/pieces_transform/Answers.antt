@@ -1,4 +1,4 @@
-use Rattle.edit_record.proofs.ListsLemmas.PieceLemmas.{pieces_turn as lemma}
+use Rattle.edit_record.proofs.ListsLemmas.PieceLemmas.{pieces_all_transform as lemma}
 use Rattle.edit_record.proofs.lists.laws.pieces_transform.Goals as goal
 
 pub returns : goal.returns

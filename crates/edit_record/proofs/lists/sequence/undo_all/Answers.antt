@@ -1,6 +1,6 @@
 use Rattle.std.proofs.Common.{arith}
 use Rattle.std.proofs.lemmas.Result.{err_from_is_err_and}
-use Rattle.edit_record.proofs.ListsLemmas.Undoing.{undo_goes, undo_stops}
+use Rattle.edit_record.proofs.ListsLemmas.Undoing.{undo_last, undo_stops}
 use Rattle.edit_record.proofs.lists.sequence.undo_all.Goals as goal
 
 pub returns-in_err-now-2 : goal.returns-in_err-now-2
@@ -10,4 +10,4 @@ returns-in_err-now-2 g c =
 
 pub loop-remaining-preserved : goal.loop-remaining-preserved
 loop-remaining-preserved g c =
-    undo_goes g.C.Change.backward c.loop-remaining.remaining.now c.change-item.result c.loop-remaining.now.items c.in_ok-now-2.now.items _ (omega arith) c.change-item.is (rw c.deref.ensures.value at c.in_ok-now-2.ensures) c.loop-remaining.invariant
+    undo_last g.C.Change.backward c.loop-remaining.remaining.now c.change-item.result c.loop-remaining.now.items c.in_ok-now-2.now.items _ (omega arith) c.change-item.is (rw c.deref.ensures.value at c.in_ok-now-2.ensures) c.loop-remaining.invariant

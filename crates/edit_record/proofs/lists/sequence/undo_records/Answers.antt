@@ -4,7 +4,7 @@ use Rattle.edit_record.specs.declared.lists.direction.Direction.TheVariants.{Bac
 use Rattle.edit_record.specs.Lists.ChangeResults.{AgreesWith}
 use Rattle.edit_record.specs.Lists.Journal.{record_backward}
 use Rattle.edit_record.proofs.ListsLemmas.JournalResults.{always, given_len, last_given, worked}
-use Rattle.edit_record.proofs.ListsLemmas.Undoing.{undo_goes, undo_stops}
+use Rattle.edit_record.proofs.ListsLemmas.Undoing.{undo_last, undo_stops}
 use Rattle.edit_record.proofs.lists.sequence.undo_records.Goals as goal
 
 pub returns-in_err-now-in-len1-up-clause-agrees : goal.returns-in_err-now-in-len1-up-clause-agrees
@@ -19,7 +19,7 @@ returns-in_err-now-in-len1-up-clause-memory c =
 
 pub returns-in_ok-now-in-len1-up-clause-agrees : goal.returns-in_ok-now-in-len1-up-clause-agrees
 returns-in_ok-now-in-len1-up-clause-agrees c =
-    subst (AgreesWith c.undo_all.result) (undo_goes record_backward c.args.records.now c.last-item.result c.args.text.now c.in_ok-now-in-len1-up.now.items _ (omega arith) c.last-item.is c.in_ok-now-in-len1-up.ensures.agrees refl)
+    subst (AgreesWith c.undo_all.result) (undo_last record_backward c.args.records.now c.last-item.result c.args.text.now c.in_ok-now-in-len1-up.now.items _ (omega arith) c.last-item.is c.in_ok-now-in-len1-up.ensures.agrees refl)
     (rw c.deref.ensures.value at c.undo_all.ensures)
 
 pub returns-in_ok-now-in-len1-up-clause-memory : goal.returns-in_ok-now-in-len1-up-clause-memory

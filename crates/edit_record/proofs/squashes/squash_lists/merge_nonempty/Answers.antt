@@ -6,7 +6,7 @@ use Rattle.edit_record.specs.Lists.Validity.{AreValidEdits, new_len}
 use Rattle.edit_record.specs.Squashes.Squash.{IsContradiction}
 use Rattle.edit_record.specs.Squashes.Inner.MergeState.{state}
 use Rattle.edit_record.specs.Squashes.Inner.Merge.{State, common_len, prepare_next, take_next}
-use Rattle.edit_record.proofs.SquashesLemmas.Merged.{Kept, Progress, progress_start, ready_for, takes_one, goes_on, contradicts, one_taken, ends_well}
+use Rattle.edit_record.proofs.SquashesLemmas.Merged.{Kept, Progress, progress_start, ready_for, takes_one, continues_with, contradicts, one_taken, ends_well}
 use Rattle.edit_record.proofs.squashes.squash_lists.merge_nonempty.Goals as goal
 
 -- the same list with its lengths as callers know them
@@ -72,7 +72,7 @@ edits-smaller c =
 pub edits-preserved : goal.edits-preserved
 edits-preserved c =
     let k = step c.args.first.now.old_len c.args.second.now.old_len c.args.first.now.entries c.args.second.now.entries (state c.edits.merge) (state c.prepare_next.new.self) c.edits.xs.now c.edits.ys.now c.in_ok-is_first.is_first (state c.take_next.new.self, c.in_ok-xs.field-0-0.now, c.in_ok-xs.field-0-1.now) (c.has_more.ensures.0 c.edits-test.true) c.edits.invariant c.in_ok-is_first.ensures c.in_ok-xs.ensures in
-    goes_on c.args.first.now.old_len c.args.second.now.old_len c.args.first.now.entries c.args.second.now.entries (state c.take_next.new.self) (state c.cancel_common.new.self) c.in_ok-xs.field-0-0.now c.in_ok-xs.field-0-1.now k.0 (c.cancel_common.ensures.same.0 c.if-not-cancel_common.false) (c.cancel_common.ensures.cancelled c.if-not-cancel_common.false)
+    continues_with c.args.first.now.old_len c.args.second.now.old_len c.args.first.now.entries c.args.second.now.entries (state c.take_next.new.self) (state c.cancel_common.new.self) c.in_ok-xs.field-0-0.now c.in_ok-xs.field-0-1.now k.0 (c.cancel_common.ensures.same.0 c.if-not-cancel_common.false) (c.cancel_common.ensures.cancelled c.if-not-cancel_common.false)
 
 pub returns : goal.returns
 returns c =

@@ -6,7 +6,7 @@ use Rattle.edit_record.specs.Lists.Validity.{new_len}
 use Rattle.edit_record.specs.declared.swaps.relative_ends.EndOffset.{EndOffset}
 use Rattle.edit_record.specs.Swaps.Inner.RelativeEnds.{ends_of, IsSmall, CanShift, shifted_from}
 use Rattle.edit_record.proofs.SwapsLemmas.RelativeEnds.MovePastEach.{made_second}
-use Rattle.edit_record.proofs.SwapsLemmas.RelativeEnds.EndsOfList.{Built, begins, next_of, built_small, built_room, at_within, added_small, built_more}
+use Rattle.edit_record.proofs.SwapsLemmas.RelativeEnds.EndsOfList.{Built, begins, next_of, built_small, built_can_shift, at_within, added_small, built_more}
 use Rattle.edit_record.proofs.swaps.moving_edits.ends.Goals as goal
 
 pub loop-i-init : goal.loop-i-init
@@ -34,7 +34,7 @@ shift_from-requires-clause-later c =
 pub shift_from-requires-clause-can_shift : goal.shift_from-requires-clause-can_shift
 shift_from-requires-clause-can_shift c =
     let k = next_of c.args.edits.now c.edits-edit-items.result.now c.loop-i.i c.loop-i.old c.edit-item.result (ends_of c.loop-i.ends.items) c.edits-edit-items.ensures.same c.edits-edit-items.ensures.disjoint c.loop-i-test.true c.edit-item.is c.loop-i.invariant.0 in
-    subst (λ (l : List EndOffset). CanShift 0 c.loop-i.i (ends_of l)) (sym c.deref_mut.ensures.value) (built_room _ _ _ _ _ k.built k.small k.few)
+    subst (λ (l : List EndOffset). CanShift 0 c.loop-i.i (ends_of l)) (sym c.deref_mut.ensures.value) (built_can_shift _ _ _ _ _ k.built k.small k.few)
 
 pub loop-i-preserved : goal.loop-i-preserved
 loop-i-preserved c =

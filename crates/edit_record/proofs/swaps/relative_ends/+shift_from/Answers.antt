@@ -4,7 +4,7 @@ use Rattle.std.proofs.lemmas.List.{length-set, length-drop, take-set, drop-set, 
 use Rattle.edit_record.specs.declared.swaps.relative_ends.EndOffset.{EndOffset}
 use Rattle.edit_record.specs.Swaps.Inner.RelativeEnds.{no_offset, ends_of, IsSmall, CanShift, shifted, shifted_from}
 use Rattle.edit_record.proofs.SwapsLemmas.RelativeEnds.RelativeEndsLemmas.{in_halves, halved_or}
-use Rattle.edit_record.proofs.SwapsLemmas.RelativeEnds.ShiftLemmas.{small_middle, small_left, small_right, far_middle, room_left, room_right, back_left, back_right, not_empty, put_back}
+use Rattle.edit_record.proofs.SwapsLemmas.RelativeEnds.ShiftLemmas.{small_middle, small_left, small_right, far_middle, can_shift_left, can_shift_right, back_left, back_right, not_empty, put_back}
 use Rattle.edit_record.proofs.swaps.relative_ends.+shift_from.Goals as goal
 
 pub plus-end-requires-clause-old : goal.plus-end-requires-clause-old
@@ -59,7 +59,7 @@ shift_from-requires t c =
         subst (λ (z : List EndOffset). AllByRecursion IsSmall (ends_of z)) (sym same) (small_left run _ _ _ h c.requires.small),
         (
           c.requires.later,
-          subst (λ (z : List EndOffset). CanShift c.args.earlier c.args.from (ends_of z)) (sym same) (room_left run _ _ _ h c.args.earlier c.args.from le_mid c.requires.can_shift),
+          subst (λ (z : List EndOffset). CanShift c.args.earlier c.args.from (ends_of z)) (sym same) (can_shift_left run _ _ _ h c.args.earlier c.args.from le_mid c.requires.can_shift),
         ),
       ),
     )
@@ -71,9 +71,9 @@ shift_from-requires-else-from-middle t c =
     let w = halved_or run no_offset some in
     let h = in_halves run _ w in
     let n = w.left_len in
-    let behind = drop (length run / 2 + 1) run in
+    let following = drop (length run / 2 + 1) run in
     let l = length-drop (length run / 2 + 1) run in
-    let same : take (length run - (length run / 2 + 1)) behind ≡ behind = take_all (length run - (length run / 2 + 1)) behind (omega (arith, l)) in
+    let same : take (length run - (length run / 2 + 1)) following ≡ following = take_all (length run - (length run / 2 + 1)) following (omega (arith, l)) in
     let gt = c.if-from-middle.false in
     let from_is : c.args.from ≡ length (take (length run / 2) run) + 1 + (c.args.from - (length run / 2 + 1)) = omega (arith, gt, n) in
     let al = ap length same in (
@@ -82,7 +82,7 @@ shift_from-requires-else-from-middle t c =
         subst (λ (z : List EndOffset). AllByRecursion IsSmall (ends_of z)) (sym same) (small_right run _ _ _ h c.requires.small),
         (
           c.requires.later,
-          subst (λ (z : List EndOffset). CanShift c.args.earlier (c.args.from - (length run / 2 + 1)) (ends_of z)) (sym same) (room_right run _ _ _ h c.args.earlier c.args.from (c.args.from - (length run / 2 + 1)) from_is c.requires.can_shift),
+          subst (λ (z : List EndOffset). CanShift c.args.earlier (c.args.from - (length run / 2 + 1)) (ends_of z)) (sym same) (can_shift_right run _ _ _ h c.args.earlier c.args.from (c.args.from - (length run / 2 + 1)) from_is c.requires.can_shift),
         ),
       ),
     )
@@ -111,12 +111,12 @@ returns-else-from-middle t c =
     let n = w.left_len in
     let m = length run / 2 in
     let new = c.shift_from-else-from-middle.new.run in
-    let behind = drop (m + 1) run in
+    let following = drop (m + 1) run in
     let l = length-drop (m + 1) run in
-    let same : take (length run - (m + 1)) behind ≡ behind = take_all (length run - (m + 1)) behind (omega (arith, l)) in
+    let same : take (length run - (m + 1)) following ≡ following = take_all (length run - (m + 1)) following (omega (arith, l)) in
     let gt = c.if-from-middle.false in
     let from_is : c.args.from ≡ length (take m run) + 1 + (c.args.from - (m + 1)) = omega (arith, gt, n) in
-    let is : ends_of new ≡ shifted_from (c.args.from - (m + 1)) c.args.later c.args.earlier (ends_of behind) = c.shift_from-else-from-middle.ensures ∙ ap (λ (z : List EndOffset). shifted_from (c.args.from - (m + 1)) c.args.later c.args.earlier (ends_of z)) same in
-    let len : length new ≡ length behind = c.shift_from-else-from-middle.auto.run ∙ ap length same in
+    let is : ends_of new ≡ shifted_from (c.args.from - (m + 1)) c.args.later c.args.earlier (ends_of following) = c.shift_from-else-from-middle.ensures ∙ ap (λ (z : List EndOffset). shifted_from (c.args.from - (m + 1)) c.args.later c.args.earlier (ends_of z)) same in
+    let len : length new ≡ length following = c.shift_from-else-from-middle.auto.run ∙ ap length same in
     ap ends_of (put_back run new no_offset m w.middle_lt (len ∙ l))
     ∙ back_right run _ _ _ h c.args.later c.args.earlier c.args.from (c.args.from - (m + 1)) new n from_is c.requires.can_shift is len

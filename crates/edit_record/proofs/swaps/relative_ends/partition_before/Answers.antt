@@ -1,7 +1,7 @@
 use Rattle.std.proofs.Common.{arith}
 use Rattle.edit_record.specs.Swaps.Inner.RelativeEnds.{ends_of}
 use Rattle.edit_record.proofs.SwapsLemmas.RelativeEnds.RelativeEndsLemmas.{split_halves}
-use Rattle.edit_record.proofs.SwapsLemmas.RelativeEnds.BinarySearch.{searching, middle_small, count_fits, goes_right, goes_left}
+use Rattle.edit_record.proofs.SwapsLemmas.RelativeEnds.BinarySearch.{searching, middle_small, count_fits, search_right, search_left}
 use Rattle.edit_record.proofs.swaps.relative_ends.partition_before.Goals as goal
 
 pub halves-init : goal.halves-init
@@ -32,10 +32,10 @@ pub halves-preserved-then-end-at : goal.halves-preserved-then-end-at
 halves-preserved-then-end-at c =
     let rest = c.split_at.result.1.now in
     let h = split_halves c.halves.left.now c.split_at.result.0.now rest c.split_at.ensures.front c.split_at.ensures.back c.in-len1-up.len_at_least in
-    goes_right c.args.at (ends_of c.args.run.now) _ _ _ _ _ _ c.plus-end.result _ c.halves.invariant h c.plus-end.ensures c.if-end-at.true
+    search_right c.args.at (ends_of c.args.run.now) _ _ _ _ _ _ c.plus-end.result _ c.halves.invariant h c.plus-end.ensures c.if-end-at.true
 
 pub halves-preserved : goal.halves-preserved
 halves-preserved c =
     let rest = c.split_at.result.1.now in
     let h = split_halves c.halves.left.now c.split_at.result.0.now rest c.split_at.ensures.front c.split_at.ensures.back c.in-len1-up.len_at_least in
-    goes_left c.args.at (ends_of c.args.run.now) _ _ _ _ _ _ c.plus-end.result _ c.halves.invariant h c.plus-end.ensures c.if-end-at.false
+    search_left c.args.at (ends_of c.args.run.now) _ _ _ _ _ _ c.plus-end.result _ c.halves.invariant h c.plus-end.ensures c.if-end-at.false

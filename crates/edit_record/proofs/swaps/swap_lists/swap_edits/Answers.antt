@@ -4,7 +4,7 @@ use Rattle.std.proofs.lemmas.List.{nil_from_length}
 use Rattle.edit_record.specs.Lists.Pieces.{removed_len, added_len}
 use Rattle.edit_record.specs.Lists.Validity.{new_len}
 use Rattle.edit_record.specs.Swaps.Inner.SwapStateView.{state}
-use Rattle.edit_record.proofs.SwapsLemmas.SwapSteps.{goes_first, goes_second, any_fault, some_edit, second_must, under_start, under_end, made_as}
+use Rattle.edit_record.proofs.SwapsLemmas.SwapSteps.{under_take_first, under_take_second, any_fault, some_edit, second_must, under_start, under_end, made_as}
 use Rattle.edit_record.proofs.swaps.swap_lists.swap_edits.Goals as goal
 
 pub edits-init : goal.edits-init
@@ -17,12 +17,12 @@ edits-init c =
 pub edits-preserved-then-first_is_next : goal.edits-preserved-then-first_is_next
 edits-preserved-then-first_is_next c =
     let a = c.args.first.now in let b = c.args.second.now in
-    (goes_first a.old_len b.old_len (added_len b.entries) (removed_len b.entries) a.entries b.entries (state c.edits.state) c.edits.xs.now c.edits.ys.now (state c.take_first.new.self, c.in_ok-xs.xs.now) c.edits.invariant (sym c.first_is_next.ensures ∙ c.if-first_is_next.true) c.in_ok-xs.ensures).0
+    (under_take_first a.old_len b.old_len (added_len b.entries) (removed_len b.entries) a.entries b.entries (state c.edits.state) c.edits.xs.now c.edits.ys.now (state c.take_first.new.self, c.in_ok-xs.xs.now) c.edits.invariant (sym c.first_is_next.ensures ∙ c.if-first_is_next.true) c.in_ok-xs.ensures).0
 
 pub edits-preserved : goal.edits-preserved
 edits-preserved c =
     let a = c.args.first.now in let b = c.args.second.now in
-    (goes_second a.old_len b.old_len (added_len b.entries) (removed_len b.entries) a.entries b.entries (state c.edits.state) c.edits.xs.now c.edits.ys.now (state c.take_second.new.self, c.in_ok-ys.ys.now) c.edits.invariant
+    (under_take_second a.old_len b.old_len (added_len b.entries) (removed_len b.entries) a.entries b.entries (state c.edits.state) c.edits.xs.now c.edits.ys.now (state c.take_second.new.self, c.in_ok-ys.ys.now) c.edits.invariant
     (second_must a.old_len b.old_len (added_len b.entries) (removed_len b.entries) a.entries b.entries (state c.edits.state) c.edits.xs.now c.edits.ys.now c.edits.invariant c.requires.apart (c.has_more.ensures.0 c.edits-test.true) (sym c.first_is_next.ensures ∙ c.if-first_is_next.false)) c.in_ok-ys.ensures).0
 
 pub returns-in_err-xs-clause-memory : goal.returns-in_err-xs-clause-memory

@@ -6,7 +6,7 @@ use Rattle.hcl_grammar.specs.Pure.Climb.{climb_levels}
 use Rattle.hcl_grammar.specs.Pure.Parser as p
 use Rattle.hcl_grammar.specs.Pure.Parser.{deeper, twice, under, whole, arguments_from, elements_from, tuple_items_from, operations_from, parts_from, tails_from}
 use Rattle.hcl_grammar.specs.Tokens.{Token}
-use Rattle.hcl_expr.proofs.Turns.{turn_left, none_left, one_nests, refused}
+use Rattle.hcl_expr.proofs.Turns.{one_left, none_left, one_nests, refused}
 use Rattle.hcl_grammar.specs.Pure.Reading.{and_then, after_if_next}
 use Rattle.hcl_expr.specs.ReaderRules as spec
 use Rattle.hcl_expr.specs.ReaderRules.{ReaderState}
@@ -93,20 +93,20 @@ climb_levels-returns t c =
 pub operations-returns-in_default : goal.operations-returns-in_default
 unfolding operations_from
 operations-returns-in_default t c =
-    let e = turn_left (λ n. spec.operations_from c.args.self.now c.args.level n c.loop-turn.found c.loop-turn.at) c.loop-turn-test.true c.loop-turn.invariant in
+    let e = one_left (λ n. spec.operations_from c.args.self.now c.args.level n c.loop-turn.found c.loop-turn.at) c.loop-turn-test.true c.loop-turn.invariant in
     first_of (search rules, grind (arith, common_steps))
 
 pub operations-returns-in_err-operand : goal.operations-returns-in_err-operand
 unfolding operations_from
 operations-returns-in_err-operand t c =
-    let e = turn_left (λ n. spec.operations_from c.args.self.now c.args.level n c.loop-turn.found c.loop-turn.at) c.loop-turn-test.true c.loop-turn.invariant in
+    let e = one_left (λ n. spec.operations_from c.args.self.now c.args.level n c.loop-turn.found c.loop-turn.at) c.loop-turn-test.true c.loop-turn.invariant in
     let h = rw (c.eat_binary_operator.ensures, c.in-Some.is) at e in
     refused _ 0 _ (search rules) h c.in_err-operand.ensures
 
 pub operations-loop-turn-preserved : goal.operations-loop-turn-preserved
 unfolding operations_from
 operations-loop-turn-preserved t c =
-    let e = turn_left (λ n. spec.operations_from c.args.self.now c.args.level n c.loop-turn.found c.loop-turn.at) c.loop-turn-test.true c.loop-turn.invariant in
+    let e = one_left (λ n. spec.operations_from c.args.self.now c.args.level n c.loop-turn.found c.loop-turn.at) c.loop-turn-test.true c.loop-turn.invariant in
     let h = rw (c.eat_binary_operator.ensures, c.in-Some.is) at e in
     let k = rw (c.in_ok-operand.ensures {u = tt}) at h in
     first_of (search rules, cc, grind arith)
@@ -132,19 +132,19 @@ post-returns-then-not-has_tail t c =
 pub tails-returns-in_err-tail : goal.tails-returns-in_err-tail
 unfolding tails_from
 tails-returns-in_err-tail t c =
-    let e = turn_left (λ n. spec.tails_from c.args.self.now n c.loop-turn.found c.loop-turn.at) c.loop-turn-test.true c.loop-turn.invariant in
+    let e = one_left (λ n. spec.tails_from c.args.self.now n c.loop-turn.found c.loop-turn.at) c.loop-turn-test.true c.loop-turn.invariant in
     refused _ 0 _ (search rules) e c.in_err-tail.ensures
 
 pub tails-returns-in_default : goal.tails-returns-in_default
 unfolding tails_from
 tails-returns-in_default t c =
-    let e = turn_left (λ n. spec.tails_from c.args.self.now n c.loop-turn.found c.loop-turn.at) c.loop-turn-test.true c.loop-turn.invariant in
+    let e = one_left (λ n. spec.tails_from c.args.self.now n c.loop-turn.found c.loop-turn.at) c.loop-turn-test.true c.loop-turn.invariant in
     first_of (search rules, grind (arith, common_steps))
 
 pub tails-loop-turn-preserved : goal.tails-loop-turn-preserved
 unfolding tails_from
 tails-loop-turn-preserved t c =
-    let e = turn_left (λ n. spec.tails_from c.args.self.now n c.loop-turn.found c.loop-turn.at) c.loop-turn-test.true c.loop-turn.invariant in
+    let e = one_left (λ n. spec.tails_from c.args.self.now n c.loop-turn.found c.loop-turn.at) c.loop-turn-test.true c.loop-turn.invariant in
     first_of (search rules, grind (arith, common_steps))
 
 pub tails-returns : goal.tails-returns
@@ -158,31 +158,31 @@ tails-returns t c =
 pub arguments-returns-then-eat : goal.arguments-returns-then-eat
 unfolding arguments_from
 arguments-returns-then-eat t c =
-    let e = turn_left (λ n. spec.arguments_from c.args.self.now n c.loop-turn.found c.loop-turn.at) c.loop-turn-test.true c.loop-turn.invariant in
+    let e = one_left (λ n. spec.arguments_from c.args.self.now n c.loop-turn.found c.loop-turn.at) c.loop-turn-test.true c.loop-turn.invariant in
     first_of (search rules, grind (arith, common_steps))
 
 pub arguments-returns-in_err-expr : goal.arguments-returns-in_err-expr
 unfolding arguments_from
 arguments-returns-in_err-expr t c =
-    let e = turn_left (λ n. spec.arguments_from c.args.self.now n c.loop-turn.found c.loop-turn.at) c.loop-turn-test.true c.loop-turn.invariant in
+    let e = one_left (λ n. spec.arguments_from c.args.self.now n c.loop-turn.found c.loop-turn.at) c.loop-turn-test.true c.loop-turn.invariant in
     first_of (search rules, grind (arith, common_steps))
 
 pub arguments-returns-in_err-expect : goal.arguments-returns-in_err-expect
 unfolding arguments_from
 arguments-returns-in_err-expect t c =
-    let e = turn_left (λ n. spec.arguments_from c.args.self.now n c.loop-turn.found c.loop-turn.at) c.loop-turn-test.true c.loop-turn.invariant in
+    let e = one_left (λ n. spec.arguments_from c.args.self.now n c.loop-turn.found c.loop-turn.at) c.loop-turn-test.true c.loop-turn.invariant in
     first_of (search rules, grind (arith, common_steps))
 
 pub arguments-returns-then-not-eat : goal.arguments-returns-then-not-eat
 unfolding arguments_from
 arguments-returns-then-not-eat t c =
-    let e = turn_left (λ n. spec.arguments_from c.args.self.now n c.loop-turn.found c.loop-turn.at) c.loop-turn-test.true c.loop-turn.invariant in
+    let e = one_left (λ n. spec.arguments_from c.args.self.now n c.loop-turn.found c.loop-turn.at) c.loop-turn-test.true c.loop-turn.invariant in
     first_of (search rules, grind (arith, common_steps))
 
 pub arguments-loop-turn-preserved : goal.arguments-loop-turn-preserved
 unfolding arguments_from
 arguments-loop-turn-preserved t c =
-    let e = turn_left (λ n. spec.arguments_from c.args.self.now n c.loop-turn.found c.loop-turn.at) c.loop-turn-test.true c.loop-turn.invariant in
+    let e = one_left (λ n. spec.arguments_from c.args.self.now n c.loop-turn.found c.loop-turn.at) c.loop-turn-test.true c.loop-turn.invariant in
     first_of (search rules, grind (arith, common_steps))
 
 pub arguments-returns : goal.arguments-returns
@@ -196,31 +196,31 @@ arguments-returns t c =
 pub tuple_items-returns-then-eat : goal.tuple_items-returns-then-eat
 unfolding tuple_items_from
 tuple_items-returns-then-eat t c =
-    let e = turn_left (λ n. spec.tuple_items_from c.args.self.now n c.loop-turn.found c.loop-turn.at) c.loop-turn-test.true c.loop-turn.invariant in
+    let e = one_left (λ n. spec.tuple_items_from c.args.self.now n c.loop-turn.found c.loop-turn.at) c.loop-turn-test.true c.loop-turn.invariant in
     first_of (search rules, grind (arith, common_steps))
 
 pub tuple_items-returns-in_err-expr : goal.tuple_items-returns-in_err-expr
 unfolding tuple_items_from
 tuple_items-returns-in_err-expr t c =
-    let e = turn_left (λ n. spec.tuple_items_from c.args.self.now n c.loop-turn.found c.loop-turn.at) c.loop-turn-test.true c.loop-turn.invariant in
+    let e = one_left (λ n. spec.tuple_items_from c.args.self.now n c.loop-turn.found c.loop-turn.at) c.loop-turn-test.true c.loop-turn.invariant in
     first_of (search rules, grind (arith, common_steps))
 
 pub tuple_items-returns-in_err-expect : goal.tuple_items-returns-in_err-expect
 unfolding tuple_items_from
 tuple_items-returns-in_err-expect t c =
-    let e = turn_left (λ n. spec.tuple_items_from c.args.self.now n c.loop-turn.found c.loop-turn.at) c.loop-turn-test.true c.loop-turn.invariant in
+    let e = one_left (λ n. spec.tuple_items_from c.args.self.now n c.loop-turn.found c.loop-turn.at) c.loop-turn-test.true c.loop-turn.invariant in
     first_of (search rules, grind (arith, common_steps))
 
 pub tuple_items-returns-then-not-eat : goal.tuple_items-returns-then-not-eat
 unfolding tuple_items_from
 tuple_items-returns-then-not-eat t c =
-    let e = turn_left (λ n. spec.tuple_items_from c.args.self.now n c.loop-turn.found c.loop-turn.at) c.loop-turn-test.true c.loop-turn.invariant in
+    let e = one_left (λ n. spec.tuple_items_from c.args.self.now n c.loop-turn.found c.loop-turn.at) c.loop-turn-test.true c.loop-turn.invariant in
     first_of (search rules, grind (arith, common_steps))
 
 pub tuple_items-loop-turn-preserved : goal.tuple_items-loop-turn-preserved
 unfolding tuple_items_from
 tuple_items-loop-turn-preserved t c =
-    let e = turn_left (λ n. spec.tuple_items_from c.args.self.now n c.loop-turn.found c.loop-turn.at) c.loop-turn-test.true c.loop-turn.invariant in
+    let e = one_left (λ n. spec.tuple_items_from c.args.self.now n c.loop-turn.found c.loop-turn.at) c.loop-turn-test.true c.loop-turn.invariant in
     first_of (search rules, grind (arith, common_steps))
 
 pub tuple_items-returns : goal.tuple_items-returns
@@ -243,19 +243,19 @@ parts-returns t c = rw (parts-is c.args.self.now.tokens c.args.self.now.depth c.
 pub each_part-returns-in_err-part : goal.each_part-returns-in_err-part
 unfolding parts_from
 each_part-returns-in_err-part t c =
-    let e = turn_left (λ n. spec.parts_from c.args.self.now n c.loop-turn.found c.loop-turn.at) c.loop-turn-test.true c.loop-turn.invariant in
+    let e = one_left (λ n. spec.parts_from c.args.self.now n c.loop-turn.found c.loop-turn.at) c.loop-turn-test.true c.loop-turn.invariant in
     first_of (search rules, grind (arith, common_steps))
 
 pub each_part-returns-in_default : goal.each_part-returns-in_default
 unfolding parts_from
 each_part-returns-in_default t c =
-    let e = turn_left (λ n. spec.parts_from c.args.self.now n c.loop-turn.found c.loop-turn.at) c.loop-turn-test.true c.loop-turn.invariant in
+    let e = one_left (λ n. spec.parts_from c.args.self.now n c.loop-turn.found c.loop-turn.at) c.loop-turn-test.true c.loop-turn.invariant in
     first_of (search rules, grind (arith, common_steps))
 
 pub each_part-loop-turn-preserved : goal.each_part-loop-turn-preserved
 unfolding parts_from
 each_part-loop-turn-preserved t c =
-    let e = turn_left (λ n. spec.parts_from c.args.self.now n c.loop-turn.found c.loop-turn.at) c.loop-turn-test.true c.loop-turn.invariant in
+    let e = one_left (λ n. spec.parts_from c.args.self.now n c.loop-turn.found c.loop-turn.at) c.loop-turn-test.true c.loop-turn.invariant in
     first_of (search rules, grind (arith, common_steps))
 
 pub each_part-returns : goal.each_part-returns
@@ -269,31 +269,31 @@ each_part-returns t c =
 pub elements-returns-then-eat : goal.elements-returns-then-eat
 unfolding elements_from
 elements-returns-then-eat t c =
-    let e = turn_left (λ n. spec.elements_from c.args.self.now n c.loop-turn.found c.loop-turn.at) c.loop-turn-test.true c.loop-turn.invariant in
+    let e = one_left (λ n. spec.elements_from c.args.self.now n c.loop-turn.found c.loop-turn.at) c.loop-turn-test.true c.loop-turn.invariant in
     first_of (search rules, grind (arith, common_steps))
 
 pub elements-returns-in_err-element : goal.elements-returns-in_err-element
 unfolding elements_from
 elements-returns-in_err-element t c =
-    let e = turn_left (λ n. spec.elements_from c.args.self.now n c.loop-turn.found c.loop-turn.at) c.loop-turn-test.true c.loop-turn.invariant in
+    let e = one_left (λ n. spec.elements_from c.args.self.now n c.loop-turn.found c.loop-turn.at) c.loop-turn-test.true c.loop-turn.invariant in
     first_of (search rules, grind (arith, common_steps))
 
 pub elements-returns-in_err-eat_separator_or_brace : goal.elements-returns-in_err-eat_separator_or_brace
 unfolding elements_from
 elements-returns-in_err-eat_separator_or_brace t c =
-    let e = turn_left (λ n. spec.elements_from c.args.self.now n c.loop-turn.found c.loop-turn.at) c.loop-turn-test.true c.loop-turn.invariant in
+    let e = one_left (λ n. spec.elements_from c.args.self.now n c.loop-turn.found c.loop-turn.at) c.loop-turn-test.true c.loop-turn.invariant in
     first_of (search rules, grind (arith, common_steps))
 
 pub elements-returns-then-not-branch : goal.elements-returns-then-not-branch
 unfolding elements_from
 elements-returns-then-not-branch t c =
-    let e = turn_left (λ n. spec.elements_from c.args.self.now n c.loop-turn.found c.loop-turn.at) c.loop-turn-test.true c.loop-turn.invariant in
+    let e = one_left (λ n. spec.elements_from c.args.self.now n c.loop-turn.found c.loop-turn.at) c.loop-turn-test.true c.loop-turn.invariant in
     first_of (search rules, grind (arith, common_steps))
 
 pub elements-loop-turn-preserved : goal.elements-loop-turn-preserved
 unfolding elements_from
 elements-loop-turn-preserved t c =
-    let e = turn_left (λ n. spec.elements_from c.args.self.now n c.loop-turn.found c.loop-turn.at) c.loop-turn-test.true c.loop-turn.invariant in
+    let e = one_left (λ n. spec.elements_from c.args.self.now n c.loop-turn.found c.loop-turn.at) c.loop-turn-test.true c.loop-turn.invariant in
     first_of (search rules, grind (arith, common_steps))
 
 pub elements-returns : goal.elements-returns

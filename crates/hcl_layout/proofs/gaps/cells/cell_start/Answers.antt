@@ -1,5 +1,5 @@
 use Rattle.std.proofs.Common.{arith, ap, ◌∙◌, Some}
-use Rattle.hcl_layout.proofs.GapsLemmas.CellCode.{no_start, some_start, narrow_start}
+use Rattle.hcl_layout.proofs.GapsLemmas.CellCode.{no_start, some_start, start_in_bounds}
 use Rattle.hcl_layout.proofs.gaps.cells.cell_start.Goals as goal
 
 pub returns-in-None-clause-width : goal.returns-in-None-clause-width
@@ -10,7 +10,7 @@ returns-in-None-clause-token c = (no_start c.args.cell c.args.gaps.now c.args.sc
 
 pub width-requires-clause-bounded : goal.width-requires-clause-bounded
 width-requires-clause-bounded c =
-    let h = narrow_start c.args.cell c.args.gaps.now c.args.scanned.now.pairs c.args.at c.args.line.past c.args.frozen c.in-Some.i 1073741824 c.requires.same c.in-Some.ensures.cell c.in-Some.ensures.inside.0 c.in-Some.ensures.inside.1 c.requires.bounded in
+    let h = start_in_bounds c.args.cell c.args.gaps.now c.args.scanned.now.pairs c.args.at c.args.line.past c.args.frozen c.in-Some.i 1073741824 c.requires.same c.in-Some.ensures.cell c.in-Some.ensures.inside.0 c.in-Some.ensures.inside.1 c.requires.bounded in
     omega (arith, h)
 
 pub returns-in-Some-clause-width : goal.returns-in-Some-clause-width

@@ -2,7 +2,7 @@ use Rattle.std.proofs.Common.{◌+◌, ◌<◌, ◌≤◌, length, get_or, false
 use Rattle.hcl_layout.specs.declared.gaps.lines.LineSpan.{LineSpan}
 use Rattle.hcl_layout.specs.Gaps.Inner.CodeViews.{is_start_frozen}
 use Rattle.hcl_layout.proofs.GapsLemmas.LineLemmas.{no_span}
-use Rattle.hcl_layout.proofs.GapsLemmas.CellCode.{starts_narrow}
+use Rattle.hcl_layout.proofs.GapsLemmas.CellCode.{starts_bounded}
 use Rattle.hcl_layout.proofs.GapsLemmas.Repeats.{KeptSoFar, kept_begins}
 use Rattle.hcl_layout.proofs.GapsLemmas.LineStarts.{is_line, kept_here, kept_one, kept_passed, kept_same, kept_all, start_is, frozen_is, start_first, frozen_first}
 use Rattle.hcl_layout.proofs.gaps.cells.cell_starts.Goals.{then-i-next+in_ok-push_start, else-i-next+in_ok-push_start-2}
@@ -13,7 +13,7 @@ loop-i-init c =
     let lines = c.args.lines.now in
     let first = c.args.first in
     let begins = kept_begins c.args.cell c.args.gaps.now c.args.scanned.now.pairs first c.in_ok-starts.starts.items c.in_ok-starts.ensures.items
-    (record { sizes = refl; numbers = refl; narrow = c.requires.bounded; inside = tt }) in
+    (record { sizes = refl; numbers = refl; widths_bounded = c.requires.bounded; inside = tt }) in
     record {
       within = omega arith;
       at = start_first first lines 0 refl;
@@ -39,7 +39,7 @@ cell_start-start-requires-clause-bounded c =
     let line : LineSpan = get_or c.args.lines.now c.loop-i.i no_span in
     let this = is_line c.args.cell c.args.gaps.now c.args.scanned.now.pairs c.args.first c.args.lines.now c.requires.same c.requires.lines c.loop-i.i c.loop-i.at c.loop-i.frozen c.loop-i.invariant.at c.loop-i.invariant.frozen c.loop-i-test.true in
     let kept = kept_here c.args.cell c.args.gaps.now c.args.scanned.now.pairs c.args.first c.args.lines.now c.requires.same c.requires.lines c.loop-i.i c.loop-i.at c.loop-i.frozen c.loop-i.in_run c.loop-i.starts.items c.loop-i.invariant.at c.loop-i.invariant.frozen c.loop-i.invariant.starts in
-    starts_narrow c.args.cell c.args.gaps.now c.args.scanned.now.pairs c.args.first c.loop-i.at c.loop-i.frozen kept.all line.past line.next_frozen
+    starts_bounded c.args.cell c.args.gaps.now c.args.scanned.now.pairs c.args.first c.loop-i.at c.loop-i.frozen kept.all line.past line.next_frozen
     c.requires.same this.split kept.so_far
 
 pub loop-i-preserved : goal.loop-i-preserved

@@ -1,12 +1,12 @@
 use Rattle.std.proofs.Common.{slice_range, ◌+◌, refl, sym, ◌∙◌}
-use Rattle.hcl_layout.proofs.GapsLemmas.CellCode.{found_goes, found_here, found_none, found_begins}
+use Rattle.hcl_layout.proofs.GapsLemmas.CellCode.{found_from_next, found_here, found_none, found_begins}
 use Rattle.hcl_layout.specs.Gaps.Inner.CodeViews.{starts_cell}
 use Rattle.hcl_layout.proofs.GapsLemmas.LineFlagLemmas.{none_later}
 use Rattle.hcl_layout.proofs.gaps.cells.cell_token_after_first.Goals as goal
 
 pub loop-i-preserved : goal.loop-i-preserved
 loop-i-preserved c =
-    sym (found_goes c.args.cell c.args.scanned.now.pairs c.loop-i.i c.args.past c.kind.result c.loop-i-test.true c.requires.within c.kind.ensures (sym c.starts_cell.ensures ∙ c.if-starts_cell.false))
+    sym (found_from_next c.args.cell c.args.scanned.now.pairs c.loop-i.i c.args.past c.kind.result c.loop-i-test.true c.requires.within c.kind.ensures (sym c.starts_cell.ensures ∙ c.if-starts_cell.false))
     ∙ c.loop-i.invariant
 
 pub returns-then-starts_cell-clause-found : goal.returns-then-starts_cell-clause-found

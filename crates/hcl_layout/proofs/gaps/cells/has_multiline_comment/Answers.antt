@@ -1,5 +1,5 @@
 use Rattle.std.proofs.Common.{slice_range, sym, ◌∙◌}
-use Rattle.hcl_layout.proofs.GapsLemmas.CellCode.{breaks_goes, breaks_found, breaks_none, breaks_is}
+use Rattle.hcl_layout.proofs.GapsLemmas.CellCode.{breaks_next, breaks_found, breaks_none, breaks_is}
 use Rattle.hcl_layout.proofs.GapsLemmas.LineFlagLemmas.{quiet_breaks}
 use Rattle.hcl_layout.proofs.gaps.cells.has_multiline_comment.Goals as goal
 
@@ -10,7 +10,7 @@ returns-then-is_multiline_comment_at c =
 
 pub loop-i-preserved : goal.loop-i-preserved
 loop-i-preserved c =
-    sym (breaks_goes c.args.scanned.now.pairs c.loop-i.i c.args.past c.is_multiline_comment_at.result c.loop-i-test.true c.requires.within c.is_multiline_comment_at.ensures c.if-is_multiline_comment_at.false)
+    sym (breaks_next c.args.scanned.now.pairs c.loop-i.i c.args.past c.is_multiline_comment_at.result c.loop-i-test.true c.requires.within c.is_multiline_comment_at.ensures c.if-is_multiline_comment_at.false)
     ∙ c.loop-i.invariant
 
 pub returns : goal.returns

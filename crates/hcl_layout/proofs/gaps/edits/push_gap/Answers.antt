@@ -1,9 +1,9 @@
 use Rattle.std.proofs.Common.{sym, ◌∙◌}
-use Rattle.hcl_layout.proofs.GapsLemmas.EditLemmas.{pushed, passed_over}
+use Rattle.hcl_layout.proofs.GapsLemmas.EditLemmas.{pushed, gap_unchanged}
 use Rattle.hcl_layout.proofs.gaps.edits.push_gap.Goals as goal
 
 pub returns-then-is_unchanged : goal.returns-then-is_unchanged
-returns-then-is_unchanged c = passed_over c.args.edits.now.items c.args.at c.args.gap.now c.args.new (sym c.is_unchanged.ensures ∙ c.if-is_unchanged.true)
+returns-then-is_unchanged c = gap_unchanged c.args.edits.now.items c.args.at c.args.gap.now c.args.new (sym c.is_unchanged.ensures ∙ c.if-is_unchanged.true)
 
 pub returns : goal.returns
 returns c =

@@ -1,5 +1,5 @@
 use Rattle.std.proofs.Common.{arith}
-use Rattle.hcl_layout.proofs.GapsLemmas.Copied.{item_order, item_turn}
+use Rattle.hcl_layout.proofs.GapsLemmas.Copied.{item_order, item_step}
 use Rattle.hcl_layout.proofs.GapsLemmas.EditLemmas.{length_end}
 use Rattle.hcl_layout.proofs.GapsLemmas.Few.{few_tokens}
 use Rattle.hcl_layout.proofs.gaps.limit.len_within_limit.Goals as goal
@@ -16,7 +16,7 @@ overflow_add-total c =
 
 pub loop-i-preserved : goal.loop-i-preserved
 loop-i-preserved c = record {
-  rest = omega (arith, item_turn c.args.gaps.now c.args.scanned.now.pairs c.loop-i.i c.item.result c.token_len-total.result c.requires (omega (arith, c.loop-i-test.true, c.len-i-end.ensures.value)) c.item.ensures c.token_len-total.ensures.value, c.loop-i.invariant.rest);
+  rest = omega (arith, item_step c.args.gaps.now c.args.scanned.now.pairs c.loop-i.i c.item.result c.token_len-total.result c.requires (omega (arith, c.loop-i-test.true, c.len-i-end.ensures.value)) c.item.ensures c.token_len-total.ensures.value, c.loop-i.invariant.rest);
   small = omega (arith, c.loop-i.invariant.small, c.token_len-total.ensures.bounded);
 }
 

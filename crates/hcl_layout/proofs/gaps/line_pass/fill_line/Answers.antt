@@ -5,7 +5,7 @@ use Rattle.hcl_layout.specs.Gaps.Space.{prev_after_all}
 use Rattle.hcl_layout.specs.Gaps.Inner.CodeViews.{is_here_open}
 use Rattle.hcl_layout.proofs.GapsLemmas.LineLemmas.{IsInLine, in_line_begins}
 use Rattle.hcl_layout.proofs.GapsLemmas.NearLemmas.{next_space, last_space}
-use Rattle.hcl_layout.proofs.GapsLemmas.LinePass.{CountsTo, no_counts, counts_more, ends_if, goes_if, none_ends, passes_on, ends_here, ends_last, line_passed, opened_is, closed_is, spaced_begins}
+use Rattle.hcl_layout.proofs.GapsLemmas.LinePass.{CountsTo, no_counts, counts_more, ends_if, counts_if, none_ends, passes_on, ends_here, ends_last, line_passed, opened_is, closed_is, spaced_begins}
 use Rattle.hcl_layout.proofs.gaps.line_pass.fill_line.Goals as goal
 
 pub loop-i-init : goal.loop-i-init
@@ -76,12 +76,12 @@ loop-i-preserved c =
     let few : i ≤ 16777216 = omega (arith, c.loop-i-test.true, c.len-i-end.ensures.value, c.requires.within_limit) in
     let step : i ≡ i - 1 + 1 = omega (arith, c.loop-i.auto.i) in
     let counts = counts_more ps c.args.at (i - 1) i c.loop-i.a c.loop-i.brackets c.loop-i.marks c.bracket_number-brackets.result c.mark_number-marks.result (omega (arith, c.loop-i.auto.i)) inside step old.a c.bracket_number-brackets.ensures c.mark_number-marks.ensures old.counts in
-    let goes = goes_if ps c.args.at i _ _ c.loop-i.a counts c.if-marks-ge-LINE_END.false in
+    let continues_line = counts_if ps c.args.at i _ _ c.loop-i.a counts c.if-marks-ge-LINE_END.false in
     let same : i ≡ i + 1 - 1 = omega arith in
     let inside_gaps : i < length c.loop-i.gaps.items = omega (arith, old.same, c.requires.same, c.loop-i-test.true, c.len-i-end.ensures.value) in
     record {
-      line = passes_on ps c.args.at (i - 1) (i + 1 - 1) c.loop-i.a old.line inside (omega (arith, c.loop-i.auto.i)) old.a goes;
-      counts = subst (λ n. CountsTo ps c.args.at n (c.loop-i.brackets + c.bracket_number-brackets.result) (c.loop-i.marks + c.mark_number-marks.result) 0) same (none_ends ps c.args.at i _ _ c.loop-i.a goes counts);
+      line = passes_on ps c.args.at (i - 1) (i + 1 - 1) c.loop-i.a old.line inside (omega (arith, c.loop-i.auto.i)) old.a continues_line;
+      counts = subst (λ n. CountsTo ps c.args.at n (c.loop-i.brackets + c.bracket_number-brackets.result) (c.loop-i.marks + c.mark_number-marks.result) 0) same (none_ends ps c.args.at i _ _ c.loop-i.a continues_line counts);
       a = c.kind-b.ensures ∙ ap (kind_of ps) (omega arith);
       spaced = λ to later within.
           next_space ps c.args.first i to (i + 1 - 1) c.gap_len.result (take i c.loop-i.gaps.items) (take (i + 1) (slice_set c.loop-i.gaps.items i c.gap_len.result))

@@ -1,6 +1,6 @@
 use Rattle.std.proofs.Common.{◌<◌, ◌≡◌, ◌+◌, true, false, length, sym, subst, ◌∙◌, arith}
 use Rattle.hcl_layout.specs.Gaps.Inner.Stages.{SplitsLine}
-use Rattle.hcl_layout.proofs.GapsLemmas.LineLemmas.{IsInLine, in_line_begins, in_line_goes, line_ends, text_ends}
+use Rattle.hcl_layout.proofs.GapsLemmas.LineLemmas.{IsInLine, in_line_begins, in_line_next, line_ends, text_ends}
 use Rattle.hcl_layout.proofs.gaps.lines.line_at.Goals as goal
 
 pub loop-i-init : goal.loop-i-init
@@ -23,7 +23,7 @@ pub loop-i-preserved : goal.loop-i-preserved
 loop-i-preserved c =
     let inside : c.loop-i.i < length c.args.scanned.now.pairs = omega (arith, c.loop-i-test.true, c.len-i-end.ensures.value) in
     subst (λ h. IsInLine c.args.scanned.now.pairs c.args.at true (c.loop-i.i + 1) h) (sym c.heredocs_after-open_heredocs.ensures)
-    (in_line_goes _ _ _ _ _ c.kind-kind.result c.loop-i.invariant inside c.kind-kind.ensures (sym c.ends_line.ensures ∙ c.if-ends_line.false))
+    (in_line_next _ _ _ _ _ c.kind-kind.result c.loop-i.invariant inside c.kind-kind.ensures (sym c.ends_line.ensures ∙ c.if-ends_line.false))
 
 pub returns : goal.returns
 returns c =

@@ -9,7 +9,7 @@ pub slice-requires-clause-ordered : goal.slice-requires-clause-ordered
 slice-requires-clause-ordered c =
     let inside : c.loop-i.i < length c.args.scanned.now.pairs = omega (arith, c.loop-i-test.true, c.len.ensures.value) in
     let place = gap_place c.args.scanned.now.pairs c.loop-i.i c.item-item.result c.gap-gap.result.now inside c.item-item.ensures c.gap-gap.ensures.value in
-    omega (arith, place.0, c.loop-i.invariant.behind)
+    omega (arith, place.0, c.loop-i.invariant.following)
 
 pub slice-requires-clause-within : goal.slice-requires-clause-within
 slice-requires-clause-within c =
@@ -30,7 +30,7 @@ loop-i-init c =
     let none = nothing_yet source ps c.in_ok-text.text.items _ c.in_ok-text.ensures.items in
     let i = c.next_change-i.result in
     let far = stay_to ps c.args.scanned.now.last source source_is c.args.gaps.now c.requires.same 0 c.in_ok-text.text.items (whole_text (with_gaps c.args.gaps.now ps) []) i 0 i (omega arith) c.next_change-i.ensures.within c.next_change-i.ensures.stay (omega arith) none in
-    record { within = c.next_change-i.ensures.within; written = far.1; behind = far.0 }
+    record { within = c.next_change-i.ensures.within; written = far.1; following = far.0 }
 
 pub loop-i-preserved : goal.loop-i-preserved
 loop-i-preserved c =
@@ -51,11 +51,11 @@ loop-i-preserved c =
     let from : c.item-item.result.start ≡ reached ps i + length g = place.1 in
     let written =
     ap (λ a. c.push_gap.new.out.items ++ (slice_range source a (reached ps (i + 1)) ++ rest)) from
-    ∙ changes ps last i g s inside c.gap-gap.ensures.value s_is source source_is ns c.requires.same c.loop-i.from old.behind c.loop-i.text.items _ old.written _ _ copied c.in_ok-push_gap.ensures in
+    ∙ changes ps last i g s inside c.gap-gap.ensures.value s_is source source_is ns c.requires.same c.loop-i.from old.following c.loop-i.text.items _ old.written _ _ copied c.in_ok-push_gap.ensures in
     let to = c.next_change-next.result in
     let far = stay_to ps last source source_is ns c.requires.same c.item-item.result.start c.push_gap.new.out.items (whole_text (with_gaps ns ps) []) (to - (i + 1)) (i + 1) to (omega (arith, c.next_change-next.ensures.later)) c.next_change-next.ensures.within c.next_change-next.ensures.stay
     (omega (arith, from, more, length-append g s)) written in
-    record { within = c.next_change-next.ensures.within; written = far.1; behind = far.0 }
+    record { within = c.next_change-next.ensures.within; written = far.1; following = far.0 }
 
 pub overflow_sub-end : goal.overflow_sub-end
 overflow_sub-end c =
@@ -66,7 +66,7 @@ pub slice-requires-2-clause-ordered : goal.slice-requires-2-clause-ordered
 slice-requires-2-clause-ordered c =
     let source_is = c.text-source.ensures.text ∙ c.text-source.ensures.tokenization.tokenizes.text_is in
     let whole = all_copied c.args.gaps.now c.args.scanned.now.pairs c.args.scanned.now.last c.text-source.result.now c.loop-i.i c.loop-i.from c.loop-i.text.items _ c.requires.same (omega (arith, c.loop-i-test.false, c.len.ensures.value)) source_is c.loop-i.invariant.written in
-    omega (arith, whole.0, ap length c.last_gap.ensures, c.loop-i.invariant.behind)
+    omega (arith, whole.0, ap length c.last_gap.ensures, c.loop-i.invariant.following)
 
 pub returns : goal.returns
 returns c =

@@ -8,7 +8,7 @@ abbrev pub invariant-loop-i : goal.invariant-loop-i
 invariant-loop-i l = record {
   within : l.i ≤ length l.scanned.pairs;
   written : l.text.items ++ (slice_range l.source l.from (reached l.scanned.pairs l.i) ++ whole_text (drop l.i (with_gaps l.gaps l.scanned.pairs)) []) ≡ whole_text (with_gaps l.gaps l.scanned.pairs) [];
-  behind : l.from ≤ reached l.scanned.pairs l.i;
+  following : l.from ≤ reached l.scanned.pairs l.i;
 }
 
 abbrev pub decreases-loop-i : goal.decreases-loop-i

@@ -5,10 +5,10 @@ use Rattle.edit_record.proofs.lists.edit.Edit.inline_texts.Goals as goal
 
 pub returns-in-Inline-clause-added : goal.returns-in-Inline-clause-added
 returns-in-Inline-clause-added c =
-    let cut = c.in-Inline.removed_end in
+    let split_is = c.in-Inline.removed_end in
     let len = c.in-Inline.len in
     let bytes = c.in-Inline.bytes in
-    let is : c.args.self.now.added ≡ drop cut (take len bytes) = search rules in
+    let is : c.args.self.now.added ≡ drop split_is (take len bytes) = search rules in
     let valid = subst IsValidStorage c.in-Inline.is c.self.invariant in
-    let whole : len ≡ cut + (len - cut) = omega (arith, valid.0) in
-    is ∙ ap (λ n. drop cut (take n bytes)) whole ∙ drop-take cut (len - cut) bytes
+    let whole : len ≡ split_is + (len - split_is) = omega (arith, valid.0) in
+    is ∙ ap (λ n. drop split_is (take n bytes)) whole ∙ drop-take split_is (len - split_is) bytes

@@ -6,7 +6,7 @@ use Rattle.edit_record.specs.Lists.Validity.{AreDisjoint, AreValidEdits}
 use Rattle.edit_record.proofs.lists.edits.Edits.make.Goals as goal
 
 at_end : (xs : List EditEntry) (i old_len from removed added : ℕ) → length xs ≤ i → ((tail : List EditEntry) → AreDisjoint old_len from tail → AreDisjoint old_len 0 ((take i xs) ++ tail)) → removed + removed_len (drop i xs) ≡ removed_len xs → min (added + added_len (drop i xs)) (2 ^ 64 - 1) ≡ min (added_len xs) (2 ^ 64 - 1) → from ≤ old_len → removed ≤ from → old_len ≤ MAX_TEXT → added ≤ MAX_TEXT - (old_len - removed) → AreValidEdits old_len (old_len - removed + added) xs
-at_end xs i old_len from removed added done placed removed_is added_is within fewer fits room =
+at_end xs i old_len from removed added done placed removed_is added_is within fewer fits within_len =
     let e = take_all i xs done in
     let f = drop_all i xs done in
     let r = rw f at removed_is in

@@ -6,7 +6,7 @@ use Rattle.edit_record.specs.Swaps.Inner.RelativeEnds.{ends_of, IsSmall}
 use Rattle.edit_record.specs.Swaps.Inner.EditEnds.{with_ends, FitRemoved}
 use Rattle.edit_record.proofs.SwapsLemmas.RelativeEnds.RelativeEndsLemmas.{ends_len}
 use Rattle.edit_record.proofs.SwapsLemmas.RelativeEnds.PendingEnds.{small_ends}
-use Rattle.edit_record.proofs.SwapsLemmas.RelativeEnds.SetPlaces.{placed_texts, held_ends}
+use Rattle.edit_record.proofs.SwapsLemmas.RelativeEnds.SetPlaces.{placed_texts, fitting_ends}
 use Rattle.edit_record.proofs.swaps.moving_edits.MovingEdits.into_edits.Goals as goal
 
 pub set_places-requires-clause-small : goal.set_places-requires-clause-small
@@ -21,6 +21,6 @@ set_places-requires-clause-fit c =
     let es = with_ends m.edits.items (ends_of m.ends.items) in
     let l = ends_len m.ends.items in
     let k = c.requires.len in
-    let h = held_ends 0 0 m.edits.items es (placed_texts m.edits.items (ends_of m.ends.items) (omega (arith, l, k))) in
+    let h = fitting_ends 0 0 m.edits.items es (placed_texts m.edits.items (ends_of m.ends.items) (omega (arith, l, k))) in
     let g = subst (λ (z : List EndOffset). FitRemoved m.edits.items z) (sym c.requires.ends) h in
     subst (λ (z : List EditEntry). FitRemoved z (ends_of c.deref.result.now)) (sym c.deref_mut.ensures.value) (subst (λ (z : List EndOffset). FitRemoved m.edits.items (ends_of z)) (sym c.deref.ensures.value) g)

@@ -4,7 +4,7 @@ use Rattle.std.proofs.lemmas.Bool.{leb-true, leb-false, false≢true}
 use Rattle.edit_record.specs.declared.swaps.relative_ends.EndOffset.{EndOffset}
 use Rattle.edit_record.specs.Swaps.Inner.RelativeEnds.{ends_of, IsSmall}
 use Rattle.edit_record.specs.Swaps.Inner.MovingEditsView.{edits_now}
-use Rattle.edit_record.proofs.SwapsLemmas.RelativeEnds.FirstMeeting.{all_apart, first_met, itself, itself_adds, numbered, next_here, nothing_here, past_all, past_one, placed_at, small_now}
+use Rattle.edit_record.proofs.SwapsLemmas.RelativeEnds.FirstMeeting.{all_apart, first_met, itself, itself_adds, numbered, next_here, nothing_here, meets_none_of_all, meets_none_of_one, placed_at, small_now}
 use Rattle.edit_record.proofs.swaps.moving_edits.MovingEdits.meets.Goals as goal
 use Rattle.edit_record.proofs.swaps.moving_edits.MovingEdits.meets.Goals.{in-Some, in-None}
 
@@ -23,7 +23,7 @@ overflow_sub-touches c =
     let m = c.args.self.now in
     let f = next_here m c.edit-item.result c.requires c.at-at.result c.partition_before-count.result.count c.partition_before-count.result.last c.partition_before-count.result.next c.deref.result.now c.at-at.ensures c.deref.ensures.value c.partition_before-count.ensures c.in-Some.end c.in-Some.is in
     let adds = itself_adds m c.edit-item.result.at c.partition_before-count.result.count c.in-Some.end c.requires f c.index.result.now c.added.result.now c.added.ensures c.index.ensures in
-    let p = f.past_is in
+    let p = f.span_end_is in
     let l = f.len_is in
     omega (arith, adds, p, l)
 
@@ -72,9 +72,9 @@ loop-edit-preserved c =
           let removes = ap length w.removed.ensures in
           let at_is = c.at-at.ensures in
           let lt = leb-false _ _ (sym w.touches-is ∙ c.if-touches.false) in
-          past_one (edits_now m) b j y n.0 n.1 c.loop-edit.invariant count w.in-Some.end f (omega (arith, lt, adds, removes, at_is))
+          meets_none_of_one (edits_now m) b j y n.0 n.1 c.loop-edit.invariant count w.in-Some.end f (omega (arith, lt, adds, removes, at_is))
       | in-None w ↦
-          past_all (edits_now m) b j y n.0 n.1 c.loop-edit.invariant count
+          meets_none_of_all (edits_now m) b j y n.0 n.1 c.loop-edit.invariant count
           (nothing_here m y c.requires c.at-at.result count c.partition_before-count.result.last c.partition_before-count.result.next c.deref.result.now c.at-at.ensures c.deref.ensures.value c.partition_before-count.ensures w.in-None.is)
     ]
 

@@ -7,7 +7,7 @@ use Rattle.edit_record.specs.declared.swaps.moving_edits.MovingEdits.{MovingEdit
 use Rattle.edit_record.specs.declared.swaps.relative_ends.EndOffset.{EndOffset}
 use Rattle.edit_record.specs.Swaps.Inner.MovingEditsView.{edits_now}
 use Rattle.edit_record.specs.Swaps.Inner.RelativeEnds.{ends_of, CanShift, IsSmall, shifted_from}
-use Rattle.edit_record.proofs.SwapsLemmas.RelativeEnds.MovePastEach.{PassingEach, made_second, passing_end, passing_start, room, spot, turn, turned}
+use Rattle.edit_record.proofs.SwapsLemmas.RelativeEnds.MovePastEach.{PassingEach, made_second, passing_end, passing_start, can_shift_here, spot, next_edit_step, turned}
 use Rattle.edit_record.proofs.swaps.moving_edits.MovingEdits.move_past_each.Goals as goal
 
 pub loop-edit-init : goal.loop-edit-init
@@ -19,102 +19,102 @@ loop-edit-init c =
 pub overflow_add-at : goal.overflow_add-at
 overflow_add-at c =
     let n = c.loop-edit.self in
-    let come = c.loop-edit.added in
-    let gone = c.loop-edit.removed in
+    let inserted_len = c.loop-edit.added in
+    let deleted_len = c.loop-edit.removed in
     let y = c.edit-item.result in
-    let t = turn c.args.self.now n c.args.second.now c.loop-edit.seconds.items c.loop-edit.edit-index y c.edits-edit-items.result.now come gone c.requires.well_formed c.requires.lengths_match c.edits-edit-items.ensures.same c.edits-edit-items.ensures.disjoint c.loop-edit-test.true c.edit-item.is c.loop-edit.invariant in
+    let t = next_edit_step c.args.self.now n c.args.second.now c.loop-edit.seconds.items c.loop-edit.edit-index y c.edits-edit-items.result.now inserted_len deleted_len c.requires.well_formed c.requires.lengths_match c.edits-edit-items.ensures.same c.edits-edit-items.ensures.disjoint c.loop-edit-test.true c.edit-item.is c.loop-edit.invariant in
     let y_at = c.at.ensures in
-    omega (arith, t.come_small, t.at_small, y_at)
+    omega (arith, t.inserted_small, t.at_small, y_at)
 
 pub overflow_sub-at : goal.overflow_sub-at
 overflow_sub-at c =
     let n = c.loop-edit.self in
-    let come = c.loop-edit.added in
-    let gone = c.loop-edit.removed in
+    let inserted_len = c.loop-edit.added in
+    let deleted_len = c.loop-edit.removed in
     let y = c.edit-item.result in
-    let t = turn c.args.self.now n c.args.second.now c.loop-edit.seconds.items c.loop-edit.edit-index y c.edits-edit-items.result.now come gone c.requires.well_formed c.requires.lengths_match c.edits-edit-items.ensures.same c.edits-edit-items.ensures.disjoint c.loop-edit-test.true c.edit-item.is c.loop-edit.invariant in
+    let t = next_edit_step c.args.self.now n c.args.second.now c.loop-edit.seconds.items c.loop-edit.edit-index y c.edits-edit-items.result.now inserted_len deleted_len c.requires.well_formed c.requires.lengths_match c.edits-edit-items.ensures.same c.edits-edit-items.ensures.disjoint c.loop-edit-test.true c.edit-item.is c.loop-edit.invariant in
     let y_at = c.at.ensures in
-    omega (arith, t.gone_le, y_at)
+    omega (arith, t.deleted_le, y_at)
 
 pub partition_before-count-requires : goal.partition_before-count-requires
 partition_before-count-requires c =
     let n = c.loop-edit.self in
-    let come = c.loop-edit.added in
-    let gone = c.loop-edit.removed in
+    let inserted_len = c.loop-edit.added in
+    let deleted_len = c.loop-edit.removed in
     let y = c.edit-item.result in
-    let t = turn c.args.self.now n c.args.second.now c.loop-edit.seconds.items c.loop-edit.edit-index y c.edits-edit-items.result.now come gone c.requires.well_formed c.requires.lengths_match c.edits-edit-items.ensures.same c.edits-edit-items.ensures.disjoint c.loop-edit-test.true c.edit-item.is c.loop-edit.invariant in
+    let t = next_edit_step c.args.self.now n c.args.second.now c.loop-edit.seconds.items c.loop-edit.edit-index y c.edits-edit-items.result.now inserted_len deleted_len c.requires.well_formed c.requires.lengths_match c.edits-edit-items.ensures.same c.edits-edit-items.ensures.disjoint c.loop-edit-test.true c.edit-item.is c.loop-edit.invariant in
     let y_at = c.at.ensures in
     subst (λ (l : List EndOffset). AllByRecursion IsSmall (ends_of l)) (sym c.deref.ensures.value) t.small
 
 pub overflow_sub-place : goal.overflow_sub-place
 overflow_sub-place c =
     let n = c.loop-edit.self in
-    let come = c.loop-edit.added in
-    let gone = c.loop-edit.removed in
+    let inserted_len = c.loop-edit.added in
+    let deleted_len = c.loop-edit.removed in
     let y = c.edit-item.result in
-    let t = turn c.args.self.now n c.args.second.now c.loop-edit.seconds.items c.loop-edit.edit-index y c.edits-edit-items.result.now come gone c.requires.well_formed c.requires.lengths_match c.edits-edit-items.ensures.same c.edits-edit-items.ensures.disjoint c.loop-edit-test.true c.edit-item.is c.loop-edit.invariant in
+    let t = next_edit_step c.args.self.now n c.args.second.now c.loop-edit.seconds.items c.loop-edit.edit-index y c.edits-edit-items.result.now inserted_len deleted_len c.requires.well_formed c.requires.lengths_match c.edits-edit-items.ensures.same c.edits-edit-items.ensures.disjoint c.loop-edit-test.true c.edit-item.is c.loop-edit.invariant in
     let y_at = c.at.ensures in
-    let at = c.at.result + come - gone in
+    let at = c.at.result + inserted_len - deleted_len in
     let place = c.partition_before-count.result in
-    let s = spot c.args.self.now n c.args.second.now c.loop-edit.seconds.items y _ come gone t at place.count place.last place.next c.deref.result.now (omega (arith, t.gone_le, y_at)) c.deref.ensures.value c.partition_before-count.ensures in
-    omega (arith, t.come_small, t.at_small, t.gone_le, s.last_before, s.is, s.small, y_at)
+    let s = spot c.args.self.now n c.args.second.now c.loop-edit.seconds.items y _ inserted_len deleted_len t at place.count place.last place.next c.deref.result.now (omega (arith, t.deleted_le, y_at)) c.deref.ensures.value c.partition_before-count.ensures in
+    omega (arith, t.inserted_small, t.at_small, t.deleted_le, s.last_before, s.is, s.small, y_at)
 
 pub overflow_add-place : goal.overflow_add-place
 overflow_add-place c =
     let n = c.loop-edit.self in
-    let come = c.loop-edit.added in
-    let gone = c.loop-edit.removed in
+    let inserted_len = c.loop-edit.added in
+    let deleted_len = c.loop-edit.removed in
     let y = c.edit-item.result in
-    let t = turn c.args.self.now n c.args.second.now c.loop-edit.seconds.items c.loop-edit.edit-index y c.edits-edit-items.result.now come gone c.requires.well_formed c.requires.lengths_match c.edits-edit-items.ensures.same c.edits-edit-items.ensures.disjoint c.loop-edit-test.true c.edit-item.is c.loop-edit.invariant in
+    let t = next_edit_step c.args.self.now n c.args.second.now c.loop-edit.seconds.items c.loop-edit.edit-index y c.edits-edit-items.result.now inserted_len deleted_len c.requires.well_formed c.requires.lengths_match c.edits-edit-items.ensures.same c.edits-edit-items.ensures.disjoint c.loop-edit-test.true c.edit-item.is c.loop-edit.invariant in
     let y_at = c.at.ensures in
-    let at = c.at.result + come - gone in
+    let at = c.at.result + inserted_len - deleted_len in
     let place = c.partition_before-count.result in
-    let s = spot c.args.self.now n c.args.second.now c.loop-edit.seconds.items y _ come gone t at place.count place.last place.next c.deref.result.now (omega (arith, t.gone_le, y_at)) c.deref.ensures.value c.partition_before-count.ensures in
-    omega (arith, t.come_small, t.at_small, t.gone_le, s.last_before, s.is, s.small, y_at)
+    let s = spot c.args.self.now n c.args.second.now c.loop-edit.seconds.items y _ inserted_len deleted_len t at place.count place.last place.next c.deref.result.now (omega (arith, t.deleted_le, y_at)) c.deref.ensures.value c.partition_before-count.ensures in
+    omega (arith, t.inserted_small, t.at_small, t.deleted_le, s.last_before, s.is, s.small, y_at)
 
 pub overflow_add-place-in-loop-edit : goal.overflow_add-place-in-loop-edit
 overflow_add-place-in-loop-edit c =
     let n = c.loop-edit.self in
-    let come = c.loop-edit.added in
-    let gone = c.loop-edit.removed in
+    let inserted_len = c.loop-edit.added in
+    let deleted_len = c.loop-edit.removed in
     let y = c.edit-item.result in
-    let t = turn c.args.self.now n c.args.second.now c.loop-edit.seconds.items c.loop-edit.edit-index y c.edits-edit-items.result.now come gone c.requires.well_formed c.requires.lengths_match c.edits-edit-items.ensures.same c.edits-edit-items.ensures.disjoint c.loop-edit-test.true c.edit-item.is c.loop-edit.invariant in
+    let t = next_edit_step c.args.self.now n c.args.second.now c.loop-edit.seconds.items c.loop-edit.edit-index y c.edits-edit-items.result.now inserted_len deleted_len c.requires.well_formed c.requires.lengths_match c.edits-edit-items.ensures.same c.edits-edit-items.ensures.disjoint c.loop-edit-test.true c.edit-item.is c.loop-edit.invariant in
     let y_at = c.at.ensures in
-    let at = c.at.result + come - gone in
+    let at = c.at.result + inserted_len - deleted_len in
     let place = c.partition_before-count.result in
-    let s = spot c.args.self.now n c.args.second.now c.loop-edit.seconds.items y _ come gone t at place.count place.last place.next c.deref.result.now (omega (arith, t.gone_le, y_at)) c.deref.ensures.value c.partition_before-count.ensures in
-    omega (arith, t.come_small, t.at_small, t.gone_le, s.last_before, s.is, s.small, y_at)
+    let s = spot c.args.self.now n c.args.second.now c.loop-edit.seconds.items y _ inserted_len deleted_len t at place.count place.last place.next c.deref.result.now (omega (arith, t.deleted_le, y_at)) c.deref.ensures.value c.partition_before-count.ensures in
+    omega (arith, t.inserted_small, t.at_small, t.deleted_le, s.last_before, s.is, s.small, y_at)
 
 pub overflow_sub-place-in-loop-edit : goal.overflow_sub-place-in-loop-edit
 overflow_sub-place-in-loop-edit c =
     let n = c.loop-edit.self in
-    let come = c.loop-edit.added in
-    let gone = c.loop-edit.removed in
+    let inserted_len = c.loop-edit.added in
+    let deleted_len = c.loop-edit.removed in
     let y = c.edit-item.result in
-    let t = turn c.args.self.now n c.args.second.now c.loop-edit.seconds.items c.loop-edit.edit-index y c.edits-edit-items.result.now come gone c.requires.well_formed c.requires.lengths_match c.edits-edit-items.ensures.same c.edits-edit-items.ensures.disjoint c.loop-edit-test.true c.edit-item.is c.loop-edit.invariant in
+    let t = next_edit_step c.args.self.now n c.args.second.now c.loop-edit.seconds.items c.loop-edit.edit-index y c.edits-edit-items.result.now inserted_len deleted_len c.requires.well_formed c.requires.lengths_match c.edits-edit-items.ensures.same c.edits-edit-items.ensures.disjoint c.loop-edit-test.true c.edit-item.is c.loop-edit.invariant in
     let y_at = c.at.ensures in
-    let at = c.at.result + come - gone in
+    let at = c.at.result + inserted_len - deleted_len in
     let place = c.partition_before-count.result in
-    let s = spot c.args.self.now n c.args.second.now c.loop-edit.seconds.items y _ come gone t at place.count place.last place.next c.deref.result.now (omega (arith, t.gone_le, y_at)) c.deref.ensures.value c.partition_before-count.ensures in
-    omega (arith, t.come_small, t.at_small, t.gone_le, s.last_before, s.is, s.small, y_at)
+    let s = spot c.args.self.now n c.args.second.now c.loop-edit.seconds.items y _ inserted_len deleted_len t at place.count place.last place.next c.deref.result.now (omega (arith, t.deleted_le, y_at)) c.deref.ensures.value c.partition_before-count.ensures in
+    omega (arith, t.inserted_small, t.at_small, t.deleted_le, s.last_before, s.is, s.small, y_at)
 
 pub shift_from-requires-clause-small : goal.shift_from-requires-clause-small
 shift_from-requires-clause-small c =
     let n = c.loop-edit.self in
-    let come = c.loop-edit.added in
-    let gone = c.loop-edit.removed in
+    let inserted_len = c.loop-edit.added in
+    let deleted_len = c.loop-edit.removed in
     let y = c.edit-item.result in
-    let t = turn c.args.self.now n c.args.second.now c.loop-edit.seconds.items c.loop-edit.edit-index y c.edits-edit-items.result.now come gone c.requires.well_formed c.requires.lengths_match c.edits-edit-items.ensures.same c.edits-edit-items.ensures.disjoint c.loop-edit-test.true c.edit-item.is c.loop-edit.invariant in
+    let t = next_edit_step c.args.self.now n c.args.second.now c.loop-edit.seconds.items c.loop-edit.edit-index y c.edits-edit-items.result.now inserted_len deleted_len c.requires.well_formed c.requires.lengths_match c.edits-edit-items.ensures.same c.edits-edit-items.ensures.disjoint c.loop-edit-test.true c.edit-item.is c.loop-edit.invariant in
     let y_at = c.at.ensures in
     subst (λ (l : List EndOffset). AllByRecursion IsSmall (ends_of l)) (sym c.deref_mut.ensures.value) t.small
 
 pub shift_from-requires-clause-later : goal.shift_from-requires-clause-later
 shift_from-requires-clause-later c =
     let n = c.loop-edit.self in
-    let come = c.loop-edit.added in
-    let gone = c.loop-edit.removed in
+    let inserted_len = c.loop-edit.added in
+    let deleted_len = c.loop-edit.removed in
     let y = c.edit-item.result in
-    let t = turn c.args.self.now n c.args.second.now c.loop-edit.seconds.items c.loop-edit.edit-index y c.edits-edit-items.result.now come gone c.requires.well_formed c.requires.lengths_match c.edits-edit-items.ensures.same c.edits-edit-items.ensures.disjoint c.loop-edit-test.true c.edit-item.is c.loop-edit.invariant in
+    let t = next_edit_step c.args.self.now n c.args.second.now c.loop-edit.seconds.items c.loop-edit.edit-index y c.edits-edit-items.result.now inserted_len deleted_len c.requires.well_formed c.requires.lengths_match c.edits-edit-items.ensures.same c.edits-edit-items.ensures.disjoint c.loop-edit-test.true c.edit-item.is c.loop-edit.invariant in
     let y_at = c.at.ensures in
     let added_is = ap length c.added-more.ensures in
     (omega (arith, t.added_small, added_is), omega (arith, t.added_small, added_is))
@@ -122,36 +122,36 @@ shift_from-requires-clause-later c =
 pub shift_from-requires-clause-can_shift : goal.shift_from-requires-clause-can_shift
 shift_from-requires-clause-can_shift c =
     let n = c.loop-edit.self in
-    let come = c.loop-edit.added in
-    let gone = c.loop-edit.removed in
+    let inserted_len = c.loop-edit.added in
+    let deleted_len = c.loop-edit.removed in
     let y = c.edit-item.result in
-    let t = turn c.args.self.now n c.args.second.now c.loop-edit.seconds.items c.loop-edit.edit-index y c.edits-edit-items.result.now come gone c.requires.well_formed c.requires.lengths_match c.edits-edit-items.ensures.same c.edits-edit-items.ensures.disjoint c.loop-edit-test.true c.edit-item.is c.loop-edit.invariant in
+    let t = next_edit_step c.args.self.now n c.args.second.now c.loop-edit.seconds.items c.loop-edit.edit-index y c.edits-edit-items.result.now inserted_len deleted_len c.requires.well_formed c.requires.lengths_match c.edits-edit-items.ensures.same c.edits-edit-items.ensures.disjoint c.loop-edit-test.true c.edit-item.is c.loop-edit.invariant in
     let y_at = c.at.ensures in
-    let at = c.at.result + come - gone in
+    let at = c.at.result + inserted_len - deleted_len in
     let place = c.partition_before-count.result in
-    let r = room c.args.self.now n c.args.second.now c.loop-edit.seconds.items y _ come gone t at place.count place.last place.next c.deref.result.now (omega (arith, t.gone_le, y_at)) c.deref.ensures.value c.partition_before-count.ensures c.requires.apart in
+    let r = can_shift_here c.args.self.now n c.args.second.now c.loop-edit.seconds.items y _ inserted_len deleted_len t at place.count place.last place.next c.deref.result.now (omega (arith, t.deleted_le, y_at)) c.deref.ensures.value c.partition_before-count.ensures c.requires.apart in
     subst (λ (k : ℕ). CanShift k place.count (ends_of c.deref_mut.result.now)) (sym (ap length c.removed-less.ensures)) (subst (λ (l : List EndOffset). CanShift (length y.removed) place.count (ends_of l)) (sym c.deref_mut.ensures.value) r)
 
 pub overflow_add-added : goal.overflow_add-added
 overflow_add-added c =
     let n = c.loop-edit.self in
-    let come = c.loop-edit.added in
-    let gone = c.loop-edit.removed in
+    let inserted_len = c.loop-edit.added in
+    let deleted_len = c.loop-edit.removed in
     let y = c.edit-item.result in
-    let t = turn c.args.self.now n c.args.second.now c.loop-edit.seconds.items c.loop-edit.edit-index y c.edits-edit-items.result.now come gone c.requires.well_formed c.requires.lengths_match c.edits-edit-items.ensures.same c.edits-edit-items.ensures.disjoint c.loop-edit-test.true c.edit-item.is c.loop-edit.invariant in
+    let t = next_edit_step c.args.self.now n c.args.second.now c.loop-edit.seconds.items c.loop-edit.edit-index y c.edits-edit-items.result.now inserted_len deleted_len c.requires.well_formed c.requires.lengths_match c.edits-edit-items.ensures.same c.edits-edit-items.ensures.disjoint c.loop-edit-test.true c.edit-item.is c.loop-edit.invariant in
     let y_at = c.at.ensures in
     let added_is = ap length c.added-more.ensures in
-    omega (arith, t.come_small, t.added_small, added_is)
+    omega (arith, t.inserted_small, t.added_small, added_is)
 
 pub loop-edit-preserved : goal.loop-edit-preserved
 loop-edit-preserved c =
     let n = c.loop-edit.self in
-    let come = c.loop-edit.added in
-    let gone = c.loop-edit.removed in
+    let inserted_len = c.loop-edit.added in
+    let deleted_len = c.loop-edit.removed in
     let y = c.edit-item.result in
-    let t = turn c.args.self.now n c.args.second.now c.loop-edit.seconds.items c.loop-edit.edit-index y c.edits-edit-items.result.now come gone c.requires.well_formed c.requires.lengths_match c.edits-edit-items.ensures.same c.edits-edit-items.ensures.disjoint c.loop-edit-test.true c.edit-item.is c.loop-edit.invariant in
+    let t = next_edit_step c.args.self.now n c.args.second.now c.loop-edit.seconds.items c.loop-edit.edit-index y c.edits-edit-items.result.now inserted_len deleted_len c.requires.well_formed c.requires.lengths_match c.edits-edit-items.ensures.same c.edits-edit-items.ensures.disjoint c.loop-edit-test.true c.edit-item.is c.loop-edit.invariant in
     let y_at = c.at.ensures in
-    let at = c.at.result + come - gone in
+    let at = c.at.result + inserted_len - deleted_len in
     let place = c.partition_before-count.result in
     let m = c.args.self.now in
     let b = c.args.second.now in
@@ -164,9 +164,9 @@ loop-edit-preserved c =
     let written : (with_items n.ends c.shift_from.new.run).items ≡ c.shift_from.new.run = with_items_is n.ends c.shift_from.new.run (c.shift_from.auto.run ∙ c.deref_mut.ensures.len) in
     let k : MovingEdits = record { old_len = n.old_len; new_len = n.new_len; edits = n.edits; ends = with_items n.ends c.shift_from.new.run } in
     let next =
-    turned m n b c.loop-edit.seconds.items y rest come gone t at place.count place.last place.next c.deref.result.now (omega (arith, t.gone_le, y_at)) c.deref.ensures.value c.partition_before-count.ensures c.requires.apart k more c.in_ok-copy_at.field-0 c.in_ok-push.ensures.items c.in_ok-copy_at.ensures (ap ends_of written ∙ ends_now) refl (ap length written ∙ c.shift_from.auto.run ∙ ap length value) refl refl in
-    subst (λ (z : ℕ). PassingEach (edits_now m) b m k more rest (come + z) (gone + length c.removed-less.result.now)) (sym added_is)
-    (subst (λ (z : ℕ). PassingEach (edits_now m) b m k more rest (come + length y.added) (gone + z)) (sym removed_is) next)
+    turned m n b c.loop-edit.seconds.items y rest inserted_len deleted_len t at place.count place.last place.next c.deref.result.now (omega (arith, t.deleted_le, y_at)) c.deref.ensures.value c.partition_before-count.ensures c.requires.apart k more c.in_ok-copy_at.field-0 c.in_ok-push.ensures.items c.in_ok-copy_at.ensures (ap ends_of written ∙ ends_now) refl (ap length written ∙ c.shift_from.auto.run ∙ ap length value) refl refl in
+    subst (λ (z : ℕ). PassingEach (edits_now m) b m k more rest (inserted_len + z) (deleted_len + length c.removed-less.result.now)) (sym added_is)
+    (subst (λ (z : ℕ). PassingEach (edits_now m) b m k more rest (inserted_len + length y.added) (deleted_len + z)) (sym removed_is) next)
 
 pub returns : goal.returns
 returns c =
