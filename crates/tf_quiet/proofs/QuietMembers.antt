@@ -151,6 +151,6 @@ quiet_members each_node rules pairs depth from to x is line fits quiet =
     let s = found_member rules pairs sub w m in
     let body = node.body (first_token_in (tokens_of sub) false 0 j) j (y ∷ []) in
     let is_file : IsFile (tokens_of sub) depth (node.tree (length (tokens_of sub)) body) = file no_mark (member_first d' no_members) (at_end (none_at_end (tokens_of sub) j (omega (arith, place, long)))) in
-    let nothing = body_nothing rules sub (all_quiet pairs from count w long (subst (AreQuiet pairs from) (sym whole) quiet)) body (each_node (tokens_of sub) depth (node.tree (length (tokens_of sub)) body) is_file) s.nodes' s.stand' in
+    let nothing = body_nothing rules sub (all_quiet pairs from count w long (subst (AreQuiet pairs from) (sym whole) quiet)) body (each_node (tokens_of sub) depth (node.tree (length (tokens_of sub)) body) is_file) s.nodes' s.is_preorder' in
     let moved = sym (ap (valid_findings (length sub)) nothing.is) ∙ s.found.is in
     record { nodes = s.nodes; preorder = s.preorder; are = sym (nothing_moved (renumber_finding from 0) (valid_findings (length pairs) (flat_map (node_findings rules pairs) s.nodes)) moved) }
