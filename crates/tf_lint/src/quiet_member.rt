@@ -5,8 +5,8 @@
 //! no attribute or block, or at the end of a block without an attribute that it must have. The
 //! parser is called before more than these are looked at, so that an error near the start of a long
 //! member is found before work grows with its length; only then are all its tokens looked at. (Of
-//! a long block whose body the rules on blocks read, a guess is made before.) Where the member is
-//! given up, its tree is made as before.
+//! a long block whose body the rules on blocks read, the parser reads the first lines, and a guess
+//! is made of all of them, before.) Where the member is given up, its tree is made as before.
 
 ghost use Rattle.std.specs.Prelude.{◌≡◌, ◌≤◌, ◌<◌, ◌-◌, ◌^◌, length, true, false, Ok, IfOk, IfErr, Some};
 ghost use Rattle.hcl_token.specs.TokenizedText.{kind_of};
@@ -18,6 +18,7 @@ ghost use Rattle.tf_quiet.specs.QuietTokens.{AreQuiet};
 use hcl_check::skip_member;
 use hcl_grammar::fault::TokenFault;
 use hcl_scan::Scanned;
+use hcl_token::Kind;
 use std::alloc::Global;
 use tf_quiet::laws::{quiet_heads_have_no_findings, quiet_members_have_no_findings};
 use tf_quiet::{Stop, is_loud_block, is_quiet_head, quiet_block_end_within, quiet_line_end_within};
@@ -26,6 +27,9 @@ use tf_quiet::{Stop, is_loud_block, is_quiet_head, quiet_block_end_within, quiet
 /// lines of a block. With fewer, more members that stop being quiet late are read by the parser
 /// twice; with more, an error near the start is found later.
 const LOOK: usize = 2_560;
+
+/// The most tokens of a long block that the parser reads before a guess is made of all of them.
+const FIRST_TOKENS: usize = 256;
 
 /// Returns the place after the first line end outside of brackets, if it is found before a limit,
 /// and the tokens up to there are quiet and show that no rule on blocks finds anything at the
@@ -63,13 +67,61 @@ fn first_look(scanned: &Scanned<'_>, from: usize) -> Result<usize, Stop>
     quiet_end(scanned, from, scanned.len().min(from.saturating_add(LOOK)))
 }
 
+/// Returns the number of the token after the line of the brace that opens the block that begins
+/// with this token; `stop` if no brace precedes that.
+fn body_start(scanned: &Scanned<'_>, from: usize, stop: usize) -> usize
+    requires { stop ≤ length scanned.now.pairs }
+{
+    for n in from..stop {
+        if matches!(scanned.kind(n), Kind::OpenBrace) {
+            return n.saturating_add(2);
+        }
+    }
+    stop
+}
+
+/// Returns whether an attribute or block seems to begin at this token.
+fn is_name(scanned: &Scanned<'_>, n: usize) -> bool {
+    n < scanned.len() && matches!(scanned.kind(n), Kind::Identifier)
+}
+
+/// Returns whether the parser finds an error in the first lines of the long block that begins with
+/// this token, as far as they are quiet.
+fn begins_with_error(alloc: Global, scanned: &Scanned<'_>, from: usize) -> bool {
+    let stop = scanned.len().min(from.saturating_add(FIRST_TOKENS));
+    let mut at = body_start(scanned, from, stop);
+    for _ in 0..FIRST_TOKENS {
+        let Ok(end) = quiet_line_end_within(scanned, at, stop) else {
+            return false;
+        };
+        if !is_name(scanned, at) {
+            at = end;
+        } else if skip_member(alloc, scanned, &mut at).is_err() {
+            return true;
+        }
+    }
+    false
+}
+
+/// Returns whether something in a long block seems not to be quiet. An error near its start is
+/// found first, which the parser is to report before work grows with the block.
+#[inline(never)]
+fn seems_loud(alloc: Global, scanned: &Scanned<'_>, from: usize) -> bool {
+    !begins_with_error(alloc, scanned, from) && is_loud_block(scanned, from)
+}
+
 /// Returns whether a first look says that something is not quiet, or, of a long block whose body
 /// the rules on blocks read, that something seems not to be. To say so of more costs time alone.
 #[inline(always)]
-fn is_given_up(scanned: &Scanned<'_>, from: usize, first: Result<usize, Stop>) -> bool {
+fn is_given_up(
+    alloc: Global,
+    scanned: &Scanned<'_>,
+    from: usize,
+    first: Result<usize, Stop>,
+) -> bool {
     match first {
         Ok(_end) => false,
-        Err(Stop::Limit) => !is_quiet_head(scanned, from) && is_loud_block(scanned, from),
+        Err(Stop::Limit) => !is_quiet_head(scanned, from) && seems_loud(alloc, scanned, from),
         Err(Stop::NotQuiet) => true,
     }
 }
@@ -152,7 +204,7 @@ pub fn skip_quiet_member(
     quiet_members_have_no_findings();
     let from = *at;
     let first = first_look(scanned, from);
-    if is_given_up(scanned, from, first) {
+    if is_given_up(alloc, scanned, from, first) {
         return Ok(false);
     }
     let mut past = from;

@@ -1,7 +1,7 @@
 //! Guesses, before the parser is called, whether something in a block is not quiet or has an error.
 //! Only time depends on them.
 
-ghost use Rattle.std.specs.Prelude.{◌+◌, ◌<◌, ◌^◌, length};
+ghost use Rattle.std.specs.Prelude.{◌+◌, ◌<◌, ◌^◌};
 
 use crate::heads::{is_kind, is_spelled, token_text};
 use crate::tokens::is_quiet_after_quote;
@@ -61,27 +61,13 @@ fn is_wrong_name(scanned: &Scanned<'_>, n: usize) -> bool {
     is_kind(scanned, n, Kind::Identifier) && !is_snake_case(token_text(scanned, n))
 }
 
-/// Returns whether the token before this one ends an operand, so that another one can't begin here.
-fn follows_operand(scanned: &Scanned<'_>, n: usize) -> bool
-    requires { n < length scanned.now.pairs }
-{
-    if n == 0 {
-        return false;
-    }
-    match scanned.kind(n - 1) {
-        Kind::Number | Kind::QuoteClose | Kind::CloseParen | Kind::CloseBracket => true,
-        _ => false,
-    }
-}
-
 /// More tokens than most values have: in a longer one an opening may lack its end, which the parser
 /// finds sooner.
 const LONG: usize = 1_024;
 
 /// Returns whether something in the block that begins with this token seems not to be quiet, of
 /// what is not most often: a legacy index, a quote after which one interpolation may be all of the
-/// quoted text, and in `locals` a name that is not in snake_case. Returns false at two operands in
-/// a row, an error that the parser finds sooner.
+/// quoted text, and in `locals` a name that is not in snake_case.
 pub fn is_loud_block(scanned: &Scanned<'_>, from: usize) -> bool {
     let names = is_spelled(token_text(scanned, from), b"locals");
     let mut depth = 0usize;
@@ -90,9 +76,6 @@ pub fn is_loud_block(scanned: &Scanned<'_>, from: usize) -> bool {
     'block: while n < scanned.len() {
         match scanned.kind(n) {
             Kind::DotIndex => return true,
-            Kind::Number | Kind::HereOpen if follows_operand(scanned, n) => return false,
-            Kind::Identifier if depth == 1 && follows_operand(scanned, n) => return false,
-            Kind::QuoteOpen if follows_operand(scanned, n) => return false,
             Kind::QuoteOpen => {
                 if !is_quiet_after_quote(scanned, n + 1) {
                     return true;
