@@ -1,4 +1,5 @@
-//! `tfk`: a formatter and linter for Terraform files.
+//! The program `tfk`, a formatter and linter for Terraform files: it reads its arguments and does
+//! what tf_program does with them.
 #![tactic(auto)]
 
 use std::io::ErrorKind;
