@@ -1,11 +1,14 @@
 """Terraform as people write it: blocks of every kind, with work for a formatter and a linter."""
 
-WORDS = """app api web data core edge auth cache queue worker batch stream audit backup billing cluster config deploy events
-gateway health index ingest jobs keys logs mail metrics network orders payments portal proxy reports router search secrets session
-shared stage static storage sync tasks tenant traffic users vault zone""".split()
-TYPES = ["string", "number", "bool", "list(string)", "map(string)", "set(string)", "object({ name = string, size = number })", "any"]
-RESOURCES = ["aws_instance", "aws_s3_bucket", "aws_iam_role", "aws_security_group", "aws_lambda_function", "google_storage_bucket",
-             "azurerm_resource_group", "kubernetes_namespace", "aws_db_instance", "aws_route53_record"]
+WORDS = """app api web data core edge auth cache queue worker batch stream audit backup billing
+cluster config deploy events gateway health index ingest jobs keys logs mail metrics network orders
+payments portal proxy reports router search secrets session shared stage static storage sync tasks
+tenant traffic users vault zone""".split()
+TYPES = ["string", "number", "bool", "list(string)", "map(string)", "set(string)"]
+TYPES += ["object({ name = string, size = number })", "any"]
+RESOURCES = """aws_instance aws_s3_bucket aws_iam_role aws_security_group aws_lambda_function
+google_storage_bucket azurerm_resource_group kubernetes_namespace aws_db_instance
+aws_route53_record""".split()
 
 
 class Chance:
@@ -43,8 +46,12 @@ class Writer:
     def reference(self):
         chance = self.chance
         return chance.of([
-            f"var.{chance.of(WORDS)}_{chance.of(WORDS)}", f"local.{chance.of(WORDS)}_name", f"module.{chance.of(WORDS)}.id",
-            f"{chance.of(RESOURCES)}.{chance.of(WORDS)}.arn", f"data.{chance.of(RESOURCES)}.{chance.of(WORDS)}.id", "each.value.name",
+            f"var.{chance.of(WORDS)}_{chance.of(WORDS)}",
+            f"local.{chance.of(WORDS)}_name",
+            f"module.{chance.of(WORDS)}.id",
+            f"{chance.of(RESOURCES)}.{chance.of(WORDS)}.arn",
+            f"data.{chance.of(RESOURCES)}.{chance.of(WORDS)}.id",
+            "each.value.name",
             f"{chance.of(RESOURCES)}.{chance.of(WORDS)}[0].id",
         ])
 
@@ -107,7 +114,8 @@ class Writer:
                 run.append(row)
                 continue
             wide = max((len(one) for one in run), default=0)
-            out += [one.ljust(wide) + " " + self.comment("see " + self.chance.of(WORDS)) for one in run]
+            for one in run:
+                out.append(one.ljust(wide) + " " + self.comment("see " + self.chance.of(WORDS)))
             out.append(row)
             run = []
         return out[:-1]
@@ -119,11 +127,13 @@ class Writer:
         chance = self.chance
         rows = []
         if not chance.one_in(12):
-            rows.append(("description", f'"The {chance.of(WORDS)} of the {chance.of(WORDS)}, as the {chance.of(WORDS)} has it"'))
+            what = f"The {chance.of(WORDS)} of the {chance.of(WORDS)}"
+            rows.append(("description", f'"{what}, as the {chance.of(WORDS)} has it"'))
         if not chance.one_in(30):
             rows.append(("type", chance.of(TYPES)))
         if chance.one_in(2) or not rows:
-            rows.append(("default", chance.of(["null", '""', "[]", "{}", "true", "3", '"default"'])))
+            values = ["null", '""', "[]", "{}", "true", "3", '"default"']
+            rows.append(("default", chance.of(values)))
         return [f'variable "{self.name()}" {{', *self.attributes("  ", rows), "}"]
 
     def output(self):
@@ -134,8 +144,10 @@ class Writer:
 
     def locals(self):
         out = ["locals {"]
-        out += self.attributes("  ", [(self.name(), self.value()) for _ in range(2 + self.chance.below(5))])
-        out += ["", "  common_tags = {", *self.some("    ", ["Environment", "Owner", "CostCenter", "ManagedBy"]), "  }"]
+        count = 2 + self.chance.below(5)
+        out += self.attributes("  ", [(self.name(), self.value()) for _ in range(count)])
+        tags = self.some("    ", ["Environment", "Owner", "CostCenter", "ManagedBy"])
+        out += ["", "  common_tags = {", *tags, "  }"]
         out += ["", f"  {self.name()} = ["]
         out += [f'    "{self.chance.of(WORDS)}",' for _ in range(2 + self.chance.below(4))]
         out += ["  ]", "}"]
@@ -150,8 +162,10 @@ class Writer:
     def policy(self):
         out = [f'data "aws_iam_policy_document" "{self.name()}" {{']
         for _ in range(1 + self.chance.below(3)):
-            out += ["  statement {", f'    sid    = "{self.chance.of(WORDS).capitalize()}"', '    effect = "Allow"', ""]
-            out += ["    actions = [", '      "s3:GetObject",', '      "s3:ListBucket",', "    ]", ""]
+            sid = self.chance.of(WORDS).capitalize()
+            out += ["  statement {", f'    sid    = "{sid}"', '    effect = "Allow"', ""]
+            out += ["    actions = [", '      "s3:GetObject",', '      "s3:ListBucket",']
+            out += ["    ]", ""]
             out += [f'    resources = [{self.reference()}, "${{{self.reference()}}}/*"]', "  }", ""]
         return out[:-1] + ["}"]
 
@@ -159,29 +173,37 @@ class Writer:
         chance = self.chance
         out = ["  user_data = <<-EOT", "    #!/bin/bash", "    set -euo pipefail"]
         for _ in range(3 + chance.below(8)):
-            out.append(f'    echo "{chance.of(WORDS)} ${{{self.reference()}}}" >> /etc/{chance.of(WORDS)}.conf')
+            said = f'"{chance.of(WORDS)} ${{{self.reference()}}}"'
+            out.append(f"    echo {said} >> /etc/{chance.of(WORDS)}.conf")
         return out + ['    %{ if var.debug ~}', "    set -x", "    %{ endif ~}", "  EOT"]
 
     def resource(self):
         chance = self.chance
         out = [f'resource "{chance.of(RESOURCES)}" "{self.name()}" {{']
-        out += self.attributes("  ", [(chance.of(["count", "for_each"]), self.value())]) + [""] if chance.one_in(3) else []
-        keys = ["name", "ami", "instance_type", "subnet_id", "vpc_security_group_ids", "availability_zone", "key_name", "monitoring"]
+        if chance.one_in(3):
+            name = chance.of(["count", "for_each"])
+            out += self.attributes("  ", [(name, self.value())]) + [""]
+        keys = ["name", "ami", "instance_type", "subnet_id", "vpc_security_group_ids"]
+        keys += ["availability_zone", "key_name", "monitoring"]
         out += self.some("  ", keys[chance.below(4):])
         if chance.one_in(2):
             out += ["", "  tags = {", *self.some("    ", ["Name", "Environment", "Team"]), "  }"]
         if chance.one_in(3):
             out += ["", *self.user_data()]
         if chance.one_in(3):
-            out += ["", "  ingress {", *self.some("    ", ["from_port", "to_port", "protocol", "cidr_blocks"]), "  }"]
+            rows = self.some("    ", ["from_port", "to_port", "protocol", "cidr_blocks"])
+            out += ["", "  ingress {", *rows, "  }"]
         if chance.one_in(5):
-            out += ["", '  dynamic "setting" {', f"    for_each = {self.reference()}", "    content {"]
-            out += ["      name  = setting.key", "      value = setting.value", "    }", "  }"]
+            out += ["", '  dynamic "setting" {', f"    for_each = {self.reference()}"]
+            out += ["    content {", "      name  = setting.key", "      value = setting.value"]
+            out += ["    }", "  }"]
         if chance.one_in(5):
-            out += ["", "  assume_role_policy = jsonencode({", '    Version = "2012-10-17"', "    Statement = [", "      {"]
-            out += ['        Effect = "Allow"', '        Action = "sts:AssumeRole"', "      },", "    ]", "  })"]
+            out += ["", "  assume_role_policy = jsonencode({", '    Version = "2012-10-17"']
+            out += ["    Statement = [", "      {", '        Effect = "Allow"']
+            out += ['        Action = "sts:AssumeRole"', "      },", "    ]", "  })"]
         if chance.one_in(4):
-            out += ["", "  lifecycle {", "    create_before_destroy = true", "    ignore_changes        = [tags, user_data]", "  }"]
+            out += ["", "  lifecycle {", "    create_before_destroy = true"]
+            out += ["    ignore_changes        = [tags, user_data]", "  }"]
         return out + ["}"]
 
     def block(self):
@@ -203,9 +225,11 @@ class Writer:
         if chance.one_in(20):
             out = self.untidy(out)
         if chance.one_in(4):
-            out.insert(0, self.comment(f"The {chance.of(WORDS)} for the {chance.of(WORDS)}, kept in one place"))
+            what = f"The {chance.of(WORDS)} for the {chance.of(WORDS)}"
+            out.insert(0, self.comment(f"{what}, kept in one place"))
         if chance.one_in(200):
-            out.insert(0, "# tflint-ignore: terraform_naming_convention, terraform_documented_variables # kept as it was")
+            rules = "terraform_naming_convention, terraform_documented_variables"
+            out.insert(0, f"# tflint-ignore: {rules} # kept as it was")
         return out + [""]
 
     def untidy(self, out):
@@ -219,7 +243,8 @@ class Writer:
                 continue
             inside = line.endswith("<<-EOT")
             line = line[min(2, len(line) - len(line.lstrip())):]
-            done.append(line.replace(" = ", self.chance.of(["=", " =", "  = "]), 1).replace(", ", ",", 1))
+            sign = self.chance.of(["=", " =", "  = "])
+            done.append(line.replace(" = ", sign, 1).replace(", ", ",", 1))
         return done
 
 

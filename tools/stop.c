@@ -164,7 +164,9 @@ int open64(const char *name, int flags, ...)
 long write(int file, const void *bytes, size_t count)
 {
     if (file > 2 && is_met('w')) {
-        long taken = takes_half && seen == first ? syscall(SYSCALL_WRITE, file, bytes, count / 2) : 0;
+        long taken = 0;
+        if (takes_half && seen == first)
+            taken = syscall(SYSCALL_WRITE, file, bytes, count / 2);
         return error && taken > 0 ? taken : refused();
     }
     return syscall(SYSCALL_WRITE, file, bytes, count);

@@ -180,7 +180,8 @@ class Pair:
         name = self.name(text)
         self.check.see(name)
         self.check.require(name != "FILE is torn", name, *statuses)
-        self.check.require(name == "whole" or any(statuses), f"{name}, no error reported", *statuses)
+        is_right = name == "whole" or any(statuses)
+        self.check.require(is_right, f"{name}, no error reported", *statuses)
         self.check.require(not self.scene.leftovers(), "left", *statuses)
 
 

@@ -3,6 +3,7 @@ use Rattle.std.proofs.Common.{◌≡◌, ℕ, zero, suc, ◌-◌, ◌<◌, ◌�
 use Rattle.std.specs.Prelude.{codes, is_ok, ◌||◌}
 use Rattle.std.specs.List.{flat_map, AllByRecursion}
 use Rattle.std.proofs.lemmas.List.Concat.{flat_map-cons}
+use Rattle.edit_record.specs.declared.version_1.TheConstants.{MAX_STEPS}
 use Rattle.edit_record.specs.Lists.Pieces.{EditEntry, EditList}
 use Rattle.edit_record.specs.Lists.Journal.{JournalEntry}
 use Rattle.edit_record.specs.Text.{newline, NumbersFit, number_text, edit_text, list_head, list_text, word_text, steps, step_text}
@@ -121,7 +122,7 @@ from_new t t1 t2 word e1 e2 o = record {
   reaches = o;
 }
 
-from_old : (t t1 t2 t3 t4 : List ℕ) (word : _) (n : ℕ) → t ≡ codes "tfrec 1 " ++ t1 → t1 ≡ word_text word ++ t2 → t2 ≡ number_text newline n ++ t3 → 0 < n → n ≤ 64 → t3 ≡ codes "step " ++ t4 → ReachesEdit (mark_after n) t4 → OldReachesFirstEdit t
+from_old : (t t1 t2 t3 t4 : List ℕ) (word : _) (n : ℕ) → t ≡ codes "tfrec 1 " ++ t1 → t1 ≡ word_text word ++ t2 → t2 ≡ number_text newline n ++ t3 → 0 < n → n ≤ MAX_STEPS → t3 ≡ codes "step " ++ t4 → ReachesEdit (mark_after n) t4 → OldReachesFirstEdit t
 from_old t t1 t2 t3 t4 word n e1 e2 e3 some few e4 o = record {
   word = word;
   steps = n;
@@ -145,9 +146,9 @@ unfolding old_head_allocates step_allocates
 old_head_opens t h =
     found_ok (expect (codes "tfrec 1 ") Head t) _ h λ t1 t1_is h1.
     found_ok (word_at t1) _ h1 λ word word_is h2.
-    found_ok (number_at 1 64 newline word.1) _ h2 λ count count_is h3.
+    found_ok (number_at 1 MAX_STEPS newline word.1) _ h2 λ count count_is h3.
     found_ok (expect (codes "step ") Head count.1) _ h3 λ t4 t4_is h4.
-    let n = number_takes 1 64 newline word.1 count (omega arith) count_is in
+    let n = number_takes 1 MAX_STEPS newline word.1 count (omega arith) count_is in
     from_old t t1 word.1 count.1 t4 word.0 count.0 (expect_takes (codes "tfrec 1 ") Head t t1 t1_is) (word_takes t1 word.0 word.1 word_is)
     n.0 n.1 n.2 (expect_takes (codes "step ") Head count.1 t4 t4_is) (list_opens (mark_after count.0) t4 h4)
 
@@ -165,14 +166,14 @@ unfolding old_head_at
 old_steps_open t head after e h =
     through_one (expect (codes "tfrec 1 ") Head t) _ (head, after) e λ t1 begins g1.
     through (word_at t1) _ (head, after) g1 λ word t2 word_is g2.
-    through (number_at 1 64 newline t2) _ (head, after) g2 λ count t3 count_is g3.
+    through (number_at 1 MAX_STEPS newline t2) _ (head, after) g2 λ count t3 count_is g3.
     through (step_at t3) _ (head, after) g3 λ first t4 first_is g4.
     let head_eq : (record { word = word; first = first; others = count - 1 }, t4) ≡ (head, after) = ok_is _ _ g4 in
     let extended : steps_allocate (count - 1) t4 ≡ true = ap (λ (x : OldHead × List ℕ). steps_allocate x.0.others x.1) head_eq ∙ h in
     more_steps (count - 1) t4 extended λ k x count_eq step_is.
     let mark = two_marks count k count_eq in
     let taken = step_takes t3 first t4 first_is in
-    let n = number_takes 1 64 newline t2 (count, t3) (omega arith) count_is in
+    let n = number_takes 1 MAX_STEPS newline t2 (count, t3) (omega arith) count_is in
     let t3_is : t3 ≡ codes "step " ++ (list_text first ++ t4) = taken.0 ∙ append_assoc (codes "step ") (list_text first) t4 in
     let opens : ReachesEdit (codes "step ") (list_text first ++ (codes "step " ++ x)) = whole_opens first first.entries (codes "step ") x refl taken.1 in
     let opens_here : ReachesEdit (mark_after count) (list_text first ++ t4) =

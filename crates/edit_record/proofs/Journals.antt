@@ -94,7 +94,7 @@ record_shorter old t r rest h =
     let l = head_len old b.0 in
     rw b.1 (omega (arith, b.2))
 
--- A text is the records in front, and then the rest, whatever it is.
+-- A text is the leading records, and then the rest, whatever it is.
 abbrev pub Begins : Bool → List ℕ → List JournalEntry → List ℕ → Type 0
 Begins old text leading rest = (ss : List JournalEntry) → RecordsAt old text ss ↔ ((rs : List JournalEntry) × (ss ≡ leading ++ rs) × RecordsAt old rest rs)
 

@@ -1,5 +1,5 @@
--- The text that the first records of a journal were read from: it is cut where records are removed,
--- and what is written after it is the text of the others.
+-- The text that the first records of a journal were read from: when records are removed, it is
+-- truncated, and what is written after it is the text of the others.
 use Rattle.std.proofs.Common.{◌≡◌, ℕ, zero, suc, ◌+◌, ◌-◌, ◌≤◌, ◌<◌, List, [], ◌∷◌, ◌++◌, length, take, drop, refl, false, sym, ap, subst, ◌∙◌, arith, append_assoc, length-append}
 use Rattle.std.specs.List.{AllByRecursion, slice_range}
 use Rattle.std.proofs.lemmas.Grind.{flat_map-append}

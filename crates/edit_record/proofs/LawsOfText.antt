@@ -1,4 +1,5 @@
--- A text is that of one journal, and journals with one front begin alike.
+-- A text is that of one journal. If the text of one journal is a prefix of the text of another, the
+-- records of the first are the first records of the other.
 use Rattle.std.proofs.Common.{◌≡◌, ◌↔◌, ℕ, List, [], ◌∷◌, ◌++◌, drop, Bool, true, false, Some, None, refl, sym, ap, subst, ◌∙◌, append_assoc}
 use Rattle.std.specs.Prelude.{codes}
 use Rattle.std.specs.List.{AllByRecursion}

@@ -15,7 +15,6 @@ pub mod Steps
 pub mod Journals
 pub mod LawsOfText
 pub mod FirstErrors
-pub mod FormerTexts
 pub mod ListsLemmas
 pub mod SquashesLemmas
 pub mod SwapsLemmas

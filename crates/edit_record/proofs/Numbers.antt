@@ -3,10 +3,15 @@ use Rattle.std.proofs.Common.{◌≡◌, ℕ, ◌+◌, ◌/◌, ◌%◌, ◌^◌
 use Rattle.std.specs.Prelude.{decimal, nat_lt, nat_le, ◌==◌}
 use Rattle.std.proofs.lemmas.Bool.{leb-true, eqb-true, ltb-false, le-leb, le-ltb}
 use Rattle.std.proofs.lemmas.Fmt.{decimal_step, decimal_digit, decimal_by_steps}
-use Rattle.edit_record.specs.Text.{number_text}
+use Rattle.edit_record.specs.declared.version_1.TheConstants.{MAX_STEPS}
+use Rattle.edit_record.specs.Text.{number_text, max_number}
 use Rattle.edit_record.specs.declared.fault.FaultKind.TheVariants.{Head, Number}
 use Rattle.edit_record.specs.Parsing.{cut_short, error, is_digit, with_digit, number_on, number_at}
 use Rattle.edit_record.proofs.Choices.{chosen, err_else, ok_if, both_true, ok_is}
+
+-- the limits of numbers: texts that there are have them, so another limit is another version
+pub limits_are : (max_number ≡ 33554432) × (MAX_STEPS ≡ 64)
+limits_are = (omega arith, omega arith)
 
 -- what is read of a number, after the digits of value
 pub record Takes (least limit stop value : ℕ) (t : List ℕ) (x : ℕ × List ℕ) : Type 0 where

@@ -3,6 +3,7 @@ use Rattle.std.proofs.Common.{◌≡◌, ℕ, ◌-◌, ◌≤◌, List, [], ◌�
 use Rattle.std.specs.Prelude.{codes}
 use Rattle.std.specs.List.{flat_map, AllByRecursion}
 use Rattle.std.proofs.lemmas.List.Concat.{flat_map-cons}
+use Rattle.edit_record.specs.declared.version_1.TheConstants.{MAX_STEPS}
 use Rattle.edit_record.specs.declared.lists.edit.BadEdits.{BadEdits}
 use Rattle.edit_record.specs.declared.lists.record.Word.{Word}
 use Rattle.edit_record.specs.declared.lists.record.Word.TheVariants.{Fmt, Fix}
@@ -131,7 +132,7 @@ steps_again = many_again step_at step_text IsValidList step_again
 -- an old record whose lists can be made, and whose number of lists can be read
 pub record IsOld (r : OldRecord) : Type 0 where
   pub made : AllByRecursion IsValidList (steps r)
-  pub within_limit : length (steps r) ≤ 64
+  pub within_limit : length (steps r) ≤ MAX_STEPS
 
 pub four : (a b c d e rest : List ℕ) → ((a ++ b ++ c) ++ d ++ e) ++ rest ≡ a ++ (b ++ (c ++ (d ++ (e ++ rest))))
 four a b c d e rest = simp append_assoc
@@ -148,11 +149,11 @@ old_takes t r rest h =
     through_one (expect (codes "end\n") End t5) _ (r, rest) h2 λ t6 end_is h3.
     through_one (expect (codes "tfrec 1 ") Head t) _ (head, t4) head_is λ t1 begins g1.
     through (word_at t1) _ (head, t4) g1 λ word t2 word_is g2.
-    through (number_at 1 64 newline t2) _ (head, t4) g2 λ count t3 count_is g3.
+    through (number_at 1 MAX_STEPS newline t2) _ (head, t4) g2 λ count t3 count_is g3.
     through (step_at t3) _ (head, t4) g3 λ first t4' first_is g4.
     let head_eq : (record { word = word; first = first; others = count - 1 }, t4') ≡ (head, t4) = ok_is _ _ g4 in
     let old : OldRecord = record { word = word; first = first; others = others } in
-    let n = number_takes 1 64 newline t2 (count, t3) (omega arith) count_is in
+    let n = number_takes 1 MAX_STEPS newline t2 (count, t3) (omega arith) count_is in
     let count_eq : count - 1 ≡ head.others = ap (λ (x : OldHead × List ℕ). x.0.others) head_eq in
     let t4_eq : t4' ≡ t4 = ap (λ (x : OldHead × List ℕ). x.1) head_eq in
     let s = step_takes t3 first t4' first_is in
@@ -186,7 +187,7 @@ old_again r rest old =
     let head : OldHead = record { word = r.word; first = r.first; others = length (steps r) - 1 } in
     let head_is : old_head_at t0 ≡ Ok (head, t4) =
     continues_with (word_at t1) _ (r.word, t2) _ (word_again r.word t2)
-    (continues_with (number_at 1 64 newline t2) _ (length (steps r), t3) _ (number_again 1 64 newline (length (steps r)) t3 (omega arith) refl some old.within_limit)
+    (continues_with (number_at 1 MAX_STEPS newline t2) _ (length (steps r), t3) _ (number_again 1 MAX_STEPS newline (length (steps r)) t3 (omega arith) refl some old.within_limit)
     (continues_with (step_at t3) _ (r.first, t4) _ first_is refl)) in
     let read : old_record_at t0 ≡ Ok (r, rest) =
     continues_with (old_head_at t0) _ (head, t4) _ head_is

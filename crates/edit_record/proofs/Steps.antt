@@ -3,22 +3,36 @@ use Rattle.std.proofs.Common.{◌≡◌, ◌↔◌, ℕ, suc, ◌+◌, ◌-◌, 
 use Rattle.std.specs.Prelude.{codes, ◌||◌}
 use Rattle.edit_record.specs.Lists.Pieces.{EditList}
 use Rattle.edit_record.specs.Lists.Journal.{JournalEntry}
-use Rattle.edit_record.specs.Squashes.Squash.{IsSquash}
+use Rattle.edit_record.specs.Squashes.Squash.{IsSquash, IsSquashResult}
 use Rattle.edit_record.specs.Squashes.SquashLists.{SquashAll}
 use Rattle.edit_record.proofs.SquashesLemmas.Groupings.{squash_as_one}
 use Rattle.edit_record.specs.declared.fault.DecodeStop.{DecodeStop}
 use Rattle.edit_record.specs.declared.fault.DecodeStop.TheVariants as stops
+use Rattle.edit_record.specs.declared.squashes.squash_lists.Unmet.{Unmet}
+use Rattle.edit_record.specs.declared.squashes.squash_lists.Unmet.TheVariants as unmets
 use Rattle.edit_record.specs.Text.{OldRecord}
 use Rattle.edit_record.specs.declared.fault.FaultKind.TheVariants.{End, Steps}
 use Rattle.edit_record.specs.declared.fault.TextError.{TextError}
 use Rattle.edit_record.specs.Parsing.{expect, repeat_at}
 use Rattle.edit_record.specs.OldParsing.{step_at, steps_at, OldHead, old_head_at, old_record_at, SquashAt, StepsError, OldRecordError}
 use Rattle.edit_record.specs.Inner.Allocating.{is_ok_and, old_head_allocates, steps_allocate, old_record_allocates}
+use Rattle.edit_record.specs.Inner.Faults.{stop_of}
 use Rattle.edit_record.specs.Inner.ParseResults.{IsStop, IsStopFor, IsSquashOrStop, OldRecordAt, HasError}
 use Rattle.edit_record.proofs.Choices.{ok_is, err_ok, through, through_one, continues_with}
 
 pub squash_unique : (a b c d : EditList) → IsSquash a b c → IsSquash a b d → c ≡ d
 squash_unique a b c d h k = (squash_as_one a (b ∷ [])).one c d (c, h, refl) (d, k, refl)
+
+-- Why two lists are not squashed is why reading stops.
+pub stop_is : (a b : EditList) (left : ℕ) (unmet : Unmet) (stop : DecodeStop) → stop ≡ stop_of unmet left → IsSquashResult a b (Err unmet) → IsSquashOrStop a b (Err stop)
+stop_is a b left unmets.LengthsDiffer stop is none = subst (λ (s : DecodeStop). IsSquashOrStop a b (Err s)) (sym is) (λ c both. none both.lengths_match)
+stop_is a b left (unmets.Contradicts edit) stop is none = subst (λ (s : DecodeStop). IsSquashOrStop a b (Err s)) (sym is) (λ c both. none.1.none both.composable)
+stop_is a b left unmets.Memory stop is may = subst (λ (s : DecodeStop). IsSquashOrStop a b (Err s)) (sym is) may
+
+pub stop_error : (left : ℕ) (unmet : Unmet) (stop : DecodeStop) → stop ≡ stop_of unmet left → HasError stop (λ e. e ≡ record { kind = Steps; left = left })
+stop_error left unmets.LengthsDiffer stop is = subst (λ (s : DecodeStop). HasError s (λ e. e ≡ record { kind = Steps; left = left })) (sym is) refl
+stop_error left (unmets.Contradicts edit) stop is = subst (λ (s : DecodeStop). HasError s (λ e. e ≡ record { kind = Steps; left = left })) (sym is) refl
+stop_error left unmets.Memory stop is = subst (λ (s : DecodeStop). HasError s (λ e. e ≡ record { kind = Steps; left = left })) (sym is) tt
 
 -- What squashes from here on is what squashed from the start on.
 abbrev pub Alike : EditList → ℕ → List ℕ → EditList → ℕ → List ℕ → Type 0
@@ -134,7 +148,7 @@ others_allocate : (t t1 : List ℕ) (head : OldHead) (b : Bool) → old_head_at 
 others_allocate t t1 head true head_is taken = refl
 others_allocate t t1 head false head_is taken = rw head_is taken
 
--- an old record, by its front, its other steps, and its end
+-- an old record, by its head, its other steps, and its end
 none_old : (t : List ℕ) (bad : TextError) → old_record_at t ≡ Err bad → (r : JournalEntry) (rest : List ℕ) → OldRecordAt t r rest → ⊥
 none_old t bad none r rest h = err_ok bad _ (sym none ∙ h.1)
 

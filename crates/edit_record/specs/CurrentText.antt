@@ -2,6 +2,7 @@
 -- The format is this project's own, and is defined here.
 use Rattle.std.specs.Prelude.{◌≡◌, ℕ, ◌≤◌, List, [], ◌∷◌, ◌++◌, length, codes, decimal}
 use Rattle.std.specs.List.{flat_map, AllByRecursion}
+use Rattle.edit_record.specs.declared.readers.TheConstants.{MAX_NUMBER}
 use Rattle.edit_record.specs.declared.lists.record.Word.{Word}
 use Rattle.edit_record.specs.declared.lists.record.Word.TheVariants.{Fmt, Fix}
 use Rattle.edit_record.specs.Lists.Pieces.{EditEntry, EditList}
@@ -20,7 +21,7 @@ newline = 10
 
 -- the greatest number that is read: no list has more edits than twice the most bytes of a text
 abbrev pub max_number : ℕ
-max_number = 33554432
+max_number = MAX_NUMBER
 
 -- a number in decimal, without leading zeros, and the byte that ends it
 abbrev pub number_text : ℕ → ℕ → List ℕ

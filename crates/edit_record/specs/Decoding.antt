@@ -2,6 +2,7 @@
 use Rattle.std.specs.Prelude.{◌≡◌, ℕ, zero, suc, ◌-◌, ◌<◌, ◌≤◌, ◌⊎◌, List, ◌++◌, length, drop, Bool, true, false, codes, Result, Ok, Err}
 use Rattle.edit_record.specs.declared.lists.edits.TheConstants.{MAX_TEXT}
 use Rattle.edit_record.specs.declared.lists.record.Word.{Word}
+use Rattle.edit_record.specs.declared.version_1.TheConstants.{MAX_STEPS}
 use Rattle.edit_record.specs.Lists.Pieces.{EditEntry}
 use Rattle.edit_record.specs.Lists.Journal.{JournalEntry}
 use Rattle.edit_record.specs.Text.{max_number, NumbersFit, list_head, record_head, old_record_head, edit_text, IsCurrentText, IsOldText, IsJournalText}
@@ -50,7 +51,7 @@ pub record OldReachesFirstEdit (text : List ℕ) : Type 0 where
   pub word : Word
   pub steps : ℕ
   pub has_steps : 0 < steps
-  pub steps_within_limit : steps ≤ 64
+  pub steps_within_limit : steps ≤ MAX_STEPS
   pub list : List ℕ
   pub is : text ≡ old_record_head word steps ++ (codes "step " ++ list)
   pub reaches : ReachesEdit (mark_after steps) list

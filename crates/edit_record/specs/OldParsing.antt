@@ -4,6 +4,7 @@ use Rattle.std.specs.Prelude.{◌≡◌, ◌⊎◌, ℕ, zero, suc, ◌-◌, Lis
 use Rattle.edit_record.specs.declared.lists.record.Word.{Word}
 use Rattle.edit_record.specs.declared.fault.FaultKind.TheVariants.{Head, End, Steps}
 use Rattle.edit_record.specs.declared.fault.TextError.{TextError}
+use Rattle.edit_record.specs.declared.version_1.TheConstants.{MAX_STEPS}
 use Rattle.edit_record.specs.Lists.Pieces.{EditList}
 use Rattle.edit_record.specs.Squashes.Squash.{IsSquash}
 use Rattle.edit_record.specs.Squashes.SquashLists.{SquashAll}
@@ -28,7 +29,7 @@ unfoldable pub old_head_at : List ℕ → Result (OldHead × List ℕ) TextError
 old_head_at t = do
   a ← expect (codes "tfrec 1 ") Head t
   word ← word_at a
-  count ← number_at 1 64 newline word.1
+  count ← number_at 1 MAX_STEPS newline word.1
   first ← step_at count.1
   Ok (record { word = word.0; first = first.0; others = count.0 - 1 }, first.1)
 

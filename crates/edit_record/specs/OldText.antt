@@ -3,6 +3,7 @@
 use Rattle.std.specs.Prelude.{◌≡◌, ℕ, ◌≤◌, List, [], ◌∷◌, ◌++◌, length, codes}
 use Rattle.std.specs.List.{flat_map, AllByRecursion}
 use Rattle.edit_record.specs.declared.lists.record.Word.{Word}
+use Rattle.edit_record.specs.declared.version_1.TheConstants.{MAX_STEPS}
 use Rattle.edit_record.specs.Lists.Pieces.{EditList, Transforms}
 use Rattle.edit_record.specs.Lists.Validity.{IsValidList}
 use Rattle.edit_record.specs.Lists.Sequence.{TransformsInOrder}
@@ -36,11 +37,11 @@ abbrev pub old_record_text : OldRecord → List ℕ
 old_record_text r =
     old_record_head r.word (length (steps r)) ++ flat_map step_text (steps r) ++ codes "end\n"
 
--- A record of version 1 becomes one of today: it has 64 steps at most, and squashed from the first
--- on they are the one list of edits of that record, which has the same command.
+-- A record of version 1 becomes one of today: it has `MAX_STEPS` steps at most, and squashed from
+-- the first on they are the one list of edits of that record, which has the same command.
 pub record MigratesTo (old : OldRecord) (r : JournalEntry) : Type 0 where
   pub made : AllByRecursion IsValidList (steps old)
-  pub within_limit : length (steps old) ≤ 64
+  pub within_limit : length (steps old) ≤ MAX_STEPS
   pub word : old.word ≡ r.word
   pub squashed : SquashAll old.first old.others r.edits
 

@@ -1,6 +1,6 @@
 //! Reading a journal.
-ghost use Rattle.std.specs.Prelude.{◌≡◌, true, false, IfErr};
-ghost use Rattle.edit_record.specs.Decoding.{RecordError, IsDecodeResult, IsVersion};
+ghost use Rattle.std.specs.Prelude.{IfErr};
+ghost use Rattle.edit_record.specs.Decoding.{RecordError, IsDecodeResult};
 ghost use Rattle.edit_record.specs.Inner.ParseResults.{IsRead, ParsesAs, HasError, RecordAt, IsReadResult};
 ghost use Rattle.edit_record.specs.Inner.Allocating.{record_allocates, allocates};
 ghost use Rattle.edit_record.specs.Parsing.{record_at};
@@ -9,7 +9,7 @@ use crate::RecordFault;
 use crate::fault::{DecodeStop, FaultKind};
 use crate::lists::{Journal, Record};
 use crate::readers::{expect, list_of_edits, word};
-use crate::version_1::old_record;
+use crate::version_1::{is_version_1, old_record};
 use std::alloc::Global;
 
 /// Reads a record of version 2.
@@ -41,7 +41,7 @@ fn record_of_version(alloc: Global, old: bool, text: &[u8]) -> Result<(Record, &
 fn records(alloc: Global, text: &[u8]) -> Result<Journal, DecodeStop>
     ensures { IsReadResult text.now result }
 {
-    let old = text.starts_with(b"tfrec 1");
+    let old = is_version_1(text);
     let mut journal = Journal::empty(alloc);
     let mut rest = text;
     while !rest.is_empty() {
@@ -58,9 +58,9 @@ fn records(alloc: Global, text: &[u8]) -> Result<Journal, DecodeStop>
 /// which a record has steps; these are squashed into one list of edits. The first record decides
 /// the version. Each journal has one text in version 2.
 ///
-/// It is one pass over the text. Nothing is allocated before the first edit is read. By a number
-/// that the text has memory is reserved for 1,024 edits at most, and for no more than can be in the
-/// bytes that are left.
+/// It is one pass over the text. Nothing is allocated before the first edit is read. At the first
+/// edit of a list memory is reserved for as many as its head says, but for 1,024 at most, and for
+/// no more than the rest of the text can have.
 ///
 /// # Errors
 ///
@@ -74,16 +74,9 @@ pub fn decode(alloc: Global, text: &[u8]) -> Result<Journal, RecordFault>
     }
 }
 
-/// Returns whether a text that was read is of version 2.
-fn is_version_2(text: &[u8]) -> bool
-    ensures { result ≡ true → IsVersion false text.now }
-{
-    !text.starts_with(b"tfrec 1")
-}
-
-/// Returns the journal whose text this is, as [`decode`] does, and keeps the text: where the
-/// records that it has are written again it is copied. A text of version 1 is not kept, nor one
-/// whose memory is more than four times its length.
+/// Returns the journal whose text this is, as [`decode`] does, and keeps the text, so that it can
+/// be copied where its records are written again. A text of version 1 is not kept, nor one whose
+/// memory is more than four times its length.
 ///
 /// # Errors
 ///
@@ -92,7 +85,7 @@ pub fn decode_owned(alloc: Global, text: Vec<u8>) -> Result<Journal, RecordFault
     ensures { IsDecodeResult text.items result }
 {
     let mut journal = decode(alloc, text.as_slice())?;
-    if is_version_2(&text) {
+    if !is_version_1(&text) {
         journal.keep_text(text);
     }
     Ok(journal)

@@ -5,6 +5,15 @@ ghost use Rattle.edit_record.specs.Text.{number_text};
 
 use itoa::Buffer;
 
+/// The least number of eight digits.
+pub(crate) const EIGHT_DIGITS: usize = 10_000_000;
+
+/// The most digits of a number that is written at once.
+pub(crate) const MOST_DIGITS: usize = 8;
+
+/// The least number of nine digits, which are more.
+pub(crate) const NINE_DIGITS: usize = 100_000_000;
+
 /// Returns the number of decimal digits.
 #[inline(always)]
 pub(crate) fn digit_count(number: usize) -> usize
@@ -13,7 +22,7 @@ pub(crate) fn digit_count(number: usize) -> usize
 {
     if number < 10_000 {
         few_digits(number)
-    } else if number < 100_000_000 {
+    } else if number < NINE_DIGITS {
         few_digits(number / 10_000) + 4
     } else {
         Buffer::new().format(number).len()
@@ -122,10 +131,10 @@ fn push_few(out: &mut Vec<u8>, number: usize)
 /// Pushes a number with eight digits at most.
 #[inline(always)]
 pub(crate) fn push_number(out: &mut Vec<u8>, number: usize)
-    requires small { number < 100000000 }
-    requires spare { vec_len out.old + 8 ≤ vec_capacity out.old }
+    requires small { number < NINE_DIGITS }
+    requires spare { vec_len out.old + MOST_DIGITS ≤ vec_capacity out.old }
     ensures text { out.new.items ≡ out.old.items ++ decimal number }
-    ensures len { vec_len out.new ≤ vec_len out.old + 8 }
+    ensures len { vec_len out.new ≤ vec_len out.old + MOST_DIGITS }
     ensures capacity { vec_capacity out.new ≡ vec_capacity out.old }
 {
     if number < 10_000 {
@@ -141,10 +150,10 @@ pub(crate) fn push_number(out: &mut Vec<u8>, number: usize)
 /// Pushes a number with eight digits at most, and the byte that ends it.
 #[inline(always)]
 pub(crate) fn push_number_text(out: &mut Vec<u8>, number: usize, stop: u8)
-    requires small { number < 100000000 }
-    requires spare { vec_len out.old + 9 ≤ vec_capacity out.old }
+    requires small { number < NINE_DIGITS }
+    requires spare { vec_len out.old + MOST_DIGITS < vec_capacity out.old }
     ensures text { out.new.items ≡ out.old.items ++ number_text stop number }
-    ensures len { vec_len out.new ≤ vec_len out.old + 9 }
+    ensures len { vec_len out.new ≤ vec_len out.old + MOST_DIGITS + 1 }
     ensures capacity { vec_capacity out.new ≡ vec_capacity out.old }
 {
     push_number(out, number);

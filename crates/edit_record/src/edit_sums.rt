@@ -1,9 +1,10 @@
-//! What edits come to that are read one after another, so that no second pass tests them; for speed
-//! alone.
+//! Sums over the edits of a list, added while they are read, so that no second pass has to test
+//! whether they are valid; for speed alone.
 ghost use Rattle.std.specs.Prelude.{◌≡◌, ◌+◌, ◌<◌, ◌≤◌, [], ◌∷◌, ◌++◌, List, length, take, drop, IfSome};
 ghost use Rattle.edit_record.specs.Lists.Pieces.{EditEntry};
 ghost use Rattle.edit_record.specs.Lists.Validity.{AreValidEdits};
 ghost use Rattle.edit_record.specs.Inner.EditSums.{AreSummedUp, Follows};
+ghost use Rattle.edit_record.specs.declared.digits.TheConstants.{EIGHT_DIGITS};
 ghost use Rattle.edit_record.specs.declared.lists.edit.TheConstants.{INLINE_CAPACITY};
 
 use crate::lists::{Edit, INLINE_CAPACITY, MAX_TEXT};
@@ -18,7 +19,7 @@ pub(crate) struct EditSums {
 }
 
 impl EditSums {
-    /// The sums of no edits.
+    /// Returns the sums of no edits.
     pub(crate) fn none() -> EditSums
         ensures fewer { result.removed ≤ result.end }
         ensures summed { AreSummedUp [] result }
@@ -30,7 +31,7 @@ impl EditSums {
         }
     }
 
-    /// Returns the sums with those of a further edit.
+    /// Returns the sums after one more edit, of any kind.
     #[inline(always)]
     fn with(self, at: usize, removes: usize, adds: usize) -> EditSums
         ensures fewer { self.removed ≤ self.end → result.removed ≤ result.end }
@@ -54,8 +55,9 @@ impl EditSums {
         }
     }
 
-    /// Returns the sums with those of an edit that follows, whose removed bytes and then its added
-    /// ones begin the array. Only how many they are is looked at.
+    /// Returns the sums after one more edit, which is not empty and begins where the last one ends
+    /// or later. Its removed bytes and then its added ones begin the array. For the proof: the
+    /// array is named in clauses alone.
     #[inline(always)]
     pub(crate) fn with_next(
         self,
@@ -65,7 +67,7 @@ impl EditSums {
         texts: &[u8; INLINE_CAPACITY],
     ) -> EditSums
         requires fewer { self.removed ≤ self.end }
-        requires near { at < 10000000 }
+        requires near { at < EIGHT_DIGITS }
         requires few { removed + added ≤ INLINE_CAPACITY }
         requires follows { Follows self at removed added }
         ensures fewer { result.removed ≤ result.end }
@@ -84,7 +86,7 @@ impl EditSums {
         }
     }
 
-    /// Returns the sums with those of the last of these edits.
+    /// Returns the sums after one more edit, which is the last of these.
     #[inline(always)]
     pub(crate) fn with_last(self, edits: &[Edit]) -> EditSums
         ensures fewer { self.removed ≤ self.end → result.removed ≤ result.end }
@@ -98,8 +100,8 @@ impl EditSums {
         }
     }
 
-    /// Returns the length of the texts that the edits make of texts of this length, unless they are
-    /// not valid.
+    /// Returns the length of the texts that the edits make of texts of this length, if the sums
+    /// show that they are valid.
     #[inline(always)]
     pub(crate) fn new_len(self, old_len: usize) -> Option<usize>
         ensures { (es : List EditEntry) → AreSummedUp es self

@@ -7,14 +7,15 @@ ghost use Rattle.edit_record.specs.Inner.PartText.{part_text};
 ghost use Rattle.edit_record.specs.Lists.Journal.{JournalEntry};
 ghost use Rattle.edit_record.specs.Lists.Validity.{IsValidList};
 
-use crate::digits::digit_count;
+use crate::columns::MOST_BYTES;
+use crate::digits::{NINE_DIGITS, digit_count};
 use crate::lists::{Edit, Journal, Record, Word};
-use crate::short_texts::{FAR, MOST_BYTES, push_edit, push_edit_head, push_list_head, short_len};
+use crate::short_texts::{push_edit, push_list_head, short_len, write_long_edit};
 use itoa::Buffer;
 use std::alloc::{AllocError, Global};
 
-/// A part of a record's text. What does not fit into memory that is reserved is written part by
-/// part.
+/// A part of a record's text. Lengths are added up part by part, and so is written what does not
+/// fit into memory that is reserved.
 #[derive(Clone, Copy)]
 enum RecordPart<'a> {
     Bytes(&'a [u8]),
@@ -32,7 +33,7 @@ fn mark_bytes(word: Word) -> &'static [u8; 12]
     }
 }
 
-/// Returns the parts of an edit.
+/// Returns the parts of an edit: its columns in order. Short edits have fast forms (columns.rt).
 fn edit_parts(edit: &Edit) -> [RecordPart<'_>; 6]
     ensures { flat_map part_text result ≡ edit_text edit.now }
 {
@@ -48,22 +49,54 @@ fn edit_parts(edit: &Edit) -> [RecordPart<'_>; 6]
     ]
 }
 
+/// Returns the parts of the head of a list of edits: its columns in order.
+fn list_parts(old_len: usize, count: usize) -> [RecordPart<'static>; 2]
+    ensures { flat_map part_text result ≡ list_head old_len count }
+{
+    [
+        RecordPart::Number(old_len, b' '),
+        RecordPart::Number(count, b'\n'),
+    ]
+}
+
 /// The last part of a record.
 const END: &[u8] = b"end\n";
 
-/// Returns the length of the head of a record and of its list of edits.
-fn heads_len(rec: &Record) -> usize
-    ensures is { result
-        ≡ length (record_head rec.now.word
-        ++ list_head rec.now.edits.old_len (length rec.now.edits.entries)) }
-    ensures short { result ≤ 100 }
+/// Returns the length of the text of a part.
+fn part_len(part: RecordPart) -> usize
+    ensures { result ≡ length (part_text part.entry) }
 {
-    let list = rec.edits();
-    let digits = digit_count(list.old_len()) + digit_count(list.edits().len());
-    mark_bytes(rec.word()).len() + digits + 2
+    match part {
+        RecordPart::Bytes(bytes) => bytes.len(),
+        RecordPart::Number(number, _) => digit_count(number) + 1,
+    }
 }
 
-/// Returns the length of the text of an edit.
+/// Returns the length of the text of some parts, or the greatest `usize` if it is longer.
+fn parts_len(parts: &[RecordPart]) -> usize
+    ensures { result ≡ min (length (flat_map part_text parts.now)) (2 ^ 64 - 1) }
+{
+    let mut len = 0usize;
+    for part in parts {
+        len = len.saturating_add(part_len(*part));
+    }
+    len
+}
+
+/// Returns the length of the head of a record and of its list of edits.
+fn heads_len(rec: &Record) -> usize
+    ensures { result
+        ≡ min (length (record_head rec.now.word
+        ++ list_head rec.now.edits.old_len (length rec.now.edits.entries))) (2 ^ 64 - 1) }
+{
+    let list = rec.edits();
+    let parts = list_parts(list.old_len(), list.edits().len());
+    mark_bytes(rec.word())
+        .len()
+        .saturating_add(parts_len(&parts))
+}
+
+/// Returns the length of the text of an edit, or the greatest `usize` if it is longer.
 #[inline(always)]
 fn edit_len(edit: &Edit) -> usize
     ensures { result ≡ min (length (edit_text edit.now)) (2 ^ 64 - 1) }
@@ -71,17 +104,14 @@ fn edit_len(edit: &Edit) -> usize
     if let Some((removed, added, texts)) = edit.inline_texts() {
         return short_len(edit.at(), removed, added, texts);
     }
-    let removed = edit.removed().len();
-    let added = edit.added().len();
-    let digits = digit_count(edit.at()) + digit_count(removed) + digit_count(added);
-    (digits + 4).saturating_add(removed).saturating_add(added)
+    parts_len(&edit_parts(edit))
 }
 
-/// Returns the length of the text of a record.
+/// Returns the length of the text of a record, or the greatest `usize` if it is longer.
 fn record_len(rec: &Record) -> usize
     ensures { result ≡ min (length (record_text rec.now)) (2 ^ 64 - 1) }
 {
-    let mut len = heads_len(rec) + END.len();
+    let mut len = heads_len(rec).saturating_add(END.len());
     for edit in rec.edits().edits() {
         len = len.saturating_add(edit_len(edit));
     }
@@ -108,6 +138,7 @@ pub fn encoded_len(journal: &Journal) -> usize
     text.len().saturating_add(records_len(others))
 }
 
+/// Writes parts in order.
 fn write_parts(out: &mut Vec<u8>, parts: &[RecordPart]) -> Result<(), AllocError>
     ensures { OnOk result (out.new.items ≡ out.old.items ++ flat_map part_text parts.now) }
 {
@@ -117,6 +148,7 @@ fn write_parts(out: &mut Vec<u8>, parts: &[RecordPart]) -> Result<(), AllocError
     Ok(())
 }
 
+/// Writes one part.
 fn write_part(out: &mut Vec<u8>, part: RecordPart) -> Result<(), AllocError>
     ensures { OnOk result (out.new.items ≡ out.old.items ++ part_text part.entry) }
 {
@@ -137,7 +169,7 @@ fn write_edit(out: &mut Vec<u8>, edit: &Edit) -> Result<(), AllocError>
 {
     let at = edit.at();
     let spare = out.capacity() - out.len();
-    if spare >= MOST_BYTES && at < FAR {
+    if spare >= MOST_BYTES && at < NINE_DIGITS {
         if let Some((removed, added, texts)) = edit.inline_texts() {
             push_edit(out, at, removed, added, texts);
             return Ok(());
@@ -156,14 +188,14 @@ fn write_any_edit(out: &mut Vec<u8>, edit: &Edit) -> Result<(), AllocError>
     let removed = edit.removed();
     let added = edit.added();
     let spare = out.capacity() - out.len();
-    if spare < MOST_BYTES || at >= FAR || removed.len() >= FAR || added.len() >= FAR {
+    if spare < MOST_BYTES
+        || at >= NINE_DIGITS
+        || removed.len() >= NINE_DIGITS
+        || added.len() >= NINE_DIGITS
+    {
         return write_parts(out, &edit_parts(edit));
     }
-    push_edit_head(out, at, removed.len(), added.len());
-    out.extend_from_slice(removed)?;
-    out.extend_from_slice(added)?;
-    out.push(b'\n')?;
-    Ok(())
+    write_long_edit(out, at, removed, added)
 }
 
 /// Writes the head of a record and of its list of edits: at once if memory for it is reserved, else
@@ -179,12 +211,8 @@ fn write_heads(out: &mut Vec<u8>, rec: &Record) -> Result<(), AllocError>
     let count = list.edits().len();
     out.extend_from_slice(mark_bytes(rec.word()))?;
     let spare = out.capacity() - out.len();
-    if spare < MOST_BYTES || old_len >= FAR || count >= FAR {
-        let numbers = [
-            RecordPart::Number(old_len, b' '),
-            RecordPart::Number(count, b'\n'),
-        ];
-        return write_parts(out, &numbers);
+    if spare < MOST_BYTES || old_len >= NINE_DIGITS || count >= NINE_DIGITS {
+        return write_parts(out, &list_parts(old_len, count));
     }
     push_list_head(out, old_len, count);
     Ok(())

@@ -7,6 +7,7 @@
 //! records are numbered from 0.
 #![tactic(auto)]
 
+mod columns;
 mod decoder;
 mod digits;
 mod edit_sums;
@@ -26,7 +27,8 @@ pub use decoder::{decode, decode_owned};
 pub use encoder::{encode, encode_owned, encode_with_len, encoded_len};
 pub use fault::RecordFault;
 pub use lists::{
-    BadEdits, Change, Edit, Edits, Journal, Record, Refused, Word, apply_all, undo_all,
+    BadEdits, Change, Direction, Edit, Edits, Journal, MAX_TEXT, Record, Refused, Word, apply_all,
+    undo_all,
 };
 pub use squashes::{Unmet, squash};
 pub use swaps::{MoveFault, SwapFault, move_to_end, swap};

@@ -1,15 +1,14 @@
 //! Memory for the edits of a list that is read, reserved at once, for speed alone.
 ghost use Rattle.std.specs.Prelude.{◌≡◌, ◌<◌, ◌≤◌, ◌+◌, ◌/◌, ◌++◌, ◌∷◌, [], true, OnOk, is_ok, vec_len, vec_capacity};
 ghost use Rattle.edit_record.specs.Inner.ListCapacity.{HasFewSpare};
-ghost use Rattle.edit_record.specs.declared.list_capacity.TheConstants.{LEAST_BYTES, MOST_RESERVED};
+ghost use Rattle.edit_record.specs.declared.columns.TheConstants.{LEAST_BYTES};
+ghost use Rattle.edit_record.specs.declared.list_capacity.TheConstants.{MOST_RESERVED};
 
+use crate::columns::LEAST_BYTES;
 use crate::lists::Edit;
 use std::alloc::AllocError;
 
-/// No edit of a list has a shorter text: three digits, three ends, a byte, and a line end.
-const LEAST_BYTES: usize = 8;
-
-/// The most edits for which memory is reserved by the number that a head has.
+/// The most edits for which memory is reserved since the head of a list says that they follow.
 const MOST_RESERVED: usize = 1024;
 
 /// Pushes an edit, for which memory is reserved.

@@ -18,6 +18,7 @@ mod sequence;
 mod two_lists;
 
 pub use change::{Change, Refused};
+pub use direction::Direction;
 pub(crate) use edit::INLINE_CAPACITY;
 pub use edit::{BadEdits, Edit};
 pub use edits::{Edits, MAX_TEXT};

@@ -14,7 +14,7 @@ ghost use Rattle.edit_record.specs.declared.fault.FaultKind.{FaultKind};
 use crate::edit_sums::EditSums;
 use crate::fault::{DecodeStop, FaultKind, TextError};
 use crate::list_capacity::{push_edit, reserve_next};
-use crate::lists::{Edit, Edits, Word};
+use crate::lists::{Edit, Edits, MAX_TEXT, Word};
 use crate::short_edits::{
     next_edit, plain_head, plain_lengths, plain_list_head, short_edit, short_place,
 };
@@ -22,7 +22,7 @@ use std::alloc::Global;
 
 /// The greatest number that is read: twice the most bytes of a text, since the edits of a list are
 /// no more than the bytes that they remove and add.
-pub(crate) const MAX_NUMBER: usize = 33_554_432;
+pub(crate) const MAX_NUMBER: usize = 2 * MAX_TEXT;
 
 /// The text ends too early.
 const CUT_SHORT: TextError = TextError {
@@ -149,8 +149,8 @@ fn after_head(
     Ok((Edit::new(alloc, at, removed, added)?, rest))
 }
 
-/// Reads an edit, part by part. It allocates as `after_head` does. It is called if the
-/// head has an error.
+/// Reads an edit, part by part. It allocates as `after_head` does. It is called where the head has
+/// an error, which it returns.
 #[inline(never)]
 #[tactic(auto, unfolding(crate::specs::Parsing::edit_at, crate::specs::Inner::EditLengths::after_head_at))]
 fn any_edit(alloc: Global, text: &[u8]) -> Result<(Edit, &[u8]), DecodeStop>
@@ -190,7 +190,8 @@ fn push_any<'t>(
     Ok(after)
 }
 
-/// Reads an edit of which the place is read, as `push_any` does: `text` follows it in `whole`.
+/// Reads an edit whose place is read already, and pushes it, as `push_any` does. `whole` begins
+/// with the edit, `text` is what follows its place.
 #[inline(never)]
 #[tactic(auto, using(crate::proofs::ShortEdits::head_read))]
 fn push_placed<'t>(
@@ -220,8 +221,8 @@ fn push_placed<'t>(
     Ok(after)
 }
 
-/// Reserves memory for an edit that is read, if the list has none left. `text`, which begins with
-/// the edit, serves the clauses alone.
+/// Reserves memory for an edit that is read, if the list has none left. For the proof: `text`,
+/// which begins with the edit, is named in clauses alone.
 #[inline(always)]
 fn reserve_read(
     edits: &mut Vec<Edit>,

@@ -1,13 +1,22 @@
-//! Reading numbers and short edits in one straight pass, for speed alone. What is unusual (an
-//! error, a long edit, the end of the text near) is left to the readers of each part.
+//! Reading heads and short edits in one straight pass, for speed alone. `None` says nothing of the
+//! text: what is unusual (an error, a long edit, the end of the text near) is left to readers.rt.
+//!
+//! Of the columns there `plain_list_head` repeats both numbers of a list's head, `plain_head` the
+//! three of an edit's, and `plain_lengths` the last two of these, each with any digits.
+//! `short_lengths` repeats these two where each has one digit, `short_texts` and `short_edit` what
+//! follows the head of an edit that stores its bytes inline, `short_place` the place of an edit
+//! where it has seven digits at most, and `quick_edit` and `next_edit` all that follows the place
+//! where both lengths have one digit.
 ghost use Rattle.std.specs.Prelude.{◌≡◌, ◌+◌, ◌<◌, ◌≤◌, ◌∷◌, false, ℕ, List, length, take, drop, IfSome};
 ghost use Rattle.edit_record.specs.Text.{max_number, space};
 ghost use Rattle.edit_record.specs.Parsing.{is_digit, number_at, list_head_at, edit_at};
 ghost use Rattle.edit_record.specs.Inner.EditLengths.{lengths_at, after_head_at};
 ghost use Rattle.edit_record.specs.Inner.EditSums.{Follows};
+ghost use Rattle.edit_record.specs.declared.columns.TheConstants.{QUICK_BYTES, QUICK_DIGITS, QUICK_LENGTHS, QUICK_REST};
+ghost use Rattle.edit_record.specs.declared.digits.TheConstants.{EIGHT_DIGITS};
 ghost use Rattle.edit_record.specs.declared.lists.edit.TheConstants.{INLINE_CAPACITY};
-ghost use Rattle.edit_record.specs.declared.short_edits.TheConstants.{QUICK_BYTES};
 
+use crate::columns::{QUICK_BYTES, QUICK_DIGITS, QUICK_REST};
 use crate::edit_sums::EditSums;
 use crate::lists::{Edit, INLINE_CAPACITY, MAX_TEXT};
 use crate::readers::MAX_NUMBER;
@@ -83,8 +92,8 @@ pub(crate) fn plain_list_head(text: &[u8]) -> Option<((usize, usize), &[u8])>
 #[inline(always)]
 fn short_lengths(text: &[u8]) -> Option<((usize, usize), &[u8])>
     ensures lengths { IfSome result (λ x. lengths_at text.now ≡ Ok (x.0, x.1.now)) }
-    ensures rest { IfSome result (λ x. x.1.now ≡ drop 4 text.now) }
-    ensures left { IfSome result (λ x. length x.1.now + 4 ≡ length text.now) }
+    ensures rest { IfSome result (λ x. x.1.now ≡ drop QUICK_LENGTHS text.now) }
+    ensures left { IfSome result (λ x. length x.1.now + QUICK_LENGTHS ≡ length text.now) }
 {
     let [removed, space, added, end, rest @ ..] = text else {
         return None;
@@ -132,8 +141,8 @@ pub(crate) fn plain_head(text: &[u8]) -> Option<((usize, usize, usize), &[u8])>
     Some(((at, removed, added), rest))
 }
 
-/// Reads what follows the head of an edit that stores its bytes inline: an array that begins with
-/// these bytes.
+/// Reads what follows the head of an edit that stores its bytes inline. Returns an array that
+/// begins with these bytes, and the rest of the text.
 #[inline(always)]
 fn short_texts(removed: usize, added: usize, text: &[u8]) -> Option<(&[u8; INLINE_CAPACITY], &[u8])>
     ensures few { IfSome result (λ _. removed + added ≤ INLINE_CAPACITY) }
@@ -178,20 +187,15 @@ pub(crate) fn short_edit(
     Some((Edit::from_adjacent(at, removed, added, *texts), after))
 }
 
-/// No edit that is read at once has a longer text: seven digits, two times one, four ends, and its
-/// bytes.
-const QUICK_BYTES: usize = 26;
-
 /// Reads a place of at most seven digits, the first of which is not 0, and the space that follows
-/// it, unless fewer bytes are left than the longest short edit takes (`QUICK_BYTES`). Returns the
-/// place, and where the text goes on.
+/// it, if `QUICK_BYTES` or more are left. Returns the place, and how many bytes were read.
 #[inline(always)]
 #[tactic(auto, unfolding(crate::specs::Parsing::number_at))]
 pub(crate) fn short_place(text: &[u8]) -> Option<(usize, usize)>
     ensures read { IfSome result
         (λ x. number_at 0 max_number space text.now ≡ Ok (x.0, drop x.1 text.now)) }
-    ensures near { IfSome result (λ x. x.0 < 10000000) }
-    ensures within { IfSome result (λ x. x.1 ≤ 8) }
+    ensures near { IfSome result (λ x. x.0 < EIGHT_DIGITS) }
+    ensures within { IfSome result (λ x. x.1 ≤ QUICK_DIGITS + 1) }
     ensures left { IfSome result (λ _. QUICK_BYTES ≤ length text.now) }
 {
     if text.len() < QUICK_BYTES {
@@ -202,7 +206,7 @@ pub(crate) fn short_place(text: &[u8]) -> Option<(usize, usize)>
         return None;
     }
     let mut value = (first - b'0') as usize;
-    for i in 1..7 {
+    for i in 1..QUICK_DIGITS {
         let digit = text[i];
         if !digit.is_ascii_digit() {
             return if digit == b' ' {
@@ -213,15 +217,16 @@ pub(crate) fn short_place(text: &[u8]) -> Option<(usize, usize)>
         }
         value = value * 10 + (digit - b'0') as usize;
     }
-    if text[7] != b' ' {
+    if text[QUICK_DIGITS] != b' ' {
         return None;
     }
-    Some((value, 8))
+    Some((value, QUICK_DIGITS + 1))
 }
 
-/// Reads a short edit, of which the place is read, with lengths of one digit each, as nearly every
-/// edit has: how many bytes it removes, how many it adds, and an array that begins with these. The
-/// edit is made of them where it is stored, so that it isn't moved.
+/// Reads what follows the place of a short edit, whose lengths have one digit each, as those of
+/// nearly every edit. Returns how many bytes it removes, how many it adds, an array that begins
+/// with these bytes, and the rest of the text. The edit is made of them where it is stored, so that
+/// it isn't moved.
 #[inline(always)]
 fn quick_edit(text: &[u8]) -> Option<(usize, usize, &[u8; INLINE_CAPACITY], &[u8])>
     ensures few { IfSome result (λ x. x.0 + x.1 ≤ INLINE_CAPACITY) }
@@ -236,8 +241,8 @@ fn quick_edit(text: &[u8]) -> Option<(usize, usize, &[u8; INLINE_CAPACITY], &[u8
           },
           x.3.now,
         )) }
-    ensures rest { IfSome result (λ x. x.3.now ≡ drop (x.0 + x.1 + 5) text.now) }
-    ensures within { IfSome result (λ x. x.0 + x.1 + 5 ≤ length text.now) }
+    ensures rest { IfSome result (λ x. x.3.now ≡ drop (x.0 + x.1 + QUICK_REST) text.now) }
+    ensures within { IfSome result (λ x. x.0 + x.1 + QUICK_REST ≤ length text.now) }
 {
     let Some(((removed, added), rest)) = short_lengths(text) else {
         return None;
@@ -248,8 +253,8 @@ fn quick_edit(text: &[u8]) -> Option<(usize, usize, &[u8; INLINE_CAPACITY], &[u8
     Some((removed, added, texts, after))
 }
 
-/// Reads a short edit at this place, after which the text goes on at `start`, as `quick_edit` does,
-/// if it follows the edits before it.
+/// Reads a short edit as `quick_edit` does, if it is not empty and begins after the edits with
+/// these sums: `at` is its place, and `start` where its lengths begin in the text.
 #[inline(always)]
 pub(crate) fn next_edit(
     sums: EditSums,
@@ -280,5 +285,5 @@ pub(crate) fn next_edit(
     if len == 0 || at < sums.end || sums.added > MAX_TEXT {
         return None;
     }
-    Some((removed, added, texts, &text[start + len + 5..]))
+    Some((removed, added, texts, &text[start + len + QUICK_REST..]))
 }

@@ -1,10 +1,13 @@
-//! Reading records of version 1, whose steps are squashed into one list of edits. No other module
-//! knows that version.
+//! Version 1 of the journal's text: whether a text is of it, and its records, whose steps are
+//! squashed into one list of edits. The decoder calls `is_version_1` and `old_record`; of that
+//! version other modules have only the name of its error, `BadSteps`.
 ghost use Rattle.std.specs.Prelude.{◌≡◌, IfErr};
 ghost use Rattle.edit_record.specs.declared.fault.FaultKind.TheVariants.{Steps};
+ghost use Rattle.edit_record.specs.Decoding.{IsVersion};
 ghost use Rattle.edit_record.specs.Inner.ParseResults.{IsRead, ParsesAs, HasError, IsSquashOrStop, OldRecordAt};
 ghost use Rattle.edit_record.specs.Inner.Allocating.{step_allocates, old_head_allocates, steps_allocate, old_record_allocates};
 ghost use Rattle.edit_record.specs.OldParsing.{step_at, old_head_at, SquashAt, StepsError, OldRecordError};
+ghost use Rattle.edit_record.specs.Inner.Faults.{stop_of};
 ghost use Rattle.edit_record.specs.Inner.OldHead.{head_view};
 
 use crate::fault::{DecodeStop, FaultKind, TextError};
@@ -15,6 +18,13 @@ use std::alloc::Global;
 
 /// The most steps of a record.
 const MAX_STEPS: usize = 64;
+
+/// Returns whether a text is of version 1, by the mark of its first record.
+pub(crate) fn is_version_1(text: &[u8]) -> bool
+    ensures { IsVersion result text.now }
+{
+    text.starts_with(b"tfrec 1")
+}
 
 /// Reads a step.
 #[tactic(auto, unfolding(crate::specs::OldParsing::step_at, crate::specs::Inner::Allocating::step_allocates))]
@@ -46,8 +56,24 @@ fn squash_steps(
     Ok((edits, rest))
 }
 
+/// Returns why a step is not squashed with those before it: an error that is not memory is `left`
+/// bytes before the end of the text.
+fn stop_of(unmet: Unmet, left: usize) -> DecodeStop
+    ensures { result ≡ stop_of unmet left }
+{
+    let bad = TextError {
+        kind: FaultKind::Steps,
+        left,
+    };
+    match unmet {
+        Unmet::LengthsDiffer => DecodeStop::Bad(bad),
+        Unmet::Contradicts { edit: _ } => DecodeStop::Bad(bad),
+        Unmet::Memory => DecodeStop::Memory,
+    }
+}
+
 /// Squashes two steps. If they cannot follow each other, the error is `left` bytes before the end
-/// of the text.
+/// of the text. It allocates only if their lengths match and one of them has an edit.
 fn squash_two(
     alloc: Global,
     first: &Edits,
@@ -58,14 +84,9 @@ fn squash_two(
     ensures error { IfErr result
         (λ stop. HasError stop (λ e. e ≡ record { kind = Steps; left = left })) }
 {
-    let bad = TextError {
-        kind: FaultKind::Steps,
-        left,
-    };
     match squash(alloc, first, second) {
         Ok(edits) => Ok(edits),
-        Err(Unmet::Memory) => Err(DecodeStop::Memory),
-        Err(_) => Err(DecodeStop::Bad(bad)),
+        Err(unmet) => Err(stop_of(unmet, left)),
     }
 }
 

@@ -1,4 +1,4 @@
--- What a parser that makes no nodes tells, by what one tells that makes them.
+-- The results of the parser without nodes, by those of the parser that makes nodes.
 use Rattle.std.proofs.Common.{◌≡◌, ◌≢◌, ℕ, ◌<◌, false, subst, List, Result, Ok, Err, IfErr, OnOk, refl, arith}
 use Rattle.hcl_grammar.specs.declared.fault.TokenFault.{TokenFault}
 use Rattle.hcl_grammar.specs.declared.tree.Tree.{Tree}
@@ -34,7 +34,7 @@ deep_is at (TooDeep x) o h e = tt
 deep_is at (Syntax x) o h e = absurd (cc)
 deep_is at Memory o h e = absurd (cc)
 
--- where a tree is derived, the fault is that more nests than may
+-- if a tree is derived, the only error is that it nests deeper than is allowed
 refused_deep : {d b : ℕ} {t : Tree} {n : ℕ} {o : Outcome Tree} (f : TokenFault) → Answers d b t n o → o ≡ Err f → (b < d) × IsDeep f
 refused_deep f found e = absurd (cc)
 refused_deep {o = o} f (deep {at} l) e = (l, deep_is at f o refl e)

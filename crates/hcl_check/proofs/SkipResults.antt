@@ -1,4 +1,4 @@
--- What passing over a member tells, by what a parser tells that makes nodes.
+-- The result of skipping a member, by that of the parser that makes nodes.
 use Rattle.std.proofs.Common.{◌≡◌, ◌≢◌, ℕ, Bool, true, false, List, Option, Some, None, Result, Ok, Err, IfErr, subst, refl}
 use Rattle.hcl_grammar.specs.declared.fault.TokenFault.{TokenFault}
 use Rattle.hcl_grammar.specs.declared.fault.TokenFault.TheVariants.{Memory}

@@ -13,19 +13,19 @@ use hcl_scan::Scanned;
 use hcl_token::Kind;
 
 /// The number of a token and its kind, as `Reader::next_token` returns them.
-pub type Next = (usize, Option<Kind>);
+pub type Next = (u32, Option<Kind>);
 
 /// Returns the next token outside of brackets. Most often it is the token at this place.
 #[inline(always)]
 #[tactic(auto, using(hcl_expr::proofs::Places::places), unfolding(hcl_grammar::specs::Tokens::next_kind, hcl_grammar::specs::Tokens::next_token, hcl_grammar::specs::Tokens::same_kind))]
-pub fn next_outside(scanned: &Scanned<'_>, reader: &Reader<'_, '_>, at: usize) -> Next
+pub fn next_outside(scanned: &Scanned<'_>, reader: &Reader<'_, '_>, at: u32) -> Next
     requires { reader.now.tokens ≡ tokens_of scanned.now.pairs }
     ensures number { result.0 ≡ tokens.next_index (outside_brackets reader.now) at }
     ensures kind { result.1 ≡ tokens.next_kind (outside_brackets reader.now) at }
-    ensures fits { OnSome result.1 (result.0 + 1 < 2 ^ 64) }
+    ensures fits { OnSome result.1 (result.0 + 1 < 2 ^ 32) }
 {
-    if at < scanned.len() {
-        let kind = scanned.kind(at);
+    if at < scanned.count() {
+        let kind = scanned.kind(at as usize);
         if !same_kind(kind, Kind::InlineComment) {
             return (at, Some(kind));
         }
@@ -35,10 +35,10 @@ pub fn next_outside(scanned: &Scanned<'_>, reader: &Reader<'_, '_>, at: usize) -
 
 /// Returns the next token outside of brackets.
 #[inline(never)]
-fn skip_outside(reader: &Reader<'_, '_>, at: usize) -> Next
+fn skip_outside(reader: &Reader<'_, '_>, at: u32) -> Next
     ensures number { result.0 ≡ tokens.next_index (outside_brackets reader.now) at }
     ensures kind { result.1 ≡ tokens.next_kind (outside_brackets reader.now) at }
-    ensures fits { OnSome result.1 (result.0 + 1 < 2 ^ 64) }
+    ensures fits { OnSome result.1 (result.0 + 1 < 2 ^ 32) }
 {
     reader.outside_brackets().next_token(at)
 }
@@ -46,10 +46,10 @@ fn skip_outside(reader: &Reader<'_, '_>, at: usize) -> Next
 /// Takes the next token, `next`, if it has this kind.
 #[inline(always)]
 #[tactic(auto, unfolding(hcl_grammar::specs::Pure::Reading::next_is, hcl_grammar::specs::Pure::Reading::after_if_next, hcl_grammar::specs::Tokens::after_next))]
-pub fn eat_next(reader: &Reader<'_, '_>, next: Next, kind: Kind, at: &mut usize) -> bool
+pub fn eat_next(reader: &Reader<'_, '_>, next: Next, kind: Kind, at: &mut u32) -> bool
     requires number { next.0 ≡ tokens.next_index reader.now at.old }
     requires kind { next.1 ≡ tokens.next_kind reader.now at.old }
-    requires fits { OnSome next.1 (next.0 + 1 < 2 ^ 64) }
+    requires fits { OnSome next.1 (next.0 + 1 < 2 ^ 32) }
     ensures found { result ≡ tokens.next_is reader.now kind at.old }
     ensures after { at.new ≡ tokens.after_if_next reader.now kind at.old }
     ensures kept { result ≡ false → at.new ≡ at.old }
@@ -74,11 +74,11 @@ pub fn expect_next(
     reader: &Reader<'_, '_>,
     next: Next,
     kind: Kind,
-    at: &mut usize,
+    at: &mut u32,
 ) -> Result<(), TokenFault>
     requires number { next.0 ≡ tokens.next_index reader.now at.old }
     requires kind { next.1 ≡ tokens.next_kind reader.now at.old }
-    requires fits { OnSome next.1 (next.0 + 1 < 2 ^ 64) }
+    requires fits { OnSome next.1 (next.0 + 1 < 2 ^ 32) }
     ensures { ReadsExactly (tokens.expect reader.now kind at.old) result at.new }
 {
     if eat_next(reader, next, kind, at) {
@@ -91,10 +91,10 @@ pub fn expect_next(
 /// Takes a line end with the comment before it, if it comes next. The next token is `next`.
 #[inline(always)]
 #[tactic(auto, unfolding(hcl_grammar::specs::Pure::Parser::eat_newline, hcl_grammar::specs::Pure::Reading::next_is, hcl_grammar::specs::Pure::Reading::after_if_next, hcl_grammar::specs::Tokens::after_next, hcl_grammar::specs::Tokens::same_kind))]
-pub fn eat_newline_next(reader: &Reader<'_, '_>, next: Next, at: &mut usize) -> bool
+pub fn eat_newline_next(reader: &Reader<'_, '_>, next: Next, at: &mut u32) -> bool
     requires number { next.0 ≡ tokens.next_index (outside_brackets reader.now) at.old }
     requires kind { next.1 ≡ tokens.next_kind (outside_brackets reader.now) at.old }
-    requires fits { OnSome next.1 (next.0 + 1 < 2 ^ 64) }
+    requires fits { OnSome next.1 (next.0 + 1 < 2 ^ 32) }
     ensures line { tokens.eat_newline reader.now at.old ≡ Ok (result, at.new) }
     ensures kept { result ≡ false → at.new ≡ at.old }
 {
@@ -119,7 +119,7 @@ pub fn eat_newline_next(reader: &Reader<'_, '_>, next: Next, at: &mut usize) -> 
 /// Returns whether neither a line end comes next nor a comment up to one.
 #[inline(always)]
 #[tactic(auto, unfolding(hcl_grammar::specs::Pure::Reading::next_is, hcl_grammar::specs::Tokens::same_kind))]
-fn is_in_line(lines: &Reader<'_, '_>, at: usize) -> bool
+fn is_in_line(lines: &Reader<'_, '_>, at: u32) -> bool
     ensures comment { result ≡ true → tokens.next_is lines.now k.LineComment at ≡ false }
     ensures line { result ≡ true → tokens.next_is lines.now k.LineEnd at ≡ false }
 {
@@ -132,7 +132,7 @@ fn is_in_line(lines: &Reader<'_, '_>, at: usize) -> bool
 /// Skips line ends with the comments before them, as `Reader::skip_newlines` does; most often one
 /// look shows that there is none.
 #[inline(always)]
-fn skip_newlines(reader: &Reader<'_, '_>, at: &mut usize) -> Result<(), TokenFault>
+fn skip_newlines(reader: &Reader<'_, '_>, at: &mut u32) -> Result<(), TokenFault>
     ensures { ReadsExactly (tokens.skip_newlines reader.now at.old) result at.new }
 {
     if is_in_line(&reader.outside_brackets(), *at) {
@@ -145,7 +145,7 @@ fn skip_newlines(reader: &Reader<'_, '_>, at: &mut usize) -> Result<(), TokenFau
 /// most often by two looks.
 #[inline(always)]
 #[tactic(auto, unfolding(hcl_grammar::specs::Tokens::after_next))]
-pub fn eat_separator_or_brace(reader: &Reader<'_, '_>, at: &mut usize) -> Result<bool, TokenFault>
+pub fn eat_separator_or_brace(reader: &Reader<'_, '_>, at: &mut u32) -> Result<bool, TokenFault>
     ensures { ReadsExactly (tokens.eat_separator_or_brace reader.now at.old) result at.new }
 {
     let lines = reader.outside_brackets();

@@ -28,9 +28,9 @@ pub enum Unread {
     /// All of it, but a term and tails of it were read.
     Term {
         /// How many tails may follow at most.
-        turns: usize,
+        turns: u32,
         /// Where what was read ends.
-        end: usize,
+        end: u32,
     },
     /// Nothing.
     Nothing,
@@ -39,7 +39,7 @@ pub enum Unread {
 /// Returns whether a term before this place is known to be a whole `Expr`: what comes next ends it.
 #[inline(always)]
 #[tactic(auto, unfolding(crate::specs::Passes::operator, crate::specs::Passes::tail_of, hcl_grammar::specs::Pure::Reading::next_is, hcl_grammar::specs::Tokens::same_kind))]
-fn ends_expr(reader: &Reader<'_, '_>, at: usize) -> bool
+fn ends_expr(reader: &Reader<'_, '_>, at: u32) -> bool
     ensures operator { result ≡ true → spec.operator reader.now at ≡ Ok (false, at) }
     ensures question { result ≡ true → tokens.next_is reader.now k.Question at ≡ false }
     ensures tail { result ≡ true → spec.tail reader.now at ≡ Ok (false, at) }
@@ -67,8 +67,9 @@ fn eat_dotted(reader: &Reader<'_, '_>, at: &mut usize) -> bool
     ensures taken { result ≡ true → spec.tail reader.now at.old ≡ Ok (true, at.new) }
     ensures called { result ≡ true → spec.is_called reader.now at.old ≡ false }
     ensures kept { result ≡ false → at.new ≡ at.old }
+    ensures place { at.old < 2 ^ 32 → at.new < 2 ^ 32 }
 {
-    let (number, next) = reader.next_token(*at);
+    let (number, next) = reader.next_token_usize(*at);
     match next {
         Some(kind) => {
             if !same_kind(kind, Kind::Dot) {
@@ -78,7 +79,7 @@ fn eat_dotted(reader: &Reader<'_, '_>, at: &mut usize) -> bool
                 *at = number + 1;
                 return true;
             }
-            let (second, name) = reader.next_token(number + 1);
+            let (second, name) = reader.next_token_usize(number + 1);
             match name {
                 Some(Kind::Identifier) | Some(Kind::Star) => {
                     *at = second + 1;
@@ -93,22 +94,25 @@ fn eat_dotted(reader: &Reader<'_, '_>, at: &mut usize) -> bool
 
 /// Takes the tails with dots after a name. Returns how many more its rule would take at most.
 #[inline(always)]
-fn eat_all_dotted(reader: &Reader<'_, '_>, first: usize, at: &mut usize) -> usize
+fn eat_all_dotted(reader: &Reader<'_, '_>, first: u32, at: &mut u32) -> u32
     ensures { IsRead reader.now first k.Identifier result at.old at.new }
 {
     let most = reader.len();
+    let mut place = *at as usize;
     for turn in 0..most {
-        if !eat_dotted(reader, at) {
+        if !eat_dotted(reader, &mut place) {
+            *at = place as u32;
             return most - turn;
         }
     }
+    *at = place as u32;
     0
 }
 
 /// Takes a text without a template and the quotes after it, at whatever depth.
 #[inline(always)]
 #[tactic(auto, unfolding(hcl_grammar::specs::Tokens::after_next))]
-fn eat_text(reader: &Reader<'_, '_>, at: &mut usize) -> bool
+fn eat_text(reader: &Reader<'_, '_>, at: &mut u32) -> bool
     ensures { result ≡ true → (depth : ℕ) →
         and_then ((under reader.now.tokens depth).parts reader.now.skip_newlines at.old)
         (λ _. tokens.expect reader.now k.QuoteClose) ≡ Ok (tt, at.new) }
@@ -137,7 +141,7 @@ fn eat_text(reader: &Reader<'_, '_>, at: &mut usize) -> bool
 /// Takes the rest of such a term with its tails, after its first token, which is `first`. Returns
 /// how many more tails its rule would take at most.
 #[inline(always)]
-fn eat_term(reader: &Reader<'_, '_>, first: usize, kind: Kind, at: &mut usize) -> Option<usize>
+fn eat_term(reader: &Reader<'_, '_>, first: u32, kind: Kind, at: &mut u32) -> Option<u32>
     ensures first { OnSome result (operators.unary_operator kind ≡ None) }
     ensures read { IfSome result (λ turns. IsRead reader.now first kind turns at.old at.new) }
 {
@@ -160,10 +164,10 @@ fn eat_term(reader: &Reader<'_, '_>, first: usize, kind: Kind, at: &mut usize) -
 /// Takes an `Expr` that is one such term, if the token after it shows that it is. Its first token
 /// is `next`.
 #[inline(always)]
-pub fn eat_plain_expr(reader: &Reader<'_, '_>, next: Next, at: &mut usize) -> Unread
+pub fn eat_plain_expr(reader: &Reader<'_, '_>, next: Next, at: &mut u32) -> Unread
     requires number { next.0 ≡ tokens.next_index reader.now at.old }
     requires kind { next.1 ≡ tokens.next_kind reader.now at.old }
-    requires fits { OnSome next.1 (next.0 + 1 < 2 ^ 64) }
+    requires fits { OnSome next.1 (next.0 + 1 < 2 ^ 32) }
     ensures { IsTried reader.now (spec.expr reader.now) at.old result at.new }
 {
     let (first, found) = next;
@@ -189,12 +193,7 @@ pub fn eat_plain_expr(reader: &Reader<'_, '_>, next: Next, at: &mut usize) -> Un
 /// what they enclose is such an expression. It ends with `close`.
 #[inline(always)]
 #[tactic(auto, unfolding(crate::specs::Passes::enclosed, hcl_grammar::specs::Pure::Reading::expect, hcl_grammar::specs::Pure::Reading::after_if_next))]
-pub fn eat_plain_enclosed(
-    reader: &Reader<'_, '_>,
-    close: Kind,
-    first: usize,
-    at: &mut usize,
-) -> Unread
+pub fn eat_plain_enclosed(reader: &Reader<'_, '_>, close: Kind, first: u32, at: &mut u32) -> Unread
     ensures { let rule = spec.enclosed reader.now close first in
         IsTried (spec.in_opened reader.now) rule at.old result at.new }
 {
@@ -223,7 +222,7 @@ pub fn eat_plain_enclosed(
 /// line end comes after it, with a comment or without.
 #[inline(always)]
 #[tactic(auto, unfolding(crate::specs::Passes::attr_by, hcl_grammar::specs::Pure::BodyParser::eol))]
-pub fn eat_plain_attr(reader: &Reader<'_, '_>, at: &mut usize) -> Unread
+pub fn eat_plain_attr(reader: &Reader<'_, '_>, at: &mut u32) -> Unread
     ensures { IsTried (outside_brackets reader.now) (spec.attr reader.now) at.old result at.new }
 {
     let lines = reader.outside_brackets();

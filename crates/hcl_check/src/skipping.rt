@@ -13,13 +13,13 @@ use hcl_grammar::fault::TokenFault;
 use hcl_scan::Scanned;
 use std::alloc::Global;
 
-/// Passes over the attribute or block that comes next in a text's body, with no tree of it made.
-/// Returns whether one does.
+/// Skips the attribute or block that comes next in a text's body, and makes no tree of it. Returns
+/// whether one comes next.
 ///
 /// # Errors
 ///
 /// The first error, reading from left to right. Memory does not run out, since none is taken.
-pub fn skip_member(alloc: Global, scanned: &Scanned<'_>, at: &mut usize) -> Result<bool, TokenFault>
+pub fn skip_member(alloc: Global, scanned: &Scanned<'_>, at: &mut u32) -> Result<bool, TokenFault>
     // The parser of the grammar reads a member there and ends at the same place, or reads none, or
     // has the same error.
     ensures skips { let ts = tokens_of scanned.now.pairs in

@@ -1,4 +1,4 @@
-pub mod Behind
+pub mod AfterLast
 pub mod Others
 pub mod Places
 pub mod Turns

@@ -20,7 +20,7 @@ token-kind [] i = refl
 token-kind (p ∷ ps) zero = refl
 token-kind (p ∷ ps) (suc i) = token-kind ps i
 
--- ---- the steps of the loop that goes past what is dropped
+-- ---- the steps of the loop that skips the tokens that are dropped
 
 at_kind : (ts : List Token) (i : ℕ) (d : Token) (k : Kind) → option_map (λ (t : Token). t.0) (slice_get ts i) ≡ Some k → (i < length ts) × ((get_or ts i d).0 ≡ k)
 at_kind [] i d k h = absurd (cc)
@@ -47,7 +47,7 @@ start-dropped pairs skip_newlines i k h e =
 
 pub ruleset places = (start-at-end, start-kept, start-dropped, token-kind)
 
--- past the last token, none comes next
+-- after the last token there is no next one
 pub next-at-end : (pairs : List Pair) (skip_newlines : Bool) (at i : ℕ) → next_index (tokens_of pairs) skip_newlines i ≡ next_index (tokens_of pairs) skip_newlines at → length pairs ≤ i → next_kind (tokens_of pairs) skip_newlines at ≡ None
 unfolding next_kind next_token
 next-at-end pairs skip_newlines at i e h = rw (sym e ∙ start-at-end pairs skip_newlines i h) (token-kind pairs i ∙ ap (option_map (λ (p : Pair). p.kind)) (slice_get_past pairs i h))

@@ -16,7 +16,7 @@ none_left left {fuel} {turn} over e = let count : fuel - turn ≡ 0 = omega (ari
 pub one_nests : {X : Type 0} (f : ℕ → X) (n : ℕ) → 0 < n → f n ≡ f (suc (n - 1))
 one_nests f n some = let e : n ≡ suc (n - 1) = omega (arith, some) in ap f e
 
--- a first step that is refused is the fault of all
+-- if the first step is refused, its error is the error of the whole
 pub refused : {A B : Type 0} {p : Outcome A} {q : Outcome B} {e : TokenFault} {r : Result B TokenFault} (f : A → Step B) (at new : ℕ) → r ≡ Err e → q ≡ and_then p f → Reads p (Err e) at → Reads q r new
 refused {q} f at new same e h = subst (λ r. Reads q r new) (sym same) (λ no. e ∙ ap (λ o. and_then o f) (h no))
 

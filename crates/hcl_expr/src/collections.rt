@@ -14,7 +14,7 @@ impl<'s, 't> Reader<'s, 't> {
     /// Takes the arguments of a call and the parenthesis after them. The flag says whether `...`
     /// follows the last.
     #[cycle(nest)]
-    pub fn arguments(&self, at: &mut usize) -> Result<(Items<Expr>, bool), TokenFault>
+    pub fn arguments(&self, at: &mut u32) -> Result<(Items<Expr>, bool), TokenFault>
         ensures { Reads (spec.arguments self.now at.old) result at.new }
     {
         let bracketed = self.in_brackets();
@@ -35,7 +35,7 @@ impl<'s, 't> Reader<'s, 't> {
 
     /// Takes expressions and the closing bracket after them.
     #[cycle(nest)]
-    fn tuple_items(&self, at: &mut usize) -> Result<Items<Expr>, TokenFault>
+    fn tuple_items(&self, at: &mut u32) -> Result<Items<Expr>, TokenFault>
         ensures { Reads (spec.tuple_items self.now at.old) result at.new }
     {
         let bracketed = self.in_brackets();
@@ -55,7 +55,7 @@ impl<'s, 't> Reader<'s, 't> {
 
     /// Takes what follows the key of an element: `=` or `:`, and the value.
     #[cycle(nest)]
-    fn element_value(&self, at: &mut usize) -> Result<Expr, TokenFault>
+    fn element_value(&self, at: &mut u32) -> Result<Expr, TokenFault>
         ensures { Reads (spec.element_value self.now at.old) result at.new }
     {
         let lines = self.outside_brackets();
@@ -68,7 +68,7 @@ impl<'s, 't> Reader<'s, 't> {
     /// Takes a key of an object and its value.
     #[cycle(nest)]
     #[tactic(auto, unfolding(hcl_grammar::specs::Pure::Parser::element))]
-    fn element(&self, at: &mut usize) -> Result<Elem, TokenFault>
+    fn element(&self, at: &mut u32) -> Result<Elem, TokenFault>
         ensures { Reads (spec.element self.now at.old) result at.new }
     {
         let key = self.outside_brackets().expr(Goal::Whole, at)?;
@@ -78,7 +78,7 @@ impl<'s, 't> Reader<'s, 't> {
 
     /// Takes keys with their values, and the closing brace after them.
     #[cycle(nest)]
-    fn elements(&self, at: &mut usize) -> Result<Items<Elem>, TokenFault>
+    fn elements(&self, at: &mut u32) -> Result<Items<Elem>, TokenFault>
         ensures { Reads (spec.elements self.now at.old) result at.new }
     {
         let lines = self.outside_brackets();
@@ -98,7 +98,7 @@ impl<'s, 't> Reader<'s, 't> {
     /// Takes what a `for` begins with, up to the colon.
     #[cycle(nest)]
     #[tactic(auto, unfolding(hcl_grammar::specs::Pure::Parser::intro))]
-    fn intro(&self, at: &mut usize) -> Result<Intro, TokenFault>
+    fn intro(&self, at: &mut u32) -> Result<Intro, TokenFault>
         ensures { Reads (spec.intro self.now at.old) result at.new }
     {
         let bracketed = self.in_brackets();
@@ -114,7 +114,7 @@ impl<'s, 't> Reader<'s, 't> {
 
     /// Takes what a `for` begins with, up to the colon, and puts it in memory of its own.
     #[cycle(nest)]
-    pub fn boxed_intro(&self, at: &mut usize) -> Result<Boxed<Intro>, TokenFault>
+    pub fn boxed_intro(&self, at: &mut u32) -> Result<Boxed<Intro>, TokenFault>
         ensures { Reads (spec.intro self.now at.old) result at.new }
     {
         let intro = self.intro(at)?;
@@ -124,7 +124,7 @@ impl<'s, 't> Reader<'s, 't> {
     /// Takes the condition of a `for`, if it has one, and the bracket that closes it.
     #[cycle(nest)]
     #[tactic(auto, unfolding(hcl_grammar::specs::Pure::Parser::filter))]
-    fn filter(&self, close: Kind, at: &mut usize) -> Result<Option<Boxed<Expr>>, TokenFault>
+    fn filter(&self, close: Kind, at: &mut u32) -> Result<Option<Boxed<Expr>>, TokenFault>
         ensures { Reads (spec.filter self.now close at.old) result at.new }
     {
         let bracketed = self.in_brackets();
@@ -140,30 +140,30 @@ impl<'s, 't> Reader<'s, 't> {
     /// Takes the rest of a tuple, after its bracket.
     #[cycle(nest)]
     #[tactic(auto, unfolding(hcl_grammar::specs::Pure::Parser::tuple))]
-    pub fn tuple(&self, first: usize, at: &mut usize) -> Result<Term, TokenFault>
+    pub fn tuple(&self, first: u32, at: &mut u32) -> Result<Term, TokenFault>
         ensures { Reads (spec.tuple self.now first at.old) result at.new }
     {
         let found = self.tuple_items(at)?;
         let found = Boxed::new(self.alloc(), found)?;
-        nodes::term(first, *at, Primary::Tuple(found))
+        Ok(nodes::term(first, *at, Primary::Tuple(found)))
     }
 
     /// Takes the rest of an object, after its brace.
     #[cycle(nest)]
     #[tactic(auto, unfolding(hcl_grammar::specs::Pure::Parser::object))]
-    pub fn object(&self, first: usize, at: &mut usize) -> Result<Term, TokenFault>
+    pub fn object(&self, first: u32, at: &mut u32) -> Result<Term, TokenFault>
         ensures { Reads (spec.object self.now first at.old) result at.new }
     {
         self.skip_newlines(at)?;
         let found = self.elements(at)?;
         let found = Boxed::new(self.alloc(), found)?;
-        nodes::term(first, *at, Primary::Object(found))
+        Ok(nodes::term(first, *at, Primary::Object(found)))
     }
 
     /// Takes the rest of a `for` in brackets, after the bracket.
     #[cycle(nest)]
     #[tactic(auto, unfolding(hcl_grammar::specs::Pure::Parser::for_tuple))]
-    pub fn for_tuple(&self, first: usize, at: &mut usize) -> Result<Term, TokenFault>
+    pub fn for_tuple(&self, first: u32, at: &mut u32) -> Result<Term, TokenFault>
         ensures { Reads (spec.for_tuple self.now first at.old) result at.new }
     {
         let bracketed = self.in_brackets();
@@ -172,7 +172,7 @@ impl<'s, 't> Reader<'s, 't> {
         let value = bracketed.boxed_expr(Goal::Whole, at)?;
         let filter = bracketed.filter(Kind::CloseBracket, at)?;
         let shape = nodes::for_tuple(self.alloc(), intro.into_inner(), value.into_inner(), filter)?;
-        nodes::term(first, *at, shape)
+        Ok(nodes::term(first, *at, shape))
     }
 
     /// Takes the rest of a `for` in braces, after its key.
@@ -180,10 +180,10 @@ impl<'s, 't> Reader<'s, 't> {
     #[tactic(auto, unfolding(hcl_grammar::specs::Pure::Parser::for_value))]
     fn for_value(
         &self,
-        first: usize,
+        first: u32,
         intro: Boxed<Intro>,
         key: Boxed<Expr>,
-        at: &mut usize,
+        at: &mut u32,
     ) -> Result<Term, TokenFault>
         ensures { Reads (spec.for_value self.now first intro key at.old) result at.new }
     {
@@ -194,13 +194,13 @@ impl<'s, 't> Reader<'s, 't> {
         let filter = bracketed.filter(Kind::CloseBrace, at)?;
         let (intro, key, value) = (intro.into_inner(), key.into_inner(), value.into_inner());
         let shape = nodes::for_object(self.alloc(), intro, key, value, grouped, filter)?;
-        nodes::term(first, *at, shape)
+        Ok(nodes::term(first, *at, shape))
     }
 
     /// Takes the rest of a `for` in braces, after the brace.
     #[cycle(nest)]
     #[tactic(auto, unfolding(hcl_grammar::specs::Pure::Parser::for_object))]
-    pub fn for_object(&self, first: usize, at: &mut usize) -> Result<Term, TokenFault>
+    pub fn for_object(&self, first: u32, at: &mut u32) -> Result<Term, TokenFault>
         ensures { Reads (spec.for_object self.now first at.old) result at.new }
     {
         let bracketed = self.in_brackets();

@@ -34,7 +34,7 @@ fn level_of_kind(kind: Kind) -> usize
 impl<'s, 't> Reader<'s, 't> {
     /// Takes an operator of the level, if one comes next.
     #[tactic(auto, unfolding(hcl_grammar::specs::Pure::Parser::eat_binary_operator, hcl_grammar::specs::Tokens::after_next))]
-    fn eat_binary_operator(&self, level: usize, at: &mut usize) -> Option<BinaryOperator>
+    fn eat_binary_operator(&self, level: usize, at: &mut u32) -> Option<BinaryOperator>
         ensures { spec.eat_binary_operator self.now level at.old ≡ Ok (result, at.new) }
     {
         let (number, next) = self.next_token(*at);
@@ -50,7 +50,7 @@ impl<'s, 't> Reader<'s, 't> {
 
     /// Returns the level of the operator that comes next; `LEVELS`, if none does.
     #[tactic(auto, unfolding(hcl_grammar::specs::Pure::Climb::next_level))]
-    fn next_level(&self, at: usize) -> usize
+    fn next_level(&self, at: u32) -> usize
         ensures { result ≡ spec.next_level self.now at }
     {
         match self.next_kind(at) {
@@ -61,7 +61,7 @@ impl<'s, 't> Reader<'s, 't> {
 
     /// Takes an expression, or an operand.
     #[cycle(nest)]
-    pub fn expr(&self, goal: Goal, at: &mut usize) -> Result<Expr, TokenFault>
+    pub fn expr(&self, goal: Goal, at: &mut u32) -> Result<Expr, TokenFault>
         ensures { Reads (spec.expr self.now goal at.old) result at.new }
     {
         match goal {
@@ -72,7 +72,7 @@ impl<'s, 't> Reader<'s, 't> {
 
     /// Takes an expression, or an operand, and puts it in memory of its own.
     #[cycle(nest)]
-    pub fn boxed_expr(&self, goal: Goal, at: &mut usize) -> Result<Boxed<Expr>, TokenFault>
+    pub fn boxed_expr(&self, goal: Goal, at: &mut u32) -> Result<Boxed<Expr>, TokenFault>
         ensures { Reads (spec.expr self.now goal at.old) result at.new }
     {
         let found = self.expr(goal, at)?;
@@ -81,7 +81,7 @@ impl<'s, 't> Reader<'s, 't> {
 
     /// Whether an operand ends a whole expression: neither an operator comes next nor `?`.
     #[tactic(auto, unfolding(hcl_grammar::specs::Pure::Climb::next_level, hcl_grammar::specs::Pure::Reading::next_is))]
-    fn is_at_expr_end(&self, at: usize) -> bool
+    fn is_at_expr_end(&self, at: u32) -> bool
         ensures quiet { result ≡ true → spec.next_level self.now at ≡ 6 }
         ensures other { result ≡ true → spec.next_is self.now k.Question at ≡ false }
     {
@@ -93,7 +93,7 @@ impl<'s, 't> Reader<'s, 't> {
 
     /// Takes a whole expression. Most are one operand, as one look after it shows.
     #[cycle(nest)]
-    fn whole(&self, at: &mut usize) -> Result<Expr, TokenFault>
+    fn whole(&self, at: &mut u32) -> Result<Expr, TokenFault>
         ensures { Reads (spec.whole self.now at.old) result at.new }
     {
         hcl_grammar_laws::laws::precedence_climbing();
@@ -109,7 +109,7 @@ impl<'s, 't> Reader<'s, 't> {
     /// operators of all levels, and a conditional.
     #[cycle(nest)]
     #[inline(never)]
-    fn after_operand(&self, first: usize, head: Expr, at: &mut usize) -> Result<Expr, TokenFault>
+    fn after_operand(&self, first: u32, head: Expr, at: &mut u32) -> Result<Expr, TokenFault>
         ensures { Reads (spec.after_operand self.now first head at.old) result at.new }
     {
         let condition = self.climb_levels(self.next_level(*at), LEVELS, first, head, at)?;
@@ -119,7 +119,7 @@ impl<'s, 't> Reader<'s, 't> {
     /// Takes the rest of a conditional, after its condition; returns the condition alone, if no `?`
     /// comes next.
     #[cycle(nest)]
-    fn conditional(&self, first: usize, condition: Expr, at: &mut usize) -> Result<Expr, TokenFault>
+    fn conditional(&self, first: u32, condition: Expr, at: &mut u32) -> Result<Expr, TokenFault>
         ensures { Reads (spec.conditional self.now first condition at.old) result at.new }
     {
         let opening = self.next_index(*at);
@@ -131,17 +131,17 @@ impl<'s, 't> Reader<'s, 't> {
         let then_branch = inner.boxed_expr(Goal::Whole, at)?;
         self.expect(Kind::Colon, at)?;
         let else_branch = inner.boxed_expr(Goal::Whole, at)?;
-        nodes::expr(
+        Ok(nodes::expr(
             first,
             *at,
             ExprKind::Conditional(condition, then_branch, else_branch),
-        )
+        ))
     }
 
     /// Takes an operand, followed by operators of the levels below `level`. Where none follows, no
     /// level is looked at.
     #[cycle(nest)]
-    fn level(&self, level: usize, at: &mut usize) -> Result<Expr, TokenFault>
+    fn level(&self, level: usize, at: &mut u32) -> Result<Expr, TokenFault>
         requires { level ≤ 6 }
         ensures { Reads (spec.level self.now level at.old) result at.new }
     {
@@ -163,9 +163,9 @@ impl<'s, 't> Reader<'s, 't> {
         &self,
         from: usize,
         level: usize,
-        first: usize,
+        first: u32,
         head: Expr,
-        at: &mut usize,
+        at: &mut u32,
     ) -> Result<Expr, TokenFault>
         requires known { level ≤ 6 }
         requires quiet { from ≤ spec.next_level self.now at.old }
@@ -182,7 +182,7 @@ impl<'s, 't> Reader<'s, 't> {
 
     /// Takes the operators of the level that come next, each with its second operand.
     #[cycle(nest)]
-    fn operations(&self, level: usize, at: &mut usize) -> Result<Items<Operation>, TokenFault>
+    fn operations(&self, level: usize, at: &mut u32) -> Result<Items<Operation>, TokenFault>
         requires { level ≤ 6 }
         ensures { Reads (spec.operations self.now level at.old) result at.new }
     {
@@ -202,14 +202,14 @@ impl<'s, 't> Reader<'s, 't> {
     #[inline(never)]
     fn unary_with(
         &self,
-        first: usize,
+        first: u32,
         operator: UnaryOperator,
-        at: &mut usize,
+        at: &mut u32,
     ) -> Result<Expr, TokenFault>
         ensures { Reads (spec.unary_with self.now first operator at.old) result at.new }
     {
         let operand = self.enter(first, at)?.boxed_expr(Goal::Operand, at)?;
-        nodes::expr(first, *at, ExprKind::Unary(operator, operand))
+        Ok(nodes::expr(first, *at, ExprKind::Unary(operator, operand)))
     }
 
     /// Takes an operand: a term with its tails, or one with an operator before it. Its first token
@@ -217,7 +217,7 @@ impl<'s, 't> Reader<'s, 't> {
     #[cycle(nest)]
     #[inline(always)]
     #[tactic(auto, unfolding(hcl_grammar::specs::Pure::Parser::unary, hcl_grammar::specs::Pure::Parser::eat_unary_operator, hcl_grammar::specs::Pure::Parser::post, hcl_grammar::specs::Pure::Parser::term, hcl_grammar::specs::Pure::Reading::bump, hcl_grammar::specs::Tokens::after_next))]
-    pub fn unary(&self, at: &mut usize) -> Result<Expr, TokenFault>
+    pub fn unary(&self, at: &mut u32) -> Result<Expr, TokenFault>
         ensures { Reads (spec.unary self.now at.old) result at.new }
     {
         let (first, next) = self.next_token(*at);

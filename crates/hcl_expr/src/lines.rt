@@ -13,7 +13,7 @@ impl<'s, 't> Reader<'s, 't> {
     /// Takes a line end with the comment before it, if it comes next. A comment at the end of the
     /// text is left.
     #[tactic(auto, unfolding(hcl_grammar::specs::Pure::Parser::eat_newline, hcl_grammar::specs::Pure::Reading::next_is, hcl_grammar::specs::Pure::Reading::after_if_next, hcl_grammar::specs::Tokens::after_next))]
-    pub fn eat_newline(&self, at: &mut usize) -> bool
+    pub fn eat_newline(&self, at: &mut u32) -> bool
         ensures { spec.eat_newline self.now at.old ≡ Ok (result, at.new) }
     {
         let lines = self.outside_brackets();
@@ -36,7 +36,7 @@ impl<'s, 't> Reader<'s, 't> {
     /// Takes a line end with the comment before it, if one of them comes next. A comment must
     /// be followed by a line end.
     #[tactic(auto, unfolding(hcl_grammar::specs::Pure::Parser::eat_inner_newline))]
-    pub fn eat_inner_newline(&self, at: &mut usize) -> Result<bool, TokenFault>
+    pub fn eat_inner_newline(&self, at: &mut u32) -> Result<bool, TokenFault>
         ensures { ReadsExactly (spec.eat_inner_newline self.now at.old) result at.new }
     {
         let lines = self.outside_brackets();
@@ -48,7 +48,7 @@ impl<'s, 't> Reader<'s, 't> {
     }
 
     /// Takes the line ends that come next.
-    pub fn skip_newlines(&self, at: &mut usize) -> Result<(), TokenFault>
+    pub fn skip_newlines(&self, at: &mut u32) -> Result<(), TokenFault>
         ensures { ReadsExactly (spec.skip_newlines self.now at.old) result at.new }
     {
         for _turn in 0..self.len() {
@@ -61,7 +61,7 @@ impl<'s, 't> Reader<'s, 't> {
 
     /// Takes a separator of elements, if one comes next.
     #[tactic(auto, unfolding(hcl_grammar::specs::Pure::Parser::eat_separator))]
-    fn eat_separator(&self, at: &mut usize) -> Result<bool, TokenFault>
+    fn eat_separator(&self, at: &mut u32) -> Result<bool, TokenFault>
         ensures { ReadsExactly (spec.eat_separator self.now at.old) result at.new }
     {
         let is_comma = self.outside_brackets().eat(Kind::Comma, at);
@@ -74,7 +74,7 @@ impl<'s, 't> Reader<'s, 't> {
 
     /// Takes a separator, else the closing brace.
     #[tactic(auto, unfolding(hcl_grammar::specs::Pure::Parser::eat_separator_or_brace))]
-    pub fn eat_separator_or_brace(&self, at: &mut usize) -> Result<bool, TokenFault>
+    pub fn eat_separator_or_brace(&self, at: &mut u32) -> Result<bool, TokenFault>
         ensures { ReadsExactly (spec.eat_separator_or_brace self.now at.old) result at.new }
     {
         if self.eat_separator(at)? {
@@ -85,7 +85,7 @@ impl<'s, 't> Reader<'s, 't> {
     }
 
     /// Returns an error if a token comes next.
-    pub fn expect_end(&self, at: &mut usize) -> Result<(), TokenFault>
+    pub fn expect_end(&self, at: &mut u32) -> Result<(), TokenFault>
         ensures { ReadsExactly (spec.expect_end self.now at.old) result at.new }
     {
         let lines = self.outside_brackets();
@@ -98,7 +98,7 @@ impl<'s, 't> Reader<'s, 't> {
     /// Takes the end of a line: a line end with the comment before it, or the end of the text after
     /// a comment or none.
     #[tactic(auto, unfolding(hcl_grammar::specs::Pure::BodyParser::eol))]
-    pub fn eol(&self, at: &mut usize) -> Result<(), TokenFault>
+    pub fn eol(&self, at: &mut u32) -> Result<(), TokenFault>
         ensures { ReadsExactly (spec.eol self.now at.old) result at.new }
     {
         if self.eat_newline(at) {

@@ -35,10 +35,13 @@ pub fn next_token(scanned: &Scanned<'_>, skip_newlines: bool, at: usize) -> (usi
     ensures number { result.0 ≡ tokens.next_index (tokens_of scanned.now.pairs) skip_newlines at }
     ensures kind { result.1 ≡ tokens.next_kind (tokens_of scanned.now.pairs) skip_newlines at }
     ensures within { OnSome result.1 (result.0 < length (tokens_of scanned.now.pairs)) }
-    ensures fits { OnSome result.1 (result.0 + 1 < 2 ^ 64) }
+    ensures fits { OnSome result.1 (result.0 + 1 < 2 ^ 32) }
+    ensures place { at < 2 ^ 32 → result.0 < 2 ^ 32 }
 {
+    let end = scanned.count() as usize;
     let mut i = at;
-    'skip: while i < scanned.len() {
+    // for the proof: the label names the loop's invariant
+    'skip: while i < end {
         let kind = scanned.kind(i);
         if !is_skipped(skip_newlines, kind) {
             return (i, Some(kind));
@@ -49,9 +52,10 @@ pub fn next_token(scanned: &Scanned<'_>, skip_newlines: bool, at: usize) -> (usi
 }
 
 /// Whether token `number` is an identifier with this spelling.
-pub fn is_word(scanned: &Scanned<'_>, number: usize, word: &[u8]) -> bool
+pub fn is_word(scanned: &Scanned<'_>, number: u32, word: &[u8]) -> bool
     requires { number < length (tokens_of scanned.now.pairs) }
     ensures { result ≡ tokens.is_word word.now (slice_get (tokens_of scanned.now.pairs) number) }
 {
+    let number = number as usize;
     same_kind(scanned.kind(number), Kind::Identifier) && scanned.spelling(number) == word
 }

@@ -65,32 +65,45 @@ impl<'s, 't> Reader<'s, 't> {
     }
 
     /// Returns the number of tokens.
-    pub fn len(&self) -> usize
+    pub fn len(&self) -> u32
         ensures { result ≡ length self.now.tokens }
     {
-        self.scanned.len()
+        self.scanned.count()
     }
 
     /// Returns the number of the next token that is not dropped, and its kind; the number of
     /// tokens, if there is none.
-    pub fn next_token(&self, at: usize) -> (usize, Option<Kind>)
+    pub fn next_token(&self, at: u32) -> (u32, Option<Kind>)
         ensures number { result.0 ≡ spec.next_index self.now at }
         ensures kind { result.1 ≡ spec.next_kind self.now at }
         ensures within { OnSome result.1 (result.0 < length self.now.tokens) }
-        ensures fits { OnSome result.1 (result.0 + 1 < 2 ^ 64) }
+        ensures fits { OnSome result.1 (result.0 + 1 < 2 ^ 32) }
+    {
+        let (number, kind) = self.next_token_usize(at as usize);
+        (number as u32, kind)
+    }
+
+    /// Returns the same as `next_token`, from a place in a `usize`: for a loop over many tokens,
+    /// which would widen each place in 32 bits.
+    pub fn next_token_usize(&self, at: usize) -> (usize, Option<Kind>)
+        ensures number { result.0 ≡ spec.next_index self.now at }
+        ensures kind { result.1 ≡ spec.next_kind self.now at }
+        ensures within { OnSome result.1 (result.0 < length self.now.tokens) }
+        ensures fits { OnSome result.1 (result.0 + 1 < 2 ^ 32) }
+        ensures place { at < 2 ^ 32 → result.0 < 2 ^ 32 }
     {
         lookahead::next_token(self.scanned, self.skip_newlines, at)
     }
 
     /// Returns the number of the next token.
-    pub fn next_index(&self, at: usize) -> usize
+    pub fn next_index(&self, at: u32) -> u32
         ensures { result ≡ spec.next_index self.now at }
     {
         self.next_token(at).0
     }
 
     /// Returns the kind of the next token.
-    pub fn next_kind(&self, at: usize) -> Option<Kind>
+    pub fn next_kind(&self, at: u32) -> Option<Kind>
         ensures { result ≡ spec.next_kind self.now at }
     {
         self.next_token(at).1
@@ -98,7 +111,7 @@ impl<'s, 't> Reader<'s, 't> {
 
     /// Takes a token of this kind, if it comes next.
     #[tactic(auto, unfolding(hcl_grammar::specs::Pure::Reading::next_is, hcl_grammar::specs::Pure::Reading::after_if_next, hcl_grammar::specs::Tokens::after_next))]
-    pub fn eat(&self, kind: Kind, at: &mut usize) -> bool
+    pub fn eat(&self, kind: Kind, at: &mut u32) -> bool
         ensures found { result ≡ spec.next_is self.now kind at.old }
         ensures after { at.new ≡ spec.after_if_next self.now kind at.old }
     {
@@ -114,7 +127,7 @@ impl<'s, 't> Reader<'s, 't> {
     }
 
     /// Returns the error that the next token is not allowed.
-    pub fn syntax_fault(&self, at: usize) -> TokenFault
+    pub fn syntax_fault(&self, at: u32) -> TokenFault
         ensures { result ≡ fault.Syntax (spec.next_index self.now at) }
     {
         TokenFault::Syntax(self.next_index(at))
@@ -122,7 +135,7 @@ impl<'s, 't> Reader<'s, 't> {
 
     /// Takes a token of this kind, which must come next.
     #[tactic(auto, unfolding(hcl_grammar::specs::Pure::Reading::expect, hcl_grammar::specs::Pure::Reading::after_if_next))]
-    pub fn expect(&self, kind: Kind, at: &mut usize) -> Result<(), TokenFault>
+    pub fn expect(&self, kind: Kind, at: &mut u32) -> Result<(), TokenFault>
         ensures { ReadsExactly (spec.expect self.now kind at.old) result at.new }
     {
         if self.eat(kind, at) {
@@ -145,7 +158,7 @@ impl<'s, 't> Reader<'s, 't> {
     }
 
     /// Opens a construct at this token, if one more may nest.
-    pub fn enter(&self, opening: usize, at: &mut usize) -> Result<Reader<'s, 't>, TokenFault>
+    pub fn enter(&self, opening: u32, at: &mut u32) -> Result<Reader<'s, 't>, TokenFault>
         ensures { Enters self.now opening at.old result at.new }
     {
         if self.depth == 0 {
@@ -174,8 +187,8 @@ impl<'s, 't> Reader<'s, 't> {
     /// Opens a directive and its braces at this token, if two more constructs may nest.
     pub fn enter_two(
         &self,
-        opening: usize,
-        at: &mut usize,
+        opening: u32,
+        at: &mut u32,
     ) -> Result<(Reader<'s, 't>, Reader<'s, 't>), TokenFault>
         ensures { EntersTwo self.now opening at.old result at.new }
     {
@@ -198,7 +211,7 @@ impl<'s, 't> Reader<'s, 't> {
     }
 
     /// Whether token `number` is an identifier with this spelling.
-    pub fn is_word(&self, number: usize, word: &[u8]) -> bool
+    pub fn is_word(&self, number: u32, word: &[u8]) -> bool
         requires { number < length self.now.tokens }
         ensures { result ≡ tokens.is_word word.now (slice_get self.now.tokens number) }
     {
@@ -208,7 +221,7 @@ impl<'s, 't> Reader<'s, 't> {
     /// Returns the number of the first token between two places; the first place, if they are
     /// equal.
     #[tactic(auto, unfolding(hcl_grammar::specs::Tokens::first_token_in))]
-    pub fn first_token_in(&self, from: usize, to: usize) -> usize
+    pub fn first_token_in(&self, from: u32, to: u32) -> u32
         ensures { result ≡ tokens.first_token_in self.now.tokens self.now.skip_newlines from to }
     {
         if from == to {

@@ -17,7 +17,7 @@ use hcl_token::Kind;
 impl<'s, 't> Reader<'s, 't> {
     /// Takes the rest of a tail, after its `.`: a name, or `*`.
     #[tactic(auto, unfolding(hcl_grammar::specs::Pure::Parser::dot_tail, hcl_grammar::specs::Pure::Reading::next_is, hcl_grammar::specs::Pure::Reading::after_if_next, hcl_grammar::specs::Pure::Reading::expect, hcl_grammar::specs::Tokens::after_next))]
-    fn dot_tail(&self, at: &mut usize) -> Result<Tail, TokenFault>
+    fn dot_tail(&self, at: &mut u32) -> Result<Tail, TokenFault>
         ensures { ReadsExactly (spec.dot_tail self.now at.old) result at.new }
     {
         let (number, next) = self.next_token(*at);
@@ -38,7 +38,7 @@ impl<'s, 't> Reader<'s, 't> {
     /// Takes the rest of a tail, after its `[`, which is token `first`: `*`, or an expression.
     #[cycle(nest)]
     #[tactic(auto, unfolding(hcl_grammar::specs::Pure::Parser::bracket_tail))]
-    fn bracket_tail(&self, first: usize, at: &mut usize) -> Result<Tail, TokenFault>
+    fn bracket_tail(&self, first: u32, at: &mut u32) -> Result<Tail, TokenFault>
         ensures { Reads (spec.bracket_tail self.now first at.old) result at.new }
     {
         let inner = self.enter(first, at)?.in_brackets();
@@ -54,7 +54,7 @@ impl<'s, 't> Reader<'s, 't> {
     /// Takes a tail, if one comes next.
     #[cycle(nest)]
     #[tactic(auto, unfolding(hcl_grammar::specs::Pure::Parser::tail_of, hcl_grammar::specs::Tokens::after_next))]
-    fn tail(&self, at: &mut usize) -> Result<Option<Tail>, TokenFault>
+    fn tail(&self, at: &mut u32) -> Result<Option<Tail>, TokenFault>
         ensures { Reads (spec.tail self.now at.old) result at.new }
     {
         let (first, next) = self.next_token(*at);
@@ -77,7 +77,7 @@ impl<'s, 't> Reader<'s, 't> {
 
     /// Whether a tail comes next.
     #[tactic(auto, unfolding(hcl_grammar::specs::Pure::Parser::tail_of))]
-    fn has_tail(&self, at: usize) -> bool
+    fn has_tail(&self, at: u32) -> bool
         ensures { result ≡ false → spec.tail self.now at ≡ Ok (None, at) }
     {
         match self.next_kind(at) {
@@ -88,7 +88,7 @@ impl<'s, 't> Reader<'s, 't> {
 
     /// Returns how many tails to take memory for, where one comes next: more than one if another
     /// tail follows a `.` and a name.
-    fn tail_capacity(&self, at: usize) -> usize {
+    fn tail_capacity(&self, at: u32) -> usize {
         if self.has_tail(at.saturating_add(2)) {
             3
         } else {
@@ -98,7 +98,7 @@ impl<'s, 't> Reader<'s, 't> {
 
     /// Takes the tails that come next.
     #[cycle(nest)]
-    fn tails(&self, at: &mut usize) -> Result<Items<Tail>, TokenFault>
+    fn tails(&self, at: &mut u32) -> Result<Items<Tail>, TokenFault>
         ensures { Reads (spec.tails self.now at.old) result at.new }
     {
         let mut found = Items::with_capacity(self.alloc(), self.tail_capacity(*at))?;
@@ -114,28 +114,23 @@ impl<'s, 't> Reader<'s, 't> {
     /// Takes the tails that come next, and returns the term with them.
     #[cycle(nest)]
     #[inline(never)]
-    fn with_tails(
-        &self,
-        first: usize,
-        head: Boxed<Term>,
-        at: &mut usize,
-    ) -> Result<Expr, TokenFault>
+    fn with_tails(&self, first: u32, head: Boxed<Term>, at: &mut u32) -> Result<Expr, TokenFault>
         ensures { Reads (spec.with_tails self.now first head at.old) result at.new }
     {
         let tails = self.tails(at)?;
         let tails = Boxed::new(self.alloc(), tails)?;
-        nodes::postfix(first, *at, head, tails)
+        Ok(nodes::postfix(first, *at, head, tails))
     }
 
     /// Takes a term with its tails, after its first token, which is `first`. Most have none, as one
     /// look after it shows.
     #[cycle(nest)]
-    pub fn post(&self, first: usize, kind: Kind, at: &mut usize) -> Result<Expr, TokenFault>
+    pub fn post(&self, first: u32, kind: Kind, at: &mut u32) -> Result<Expr, TokenFault>
         ensures { Reads (spec.post_by self.now first kind at.old) result at.new }
     {
         let head = self.term(first, kind, at)?;
         if !self.has_tail(*at) {
-            return nodes::term_expr(first, *at, head);
+            return Ok(nodes::term_expr(first, *at, head));
         }
         let head = Boxed::new(self.alloc(), head)?;
         self.with_tails(first, head, at)

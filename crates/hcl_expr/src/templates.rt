@@ -15,7 +15,7 @@ use hcl_token::Kind;
 impl<'s, 't> Reader<'s, 't> {
     /// Takes a whole directive that has one word and nothing else.
     #[tactic(auto, unfolding(hcl_grammar::specs::Pure::Parser::keyword_directive))]
-    fn keyword_directive(&self, word: &[u8], at: &mut usize) -> Result<(), TokenFault>
+    fn keyword_directive(&self, word: &[u8], at: &mut u32) -> Result<(), TokenFault>
         ensures { ReadsExactly (spec.keyword_directive self.now word.now at.old) result at.new }
     {
         let braces = self.in_brackets();
@@ -26,7 +26,7 @@ impl<'s, 't> Reader<'s, 't> {
 
     /// Takes the next token, if this word follows it.
     #[tactic(auto, unfolding(hcl_grammar::specs::Tokens::after_next))]
-    fn eat_directive_open(&self, word: &[u8], at: &mut usize) -> bool
+    fn eat_directive_open(&self, word: &[u8], at: &mut u32) -> bool
         ensures found { result
             ≡ reading.next_is_word self.now.tokens true word.now (spec.after_next self.now at.old) }
         ensures taken { result ≡ true → at.new ≡ spec.after_next self.now at.old }
@@ -48,7 +48,7 @@ impl<'s, 't> Reader<'s, 't> {
     /// Takes the parts of a template, and this token after them.
     #[cycle(nest)]
     #[tactic(auto, unfolding(hcl_grammar::specs::Pure::Parser::template_until))]
-    pub fn template_until(&self, close: Kind, at: &mut usize) -> Result<Template, TokenFault>
+    pub fn template_until(&self, close: Kind, at: &mut u32) -> Result<Template, TokenFault>
         ensures { Reads (spec.template_until self.now close at.old) result at.new }
     {
         let from = *at;
@@ -56,13 +56,13 @@ impl<'s, 't> Reader<'s, 't> {
         let to = *at;
         self.expect(close, at)?;
         let first = self.first_token_in(from, to);
-        Ok(nodes::template(first, to, parts)?)
+        Ok(nodes::template(first, to, parts))
     }
 
     /// Takes the rest of an interpolation, after its opening.
     #[cycle(nest)]
     #[tactic(auto, unfolding(hcl_grammar::specs::Pure::Parser::interp))]
-    fn interp(&self, first: usize, at: &mut usize) -> Result<Part, TokenFault>
+    fn interp(&self, first: u32, at: &mut u32) -> Result<Part, TokenFault>
         ensures { Reads (spec.interp self.now first at.old) result at.new }
     {
         let inner = self.enter(first, at)?.in_brackets();
@@ -75,7 +75,7 @@ impl<'s, 't> Reader<'s, 't> {
     /// end.
     #[cycle(nest)]
     #[tactic(auto, unfolding(hcl_grammar::specs::Pure::Parser::else_and_endif))]
-    fn else_and_endif(&self, at: &mut usize) -> Result<Option<Template>, TokenFault>
+    fn else_and_endif(&self, at: &mut u32) -> Result<Option<Template>, TokenFault>
         ensures { Reads (spec.else_and_endif self.now at.old) result at.new }
     {
         let mut after = *at;
@@ -89,13 +89,13 @@ impl<'s, 't> Reader<'s, 't> {
         let to = *at;
         self.keyword_directive(b"endif", at)?;
         let first = self.first_token_in(from, to);
-        Ok(Some(nodes::template(first, to, parts)?))
+        Ok(Some(nodes::template(first, to, parts)))
     }
 
     /// Takes the rest of an `if` directive, after its opening.
     #[cycle(nest)]
     #[tactic(auto, unfolding(hcl_grammar::specs::Pure::Parser::if_directive, hcl_grammar::specs::Pure::Reading::expect_word))]
-    fn if_directive(&self, first: usize, at: &mut usize) -> Result<Part, TokenFault>
+    fn if_directive(&self, first: u32, at: &mut u32) -> Result<Part, TokenFault>
         requires { reading.next_is_word self.now.tokens true (codes "if") at.old ≡ true }
         ensures { Reads (spec.if_directive self.now first at.old) result at.new }
     {
@@ -105,7 +105,7 @@ impl<'s, 't> Reader<'s, 't> {
         braces.expect(Kind::SeqClose, at)?;
         let from = *at;
         let parts = inner.parts(at)?;
-        let then_branch = nodes::template(self.first_token_in(from, *at), *at, parts)?;
+        let then_branch = nodes::template(self.first_token_in(from, *at), *at, parts);
         let else_branch = inner.else_and_endif(at)?;
         Ok(nodes::if_part(
             self.alloc(),
@@ -120,7 +120,7 @@ impl<'s, 't> Reader<'s, 't> {
     /// Takes the rest of a `for` directive, after its opening.
     #[cycle(nest)]
     #[tactic(auto, unfolding(hcl_grammar::specs::Pure::Parser::for_directive))]
-    fn for_directive(&self, first: usize, at: &mut usize) -> Result<Part, TokenFault>
+    fn for_directive(&self, first: u32, at: &mut u32) -> Result<Part, TokenFault>
         ensures { Reads (spec.for_directive self.now first at.old) result at.new }
     {
         let (inner, braces) = self.enter_two(first, at)?;
@@ -128,7 +128,7 @@ impl<'s, 't> Reader<'s, 't> {
         braces.expect(Kind::SeqClose, at)?;
         let from = *at;
         let parts = inner.parts(at)?;
-        let body = nodes::template(self.first_token_in(from, *at), *at, parts)?;
+        let body = nodes::template(self.first_token_in(from, *at), *at, parts);
         self.keyword_directive(b"endfor", at)?;
         Ok(nodes::for_part(self.alloc(), first, *at, intro.into_inner(), body)?)
     }
@@ -137,7 +137,7 @@ impl<'s, 't> Reader<'s, 't> {
     #[cycle(nest)]
     #[inline(never)]
     #[tactic(auto, unfolding(hcl_grammar::specs::Pure::Parser::directive))]
-    fn directive(&self, first: usize, at: &mut usize) -> Result<Option<Part>, TokenFault>
+    fn directive(&self, first: u32, at: &mut u32) -> Result<Option<Part>, TokenFault>
         ensures { Reads (spec.directive self.now first at.old) result at.new }
     {
         if self.eat_directive_open(b"if", at) {
@@ -152,7 +152,7 @@ impl<'s, 't> Reader<'s, 't> {
     /// Takes a part of a template, if one comes next.
     #[cycle(nest)]
     #[tactic(auto, unfolding(hcl_grammar::specs::Pure::Parser::part_of, hcl_grammar::specs::Tokens::after_next))]
-    fn part(&self, at: &mut usize) -> Result<Option<Part>, TokenFault>
+    fn part(&self, at: &mut u32) -> Result<Option<Part>, TokenFault>
         ensures { Reads (spec.part self.now at.old) result at.new }
     {
         let (first, next) = self.next_token(*at);
@@ -172,7 +172,7 @@ impl<'s, 't> Reader<'s, 't> {
 
     /// Takes the parts of a template, one by one, up to what ends them.
     #[cycle(nest)]
-    fn each_part(&self, at: &mut usize) -> Result<Items<Part>, TokenFault>
+    fn each_part(&self, at: &mut u32) -> Result<Items<Part>, TokenFault>
         ensures { Reads (spec.parts_from self.now
             (length self.now.tokens) [] at.old) result at.new }
     {
@@ -188,7 +188,7 @@ impl<'s, 't> Reader<'s, 't> {
 
     /// Takes the parts of a template, up to what ends them.
     #[cycle(nest)]
-    pub fn parts(&self, at: &mut usize) -> Result<Items<Part>, TokenFault>
+    pub fn parts(&self, at: &mut u32) -> Result<Items<Part>, TokenFault>
         ensures { Reads (spec.parts self.now at.old) result at.new }
     {
         self.each_part(at)

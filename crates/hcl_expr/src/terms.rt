@@ -18,7 +18,7 @@ use hcl_token::Kind;
 impl<'s, 't> Reader<'s, 't> {
     /// Whether `(` or `::` comes next, so that the identifier before it is a function's name.
     #[tactic(auto, unfolding(hcl_grammar::specs::Pure::Reading::next_is))]
-    fn is_called(&self, at: usize) -> bool
+    fn is_called(&self, at: u32) -> bool
         ensures { result ≡
             (spec.next_is self.now k.OpenParen at || spec.next_is self.now k.DoubleColon at) }
     {
@@ -32,19 +32,19 @@ impl<'s, 't> Reader<'s, 't> {
     #[cycle(nest)]
     #[inline(never)]
     #[tactic(auto, unfolding(hcl_grammar::specs::Pure::Parser::parens))]
-    fn parens(&self, first: usize, at: &mut usize) -> Result<Term, TokenFault>
+    fn parens(&self, first: u32, at: &mut u32) -> Result<Term, TokenFault>
         ensures { Reads (spec.parens self.now first at.old) result at.new }
     {
         let inner = self.enter(first, at)?.in_brackets();
         let value = inner.boxed_expr(Goal::Whole, at)?;
         inner.expect(Kind::CloseParen, at)?;
-        nodes::term(first, *at, Primary::Parens(value))
+        Ok(nodes::term(first, *at, Primary::Parens(value)))
     }
 
     /// Takes the rest of a call, after the first name of the function.
     #[cycle(nest)]
     #[tactic(auto, unfolding(hcl_grammar::specs::Pure::Parser::call))]
-    fn call(&self, first: usize, at: &mut usize) -> Result<Term, TokenFault>
+    fn call(&self, first: u32, at: &mut u32) -> Result<Term, TokenFault>
         ensures { Reads (spec.call self.now first at.old) result at.new }
     {
         let names = self.names(first, at)?;
@@ -52,19 +52,19 @@ impl<'s, 't> Reader<'s, 't> {
         self.expect(Kind::OpenParen, at)?;
         let (arguments, expand_final) = self.enter(opening, at)?.arguments(at)?;
         let shape = nodes::call(self.alloc(), names, arguments, expand_final)?;
-        nodes::term(first, *at, shape)
+        Ok(nodes::term(first, *at, shape))
     }
 
     /// Takes the rest of a call, after its identifier, if it is one.
     #[cycle(nest)]
     #[tactic(auto, unfolding(hcl_grammar::specs::Pure::Parser::identifier_or_call))]
-    fn identifier_or_call(&self, first: usize, at: &mut usize) -> Result<Term, TokenFault>
+    fn identifier_or_call(&self, first: u32, at: &mut u32) -> Result<Term, TokenFault>
         ensures { Reads (spec.identifier_or_call self.now first at.old) result at.new }
     {
         if self.is_called(*at) {
             self.call(first, at)
         } else {
-            nodes::term(first, *at, Primary::Identifier)
+            Ok(nodes::term(first, *at, Primary::Identifier))
         }
     }
 
@@ -72,7 +72,7 @@ impl<'s, 't> Reader<'s, 't> {
     #[cycle(nest)]
     #[inline(never)]
     #[tactic(auto, unfolding(hcl_grammar::specs::Pure::Parser::tuple_or_for))]
-    fn tuple_or_for(&self, first: usize, at: &mut usize) -> Result<Term, TokenFault>
+    fn tuple_or_for(&self, first: u32, at: &mut u32) -> Result<Term, TokenFault>
         ensures { Reads (spec.tuple_or_for self.now first at.old) result at.new }
     {
         let inner = self.enter(first, at)?.in_brackets();
@@ -87,7 +87,7 @@ impl<'s, 't> Reader<'s, 't> {
     #[cycle(nest)]
     #[inline(never)]
     #[tactic(auto, unfolding(hcl_grammar::specs::Pure::Parser::object_or_for))]
-    fn object_or_for(&self, first: usize, at: &mut usize) -> Result<Term, TokenFault>
+    fn object_or_for(&self, first: u32, at: &mut u32) -> Result<Term, TokenFault>
         ensures { Reads (spec.object_or_for self.now first at.old) result at.new }
     {
         let inner = self.enter(first, at)?.in_brackets();
@@ -101,33 +101,33 @@ impl<'s, 't> Reader<'s, 't> {
     /// Takes the rest of a quoted text, after its quote.
     #[cycle(nest)]
     #[tactic(auto, unfolding(hcl_grammar::specs::Pure::Parser::quoted))]
-    fn quoted(&self, first: usize, at: &mut usize) -> Result<Term, TokenFault>
+    fn quoted(&self, first: u32, at: &mut u32) -> Result<Term, TokenFault>
         ensures { Reads (spec.quoted self.now first at.old) result at.new }
     {
         let template = self.enter(first, at)?.template_until(Kind::QuoteClose, at)?;
         let template = Boxed::new(self.alloc(), template)?;
-        nodes::term(first, *at, Primary::Quoted(template))
+        Ok(nodes::term(first, *at, Primary::Quoted(template)))
     }
 
     /// Takes the rest of a heredoc, after its opening.
     #[cycle(nest)]
     #[inline(never)]
     #[tactic(auto, unfolding(hcl_grammar::specs::Pure::Parser::heredoc))]
-    fn heredoc(&self, first: usize, at: &mut usize) -> Result<Term, TokenFault>
+    fn heredoc(&self, first: u32, at: &mut u32) -> Result<Term, TokenFault>
         ensures { Reads (spec.heredoc self.now first at.old) result at.new }
     {
         let template = self.enter(first, at)?.template_until(Kind::HereClose, at)?;
         let template = Boxed::new(self.alloc(), template)?;
-        nodes::term(first, *at, Primary::Heredoc(template))
+        Ok(nodes::term(first, *at, Primary::Heredoc(template)))
     }
 
     /// Takes the rest of a term, after its first token, which is `first`.
     #[cycle(nest)]
-    pub fn term(&self, first: usize, kind: Kind, at: &mut usize) -> Result<Term, TokenFault>
+    pub fn term(&self, first: u32, kind: Kind, at: &mut u32) -> Result<Term, TokenFault>
         ensures { Reads (spec.term_by self.now first kind at.old) result at.new }
     {
         match kind {
-            Kind::Number => nodes::term(first, *at, Primary::Number),
+            Kind::Number => Ok(nodes::term(first, *at, Primary::Number)),
             Kind::Identifier => self.identifier_or_call(first, at),
             Kind::OpenBracket => self.tuple_or_for(first, at),
             Kind::OpenBrace => self.object_or_for(first, at),

@@ -13,7 +13,7 @@ use hcl_token::Kind;
 impl<'s, 't> Reader<'s, 't> {
     /// Whether this word comes next.
     #[tactic(auto, unfolding(hcl_grammar::specs::Pure::Reading::next_is_word, hcl_grammar::specs::Tokens::next_token))]
-    pub fn next_is_word(&self, word: &[u8], at: usize) -> bool
+    pub fn next_is_word(&self, word: &[u8], at: u32) -> bool
         ensures { result ≡ spec.next_is_word self.now word.now at }
     {
         let (number, next) = self.next_token(at);
@@ -25,7 +25,7 @@ impl<'s, 't> Reader<'s, 't> {
 
     /// Takes this word, which must come next.
     #[tactic(auto, unfolding(hcl_grammar::specs::Pure::Reading::expect_word, hcl_grammar::specs::Pure::Reading::next_is_word, hcl_grammar::specs::Tokens::next_token, hcl_grammar::specs::Tokens::after_next))]
-    pub fn expect_word(&self, word: &[u8], at: &mut usize) -> Result<(), TokenFault>
+    pub fn expect_word(&self, word: &[u8], at: &mut u32) -> Result<(), TokenFault>
         ensures { ReadsExactly (spec.expect_word self.now word.now at.old) result at.new }
     {
         let (number, next) = self.next_token(*at);
@@ -43,7 +43,7 @@ impl<'s, 't> Reader<'s, 't> {
 
     /// Takes a word, if it comes next.
     #[tactic(auto, unfolding(hcl_grammar::specs::Pure::Reading::next_is_word, hcl_grammar::specs::Tokens::next_token, hcl_grammar::specs::Tokens::after_next))]
-    pub fn eat_word(&self, word: &[u8], at: &mut usize) -> bool
+    pub fn eat_word(&self, word: &[u8], at: &mut u32) -> bool
         ensures found { result ≡ spec.next_is_word self.now word.now at.old }
         ensures taken { result ≡ true → at.new ≡ spec.after_next self.now at.old }
         ensures kept { result ≡ false → at.new ≡ at.old }
@@ -63,7 +63,7 @@ impl<'s, 't> Reader<'s, 't> {
 
     /// Takes the second name of a `for`, if it has one.
     #[tactic(auto, unfolding(hcl_grammar::specs::Pure::Parser::second_name))]
-    pub fn second_name(&self, at: &mut usize) -> Result<Option<usize>, TokenFault>
+    pub fn second_name(&self, at: &mut u32) -> Result<Option<u32>, TokenFault>
         ensures { ReadsExactly (spec.second_name self.now at.old) result at.new }
     {
         let bracketed = self.in_brackets();
@@ -76,7 +76,7 @@ impl<'s, 't> Reader<'s, 't> {
     }
 
     /// Takes the rest of a function's names, after the first, which was read; returns them all.
-    pub fn names(&self, first: usize, at: &mut usize) -> Result<Items<usize>, TokenFault>
+    pub fn names(&self, first: u32, at: &mut u32) -> Result<Items<u32>, TokenFault>
         ensures first { IfOk result (λ names. names ≡ first ∷ drop 1 names) }
         ensures reads { Reads (spec.names self.now at.old)
             (result_map_both (drop 1) (λ e. e) result) at.new }

@@ -3,7 +3,6 @@ pub mod Tokens
 pub mod Operators
 pub mod Nodes
 pub mod TreeLayers
-pub mod TreeNodes
 pub mod Lookahead
 pub mod Grammar
 pub mod Bodies

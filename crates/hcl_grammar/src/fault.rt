@@ -6,9 +6,9 @@ use std::alloc::{AllocError, AllocFailed};
 #[derive(Clone, Copy)]
 pub enum TokenFault {
     /// The first token that cannot go on; the length of the list, where it ends too early.
-    Syntax(usize),
+    Syntax(u32),
     /// The token that opens one construct too many in one another.
-    TooDeep(usize),
+    TooDeep(u32),
     /// An allocation failed.
     Memory,
 }

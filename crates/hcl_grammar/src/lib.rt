@@ -12,7 +12,6 @@ pub mod goal;
 mod items;
 pub mod nodes;
 pub mod operators;
-mod role;
 pub mod tree;
 
 pub use bounds::MAX_NESTING;
@@ -20,7 +19,6 @@ pub use boxed::Boxed;
 pub use fault::TokenFault;
 pub use goal::Goal;
 pub use items::Items;
-pub use role::Role;
 pub use tree::{
     Attribute, BinaryOperator, Block, Body, Call, Content, Elem, Expr, ExprKind, ForDirective,
     ForObject, ForTuple, IfDirective, Intro, Label, Member, Operation, Part, Primary, Tail,

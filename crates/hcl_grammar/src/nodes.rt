@@ -1,10 +1,8 @@
 //! The nodes of a tree, each made by one function.
 //!
-//! `first` is the number of a node's first token, `past` the number after its last. Expressions,
-//! terms, templates and blocks hold them in 32 bits. A greater number is an `AllocError`, since no
-//! list of tokens is that long.
+//! `first` is the number of a node's first token, `past` the number after its last.
 
-ghost use Rattle.std.specs.Prelude.{◌≡◌, ◌^◌, ◌≤◌, ◌⊎◌, [], Ok, Some, IfOk, IfErr};
+ghost use Rattle.std.specs.Prelude.{◌≡◌, [], Ok, Some, IfOk};
 ghost use Rattle.hcl_grammar.specs.declared.tree.Content.TheVariants as content;
 ghost use Rattle.hcl_grammar.specs.Nodes as nodes;
 ghost use Rattle.hcl_grammar.specs.Pure.Reading.{Reads};
@@ -18,39 +16,22 @@ use crate::tree::{
 use crate::{Boxed, Items};
 use std::alloc::{AllocError, Global};
 
-/// Returns the numbers of a node's first token and after its last in 32 bits, if they fit.
-#[inline]
-fn to_u32_pair(first: usize, past: usize) -> Result<(u32, u32), AllocError>
-    ensures ok { IfOk result (λ n. (n.0 ≡ first) × (n.1 ≡ past)) }
-    ensures err { IfErr result (λ _. (2 ^ 32 ≤ first) ⊎ (2 ^ 32 ≤ past)) }
-{
-    if first <= u32::MAX as usize && past <= u32::MAX as usize {
-        Ok((first as u32, past as u32))
-    } else {
-        Err(AllocError)
-    }
-}
-
 /// Returns an expression.
 #[inline(always)]
 #[tactic(auto, unfolding(crate::specs::Nodes::expr))]
-pub fn expr(first: usize, past: usize, kind: ExprKind) -> Result<Expr, TokenFault>
-    ensures node { Reads (Ok (nodes.expr first past kind, past)) result past }
-    ensures err { IfErr result (λ _. (2 ^ 32 ≤ first) ⊎ (2 ^ 32 ≤ past)) }
+pub fn expr(first: u32, past: u32, kind: ExprKind) -> Expr
+    ensures { result ≡ nodes.expr first past kind }
 {
-    let (first, past) = to_u32_pair(first, past)?;
-    Ok(Expr { first, past, kind })
+    Expr { first, past, kind }
 }
 
 /// Returns a term.
 #[inline(always)]
 #[tactic(auto, unfolding(crate::specs::Nodes::term))]
-pub fn term(first: usize, past: usize, kind: Primary) -> Result<Term, TokenFault>
-    ensures node { Reads (Ok (nodes.term first past kind, past)) result past }
-    ensures err { IfErr result (λ _. (2 ^ 32 ≤ first) ⊎ (2 ^ 32 ≤ past)) }
+pub fn term(first: u32, past: u32, kind: Primary) -> Term
+    ensures { result ≡ nodes.term first past kind }
 {
-    let (first, past) = to_u32_pair(first, past)?;
-    Ok(Term { first, past, kind })
+    Term { first, past, kind }
 }
 
 /// Returns an operator with its second operand.
@@ -72,8 +53,8 @@ pub fn elem(key: Expr, value: Expr) -> Elem
 /// Returns an operand followed by operators; with none, the operand alone.
 pub fn binary(
     alloc: Global,
-    first: usize,
-    past: usize,
+    first: u32,
+    past: u32,
     head: Expr,
     links: Items<Operation>,
 ) -> Result<Expr, TokenFault>
@@ -85,28 +66,21 @@ pub fn binary(
     } else {
         let head = Boxed::new(alloc, head)?;
         let links = Boxed::new(alloc, links)?;
-        expr(first, past, ExprKind::Binary(head, links))
+        Ok(expr(first, past, ExprKind::Binary(head, links)))
     }
 }
 
 /// Returns a term without tails, as an expression.
 #[inline]
-pub fn term_expr(first: usize, past: usize, term: Term) -> Result<Expr, TokenFault>
-    ensures node { Reads (Ok (nodes.postfix first past term [], past)) result past }
-    ensures err { IfErr result (λ _. (2 ^ 32 ≤ first) ⊎ (2 ^ 32 ≤ past)) }
+pub fn term_expr(first: u32, past: u32, term: Term) -> Expr
+    ensures { result ≡ nodes.postfix first past term [] }
 {
     expr(first, past, ExprKind::Term(term))
 }
 
 /// Returns a term followed by tails; with none, the term alone.
-pub fn postfix(
-    first: usize,
-    past: usize,
-    head: Boxed<Term>,
-    tails: Boxed<Items<Tail>>,
-) -> Result<Expr, TokenFault>
-    ensures node { Reads (Ok (nodes.postfix first past head tails, past)) result past }
-    ensures err { IfErr result (λ _. (2 ^ 32 ≤ first) ⊎ (2 ^ 32 ≤ past)) }
+pub fn postfix(first: u32, past: u32, head: Boxed<Term>, tails: Boxed<Items<Tail>>) -> Expr
+    ensures { result ≡ nodes.postfix first past head tails }
 {
     if tails.get().is_empty() {
         term_expr(first, past, head.into_inner())
@@ -119,7 +93,7 @@ pub fn postfix(
 #[tactic(auto, unfolding(crate::specs::Nodes::call))]
 pub fn call(
     alloc: Global,
-    names: Items<usize>,
+    names: Items<u32>,
     arguments: Items<Expr>,
     expand_final: bool,
 ) -> Result<Primary, AllocError>
@@ -135,13 +109,7 @@ pub fn call(
 
 /// Returns what a `for` begins with.
 #[tactic(auto, unfolding(crate::specs::Nodes::intro))]
-pub fn intro(
-    first: usize,
-    past: usize,
-    name: usize,
-    second_name: Option<usize>,
-    collection: Expr,
-) -> Intro
+pub fn intro(first: u32, past: u32, name: u32, second_name: Option<u32>, collection: Expr) -> Intro
     ensures { result ≡ nodes.intro first past name second_name collection }
 {
     Intro {
@@ -195,20 +163,18 @@ pub fn for_object(
 
 /// Returns a template, by its parts.
 #[tactic(auto, unfolding(crate::specs::Nodes::template))]
-pub fn template(first: usize, past: usize, parts: Items<Part>) -> Result<Template, AllocError>
-    ensures ok { IfOk result (λ t. t ≡ nodes.template first past parts) }
-    ensures err { IfErr result (λ _. (2 ^ 32 ≤ first) ⊎ (2 ^ 32 ≤ past)) }
+pub fn template(first: u32, past: u32, parts: Items<Part>) -> Template
+    ensures { result ≡ nodes.template first past parts }
 {
-    let (first, past) = to_u32_pair(first, past)?;
-    Ok(Template { first, past, parts })
+    Template { first, past, parts }
 }
 
 /// Returns an `if` directive.
 #[tactic(auto, unfolding(crate::specs::Nodes::if_part))]
 pub fn if_part(
     alloc: Global,
-    first: usize,
-    past: usize,
+    first: u32,
+    past: u32,
     condition: Expr,
     then_branch: Template,
     else_branch: Option<Template>,
@@ -229,8 +195,8 @@ pub fn if_part(
 #[tactic(auto, unfolding(crate::specs::Nodes::for_part))]
 pub fn for_part(
     alloc: Global,
-    first: usize,
-    past: usize,
+    first: u32,
+    past: u32,
     intro: Intro,
     body: Template,
 ) -> Result<Part, AllocError>
@@ -247,7 +213,7 @@ pub fn for_part(
 
 /// Returns an attribute, whose first token is its name.
 #[tactic(auto, unfolding(crate::specs::Nodes::attribute))]
-pub fn attribute(first: usize, past: usize, value: Boxed<Expr>) -> Attribute
+pub fn attribute(first: u32, past: u32, value: Boxed<Expr>) -> Attribute
     ensures { result ≡ nodes.attribute first past value }
 {
     Attribute {
@@ -274,7 +240,7 @@ pub fn block_body(alloc: Global, body: Body) -> Result<Content, AllocError>
 
 /// Returns a label of a block.
 #[tactic(auto, unfolding(crate::specs::Nodes::label))]
-pub fn label(first: usize, past: usize, name: Option<usize>) -> Label
+pub fn label(first: u32, past: u32, name: Option<u32>) -> Label
     ensures { result ≡ nodes.label first past name }
 {
     Label { first, past, name }
@@ -282,28 +248,21 @@ pub fn label(first: usize, past: usize, name: Option<usize>) -> Label
 
 /// Returns a block, whose first token is its word.
 #[tactic(auto, unfolding(crate::specs::Nodes::block))]
-pub fn block(
-    first: usize,
-    past: usize,
-    labels: Items<Label>,
-    content: Content,
-) -> Result<Member, AllocError>
-    ensures ok { IfOk result (λ m. m ≡ nodes.block first past labels content) }
-    ensures err { IfErr result (λ _. (2 ^ 32 ≤ first) ⊎ (2 ^ 32 ≤ past)) }
+pub fn block(first: u32, past: u32, labels: Items<Label>, content: Content) -> Member
+    ensures { result ≡ nodes.block first past labels content }
 {
-    let (first, past) = to_u32_pair(first, past)?;
-    Ok(Member::Block(Block {
+    Member::Block(Block {
         first,
         past,
         block_type: first,
         labels,
         content,
-    }))
+    })
 }
 
 /// Returns a body, by its members.
 #[tactic(auto, unfolding(crate::specs::Nodes::body))]
-pub fn body(first: usize, past: usize, members: Items<Member>) -> Body
+pub fn body(first: u32, past: u32, members: Items<Member>) -> Body
     ensures { result ≡ nodes.body first past members }
 {
     Body {
@@ -315,7 +274,7 @@ pub fn body(first: usize, past: usize, members: Items<Member>) -> Body
 
 /// Returns the tree of a whole text of `past` tokens.
 #[tactic(auto, unfolding(crate::specs::Nodes::tree))]
-pub fn tree(past: usize, body: Body) -> Tree
+pub fn tree(past: u32, body: Body) -> Tree
     ensures { result ≡ nodes.tree past body }
 {
     Tree {

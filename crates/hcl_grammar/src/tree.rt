@@ -2,6 +2,7 @@
 //!
 //! A node has the numbers of its tokens in the text's list of tokens, from 0: `first` is that of
 //! its first token, and `past` the one after its last; they are equal where the node has no token.
+//! They have 32 bits, since a text has at most `MAX_TEXT` tokens.
 //! What is dropped between two tokens of a node (comments and, inside brackets, line ends) is
 //! counted, what precedes its first is not.
 //!
@@ -96,9 +97,9 @@ pub struct Operation {
 #[derive(Drop)]
 pub enum Tail {
     /// `.NAME`, by the number of the name's token.
-    Name(usize),
+    Name(u32),
     /// `.0`, the legacy index, by the number of its token.
-    LegacyIndex(usize),
+    LegacyIndex(u32),
     /// `.*`
     AttributeSplat,
     /// `[*]`
@@ -150,7 +151,7 @@ pub enum Primary {
 #[derive(Drop)]
 pub struct Call {
     /// The numbers of the tokens of the function's name: one or more names with `::` between them.
-    pub names: Items<usize>,
+    pub names: Items<u32>,
     /// The arguments.
     pub arguments: Items<Expr>,
     /// Whether `...` follows the last argument.
@@ -172,13 +173,13 @@ pub struct Elem {
 #[derive(Drop)]
 pub struct Intro {
     /// The number of its first token, the word `for`.
-    pub first: usize,
+    pub first: u32,
     /// The number after its last token.
-    pub past: usize,
+    pub past: u32,
     /// The number of the first name's token.
-    pub name: usize,
+    pub name: u32,
     /// The number of the second name's token, if there is one.
-    pub second_name: Option<usize>,
+    pub second_name: Option<u32>,
     /// What is gone through.
     pub collection: Expr,
 }
@@ -229,7 +230,7 @@ pub struct Template {
 #[derive(Drop)]
 pub enum Part {
     /// Literal text, by the number of its token.
-    Literal(usize),
+    Literal(u32),
     /// `${A}`
     Interp(Boxed<Expr>),
     /// `%{if A}..%{else}..%{endif}`
@@ -243,9 +244,9 @@ pub enum Part {
 #[derive(Drop)]
 pub struct IfDirective {
     /// The number of its first token, the `%{` before `if`.
-    pub first: usize,
+    pub first: u32,
     /// The number after its last token, the `}` after `endif`.
-    pub past: usize,
+    pub past: u32,
     /// The condition after `if`.
     pub condition: Expr,
     /// The text up to `else` or `endif`.
@@ -259,9 +260,9 @@ pub struct IfDirective {
 #[derive(Drop)]
 pub struct ForDirective {
     /// The number of its first token, the `%{` before `for`.
-    pub first: usize,
+    pub first: u32,
     /// The number after its last token, the `}` after `endfor`.
-    pub past: usize,
+    pub past: u32,
     /// What its first braces contain.
     pub intro: Intro,
     /// The text between its braces.
@@ -272,11 +273,11 @@ pub struct ForDirective {
 #[derive(Drop)]
 pub struct Attribute {
     /// The number of its first token, the name.
-    pub first: usize,
+    pub first: u32,
     /// The number after its last token; the comment and the line end that follow are its tokens.
-    pub past: usize,
+    pub past: u32,
     /// The number of the name's token.
-    pub name: usize,
+    pub name: u32,
     /// The expression after `=`.
     pub value: Boxed<Expr>,
 }
@@ -285,12 +286,12 @@ pub struct Attribute {
 #[derive(Clone, Copy)]
 pub struct Label {
     /// The number of its first token: the name, or the quote that opens it.
-    pub first: usize,
+    pub first: u32,
     /// The number after its last token.
-    pub past: usize,
+    pub past: u32,
     /// The number of the token that is its text, without quotes; none where nothing is between
     /// the quotes.
-    pub name: Option<usize>,
+    pub name: Option<u32>,
 }
 
 /// A block: `WORD LABELS { .. }`, with the end of its line.
@@ -326,9 +327,9 @@ pub enum Content {
 pub struct Body {
     /// The number of its first token, blank lines and comments too; where it has none, the number
     /// after the token before it.
-    pub first: usize,
+    pub first: u32,
     /// The number after its last token.
-    pub past: usize,
+    pub past: u32,
     /// Its attributes and blocks.
     pub members: Items<Member>,
 }
@@ -347,9 +348,9 @@ pub enum Member {
 #[derive(Drop)]
 pub struct Tree {
     /// 0.
-    pub first: usize,
+    pub first: u32,
     /// How many tokens the text has.
-    pub past: usize,
+    pub past: u32,
     /// What the text holds, without byte order mark and last comment.
     pub body: Body,
 }

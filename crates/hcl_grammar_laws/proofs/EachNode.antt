@@ -4,7 +4,7 @@ use Rattle.hcl_grammar.specs.Tokens.{Token}
 use Rattle.hcl_grammar_laws.proofs.Own.{own_if, own_for, own_template, own_body}
 use Rattle.hcl_grammar_laws.proofs.Restart.{own_expr, own_term}
 use Rattle.hcl_grammar_laws.proofs.RestartBodies.{own_intro, own_label, own_on_line, own_attribute, own_block}
-use Rattle.hcl_grammar_laws.proofs.Standing.{DerivedNode, derived_node_body, derived_node_block, derived_node_attribute, derived_node_on_line, derived_node_label, derived_node_expr, derived_node_term, derived_node_intro, derived_node_template, derived_node_if, derived_node_for, node_is_derived}
+use Rattle.hcl_grammar_laws.proofs.DerivedNodes.{DerivedNode, derived_node_body, derived_node_block, derived_node_attribute, derived_node_on_line, derived_node_label, derived_node_expr, derived_node_term, derived_node_intro, derived_node_template, derived_node_if, derived_node_for, node_is_derived}
 use Rattle.hcl_grammar_laws.specs.NodeSpans.{Node, Derives, is_body, is_block, is_attribute, is_one_line_attribute, is_label, is_expr, is_term, is_intro, is_template, is_if_directive, is_for_directive, NodesSpanTheirTokens}
 
 derives : {ts : List Token} {x : Node} → DerivedNode ts x → Derives ts x

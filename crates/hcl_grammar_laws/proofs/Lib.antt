@@ -15,10 +15,8 @@ pub mod Restart
 pub mod Opens
 pub mod RestartBodies
 pub mod Own
-pub mod Standing
+pub mod DerivedNodes
 pub mod EachNode
-pub mod HeldNodes
-pub mod NodeTokens
 pub mod Climb
 pub mod Alike
 pub mod AlikeExpressions

@@ -10,7 +10,8 @@ use Rattle.hcl_grammar.specs.declared.tree.Tree.{Tree}
 use Rattle.hcl_grammar.specs.Bodies.{IsFile}
 use Rattle.hcl_grammar.specs.Lookahead.{NextIsWord}
 use Rattle.hcl_grammar.specs.Tokens.{Token, is_skipped, next_index, next_token, next_kind}
-use Rattle.hcl_grammar_laws.specs.Comments.{is_line_comment, without_comment_text}
+use Rattle.hcl_token.specs.Kinds.{is_line_comment}
+use Rattle.hcl_grammar_laws.specs.Comments.{without_comment_text}
 use Rattle.hcl_grammar_laws.proofs.Alike.{Alike}
 use Rattle.hcl_grammar_laws.proofs.AlikeBodies.{same_file}
 

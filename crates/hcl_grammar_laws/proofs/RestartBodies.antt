@@ -174,7 +174,7 @@ module _ {ts : List Token} where
       let a = following ts false i n h in
       rw h (line_block (moved ts false k.Identifier i n h p) (subst (λ z. IsLabels ts ls z j) a ns) b t c e r)
 
-  pub take_block : {d : ℕ} {ls : List Label} {ms : List Member} {i j o q u : ℕ} → NextIs ts false k.Identifier i → IsLabels ts ls (after_next ts false i) j → NextIs ts false k.OpenBrace j
+  take_block : {d : ℕ} {ls : List Label} {ms : List Member} {i j o q u : ℕ} → NextIs ts false k.Identifier i → IsLabels ts ls (after_next ts false i) j → NextIs ts false k.OpenBrace j
       → Spans ts (after_next ts false j) o → NextIs ts false k.CloseBrace o → IsEol ts (after_next ts false o) q → IsMembers ts d ms q u → Takes ts i u
   take_block p ns b s c l r =
       ahead (step ts false k.Identifier _ p) (both (span_labels ns) (both (loose (step ts false k.OpenBrace _ b)) (both s (both (loose (step ts false k.CloseBrace _ c)) (both (span_eol l) (span_members r))))))

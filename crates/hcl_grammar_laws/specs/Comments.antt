@@ -1,15 +1,10 @@
 -- What line comments say is no part of a tree.
 -- HCL native syntax specification, Comments and Whitespace.
-use Rattle.std.specs.Prelude.{◌≡◌, ℕ, Bool, true, false, List, [], map, if◌then◌else◌}
-use Rattle.hcl_token.specs.declared.kind.Kind.{Kind}
-use Rattle.hcl_token.specs.declared.kind.Kind.TheVariants as k
+use Rattle.std.specs.Prelude.{◌≡◌, ℕ, List, [], map, if◌then◌else◌}
+use Rattle.hcl_token.specs.Kinds.{is_line_comment}
 use Rattle.hcl_grammar.specs.declared.tree.Tree.{Tree}
 use Rattle.hcl_grammar.specs.Bodies.{IsFile}
 use Rattle.hcl_grammar.specs.Tokens.{Token}
-
-abbrev pub is_line_comment : Kind → Bool
-is_line_comment k.LineComment = true
-is_line_comment _ = false
 
 -- a token; of a line comment the kind alone
 abbrev pub without_comment_text : Token → Token

@@ -3,6 +3,7 @@
 use Rattle.std.specs.Prelude.{◌≡◌, ℕ, suc, ◌||◌, Bool, true, false, List, slice_get, Some}
 use Rattle.hcl_token.specs.declared.kind.Kind.{Kind}
 use Rattle.hcl_token.specs.declared.kind.Kind.TheVariants as k
+use Rattle.hcl_token.specs.Bytes.{capital_e, letter_e}
 use Rattle.hcl_token.specs.Joins.{starts_with}
 use Rattle.hcl_grammar.specs.declared.tree.Tree.{Tree}
 use Rattle.hcl_grammar.specs.Bodies.{IsFile}
@@ -13,7 +14,7 @@ abbrev pub glues : Kind → Kind → List ℕ → Bool
 glues k.Less k.Less w = true
 glues k.Dot k.Dot w = true
 glues k.Dot k.DotIndex w = true
-glues k.Number k.Identifier w = starts_with 101 w || starts_with 69 w
+glues k.Number k.Identifier w = starts_with letter_e w || starts_with capital_e w
 glues _ _ w = false
 
 -- no such two are next to each other, whatever is dropped

@@ -1,7 +1,6 @@
 pub mod OneTree
 pub mod Nesting
 pub mod NodeSpans
-pub mod NodeTokens
 pub mod Comments
 pub mod Glue
 pub mod Members

@@ -1,6 +1,6 @@
 -- What is in a tree, and from which tokens it is derived: each node from those from its number
--- `first` up to its number `past`, without what is dropped. The rules are compared with this list;
--- hcl_grammar has the one with roles and tails (TreeNodes).
+-- `first` up to its number `past`, without what is dropped. The list that the rules visit, which
+-- has roles and tails (tf_rules, Preorder), is compared with this one by tf_rules_laws.
 use Rattle.std.specs.Prelude.{ℕ, Bool, List, [], ◌∷◌, ◌++◌, map, Option, Some, None}
 use Rattle.std.specs.List.{flat_map}
 use Rattle.hcl_grammar.specs.declared.tree.Attribute.{Attribute}

@@ -2,7 +2,6 @@
 
 ghost use Rattle.hcl_grammar_laws.specs.Comments.{CommentTextIsIgnored};
 ghost use Rattle.hcl_grammar_laws.specs.NodeSpans.{NodesSpanTheirTokens};
-ghost use Rattle.hcl_grammar_laws.specs.NodeTokens.{NodesAreDerived, NumbersAreWithin};
 ghost use Rattle.hcl_grammar_laws.specs.Glue.{NoGlue};
 ghost use Rattle.hcl_grammar_laws.specs.Nesting.{NestingIsMonotone};
 ghost use Rattle.hcl_grammar_laws.specs.OneTree.{OneTree};
@@ -35,16 +34,6 @@ pub fn no_glue()
 /// its `past`, without those that are dropped.
 pub fn nodes_span_their_tokens()
     ensures { NodesSpanTheirTokens }
-{}
-
-/// Each node of the list of a tree (hcl_grammar, `TreeNodes`) is derived by its own tokens.
-pub fn nodes_are_derived()
-    ensures { NodesAreDerived }
-{}
-
-/// Each number of a node is that of a token, or the one after the last.
-pub fn numbers_are_within()
-    ensures { NumbersAreWithin }
 {}
 
 /// For a parser: an answer that is the pure parser's, memory aside, is the tree that is derived, or

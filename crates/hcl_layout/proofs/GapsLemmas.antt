@@ -4,15 +4,15 @@ pub mod CellCode
 pub mod CellGaps
 pub mod CellLaw
 pub mod LineLemmas
+pub mod LineSpans
 pub mod NearLemmas
 pub mod Repeats
 pub mod LineStarts
 pub mod RowLemmas
 pub mod TokensKept
 pub mod WidthLemmas
-pub mod Narrow
+pub mod LineWidths
 pub mod LayoutPieces
-pub mod Few
 pub mod ColumnLaw
 pub mod Compose
 pub mod EditLemmas

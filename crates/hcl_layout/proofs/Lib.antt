@@ -1,8 +1,8 @@
-pub mod Begun
-pub mod LaidCut
-pub mod LaidStands
-pub mod LaidTexts
+pub mod LineBegins
+pub mod LayoutTokens
+pub mod LayoutGaps
+pub mod LayoutTexts
 pub mod LineEnds
 pub mod Lower
-pub mod Stands
+pub mod AllowedGaps
 pub mod GapsLemmas

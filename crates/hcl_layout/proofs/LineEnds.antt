@@ -15,7 +15,7 @@ use Rattle.hcl_scan.specs.Closing.{is_at_line_end_or_eof}
 use Rattle.hcl_scan.specs.Modes.{Mode}
 use Rattle.hcl_scan.specs.Lexeme.{is_identifier, IsIdentifier, is_decimal, fixed_spelling, IsLexeme}
 use Rattle.hcl_scan.specs.Follows.{has_no_gap_before}
-use Rattle.hcl_layout.specs.Gaps.Kinds.{is_line_end}
+use Rattle.hcl_token.specs.Kinds.{is_line_end}
 
 -- LF or CR
 abbrev is_line_byte : ℕ → Bool

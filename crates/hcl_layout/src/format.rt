@@ -40,6 +40,7 @@ pub fn layout_of_parsed(alloc: Global, scanned: &Scanned<'_>) -> Result<Edits, L
     laws::layout_parses();
     laws::layout_keeps_tokens();
     laws::layout_is_laid_out();
+    // for the proof: the clauses of `text` say that these are the tokens of the text
     let _text = scanned.text();
     crate::gaps::layout(alloc, scanned)
 }
@@ -75,6 +76,7 @@ pub fn formatted_text(alloc: Global, scanned: &Scanned<'_>) -> Result<Vec<u8>, L
     ensures err { IfErr result (IsMemoryOrTooLong (IsTooLong scanned.now.text)) }
 {
     laws::layout_parses();
+    // for the proof: the clauses of `text` say that these are the tokens of the text
     let _text = scanned.text();
     crate::gaps::formatted_text(alloc, scanned)
 }
@@ -93,6 +95,7 @@ pub fn is_parsed_laid_out(alloc: Global, scanned: &Scanned<'_>) -> Result<bool, 
     laws::laid_out_is_text();
     laws::one_layout();
     hcl_text_laws::laws::parsed_tokens_are_apart();
+    // for the proof: the clauses of `text` say that these are the tokens of the text
     let _text = scanned.text();
     crate::gaps::is_laid_out(alloc, scanned)
 }

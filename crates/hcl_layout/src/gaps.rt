@@ -6,17 +6,21 @@
 //! of every layout.
 
 mod base_gaps;
+mod cell_starts;
 mod cells;
 mod changes;
 mod edits;
 mod fault;
 mod format;
+mod gap_numbers;
 mod gaps;
 mod indent;
 mod kinds;
 pub mod laws;
 mod limit;
+mod line_flags;
 mod line_pass;
+mod line_spans;
 mod lines;
 mod space;
 mod spacing_flags;

@@ -50,7 +50,7 @@ pub fn layout_parses()
     hcl_text_laws::laws::parsed_tokens_are_apart();
 }
 
-/// States that it has the same tokens.
+/// States that the layout of a text that parses, if it is within the limit, has the same tokens.
 pub fn layout_keeps_tokens()
     ensures { LayoutKeepsTokens }
 {
@@ -60,7 +60,7 @@ pub fn layout_keeps_tokens()
     hcl_text_laws::laws::parsed_tokens_are_apart();
 }
 
-/// States that it is its own layout.
+/// States that the layout of a text that parses, if it is within the limit, is its own layout.
 pub fn layout_is_laid_out()
     ensures { LayoutIsLaidOut }
 {
@@ -70,7 +70,7 @@ pub fn layout_is_laid_out()
     hcl_text_laws::laws::parsed_tokens_are_apart();
 }
 
-/// States that to format it again changes nothing.
+/// States that to format such a layout again changes nothing.
 pub fn layout_of_layout()
     ensures { LayoutOfLayout }
 {

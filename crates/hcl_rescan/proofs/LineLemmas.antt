@@ -22,7 +22,7 @@ use Rattle.hcl_scan.proofs.WritesBack.{writes_back}
 
 -- ---- the last line end requires nothing of what follows it
 
--- what a token asks of the next ones is asked of the first of them alone
+-- what a token requires of the next ones it requires of the first of them alone
 allows_next_first : (kind : Kind) (q : Pair) (ps others : List Pair) (last other : List ℕ) → AllowsNext kind (q ∷ ps) last → AllowsNext kind (q ∷ others) other
 allows_next_first LineComment q ps others last other h = h
 allows_next_first QuoteLit q ps others last other h = h

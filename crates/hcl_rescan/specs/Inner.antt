@@ -1,3 +1,4 @@
 pub mod WholeLines
 pub mod MovedSpans
+pub mod Pieces
 pub mod Sequences

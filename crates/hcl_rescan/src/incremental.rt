@@ -6,14 +6,16 @@
 //! they have the same tokens there. The lines in which something changed are scanned as texts of
 //! their own; what follows the last of them has to be as it was.
 
-ghost use Rattle.std.specs.Prelude.{◌≡◌, ◌<◌, ◌≤◌, ◌+◌, ◌-◌, ◌^◌, ◌++◌, ◌∷◌, ℕ, true, false, Some, [], length, drop, slice_get, slice_range, IsTrue, OnOk, IfOk, IfSome};
+ghost use Rattle.std.specs.Prelude.{◌≡◌, ◌<◌, ◌≤◌, ◌+◌, ◌-◌, ◌^◌, ◌++◌, ◌∷◌, ℕ, true, false, Some, [], length, drop, slice_get, slice_range, IsTrue, OnOk, IfOk, IfErr, IfSome};
 ghost use Rattle.hcl_token.specs.declared.kind.Kind.TheVariants.{LineEnd};
 ghost use Rattle.hcl_token.specs.TokenizedText.{kind_of};
 ghost use Rattle.hcl_token.specs.Tokens.{Pair, whole_text};
 ghost use Rattle.hcl_token.specs.Pairs.{InOrder, pairs_of, spans_from};
 ghost use Rattle.hcl_scan.specs.Tokenization.{IsTokenization, MAX_TEXT};
+ghost use Rattle.hcl_scan.specs.declared.fault.ScanFault.{ScanFault};
 ghost use Rattle.hcl_scan.specs.ScanResult.{IsScanFault, IsScanResult};
 ghost use Rattle.hcl_scan.specs.Follows.{AreApart, FollowsFrom, IsApart};
+ghost use Rattle.hcl_rescan.specs.Inner.Pieces.{AreBefore, fault_of_part};
 ghost use Rattle.hcl_rescan.specs.Inner.WholeLines.{AreSelfContained, EndsWithLineEnd, IsRescannedTo, IsLineStart, IsLineRange, IsRescanned, depth_after};
 
 use crate::moved::move_spans;
@@ -40,6 +42,10 @@ enum RescanFault {
 }
 
 impl From<AllocError> for RescanFault {
+    ghost use Rattle.hcl_rescan.specs.declared.incremental.RescanFault.TheVariants.{Memory};
+
+    ghost from_gives = { λ _ e. e ≡ Memory };
+
     fn from(_: AllocError) -> Self {
         RescanFault::Memory
     }
@@ -52,7 +58,7 @@ struct LineStart {
     at: usize,
 }
 
-/// Returns the bytes between two places.
+/// Returns the bytes of a text between two places.
 fn slice(text: &[u8], from: usize, to: usize) -> &[u8]
     requires ordered { from ≤ to }
     requires within { to ≤ length text.now }
@@ -72,6 +78,7 @@ fn is_line_end(kind: Kind) -> bool
 fn has_mark(scanned: &Scanned<'_>) -> bool
     ensures { result ≡ false → FollowsFrom [] scanned.now.pairs scanned.now.last [] }
 {
+    // for the proof: without a mark the tokens follow the modes from the first on
     hcl_scan::laws::tokenization_follows_modes();
     let count = scanned.len();
     count > 0 && matches!(scanned.kind(0), Kind::Mark)
@@ -126,18 +133,17 @@ fn last_line_start_by_depth(old: &Scanned<'_>, from: LineStart, limit: usize) ->
     to
 }
 
-/// Returns the first start of a line after byte `limit` of the old text, from `from` on; `Mismatch`
-/// if there is none.
-fn next_line_start(
-    old: &Scanned<'_>,
-    from: LineStart,
-    limit: usize,
-) -> Result<LineStart, RescanFault>
+/// Returns the first start of a line after byte `limit` of the old text, from `from` on, if there
+/// is one.
+fn next_line_start(old: &Scanned<'_>, from: LineStart, limit: usize) -> Option<LineStart>
     requires { IsLineStart old.now from.index from.at }
-    ensures { IfOk result (λ to. IsLineStart old.now to.index to.at) }
+    ensures line_start { IfSome result (λ to. IsLineStart old.now to.index to.at) }
+    ensures after { IfSome result (λ to. limit < to.at) }
+    ensures onward { IfSome result (λ to. from.at ≤ to.at) }
+    ensures here { limit < from.at → result ≡ Some from }
 {
     if from.at > limit {
-        return Ok(from);
+        return Some(from);
     }
     let mut depth = 0;
     for i in from.index..old.len() {
@@ -145,13 +151,13 @@ fn next_line_start(
         if ends_top_level_line(kind, depth) {
             let at = old.item(i).stop as usize;
             if at > limit {
-                return Ok(LineStart { index: i + 1, at });
+                return Some(LineStart { index: i + 1, at });
             }
         } else {
             depth = depth_after(kind, depth);
         }
     }
-    Err(RescanFault::Mismatch)
+    None
 }
 
 /// Returns the tokens from one number on, up to another.
@@ -204,6 +210,10 @@ fn last_line_start(old: &Scanned<'_>, from: LineStart, limit: usize) -> LineStar
 }
 
 /// Adds tokens of a text, with their places in another one, where they begin at byte `at`.
+///
+/// # Errors
+///
+/// Returns `AllocError` if memory runs out.
 fn push_relocated(
     tokens: &mut Vec<Span>,
     at: usize,
@@ -219,6 +229,7 @@ fn push_relocated(
     ensures { OnOk result (tokens.new.items
         ≡ tokens.old.items ++ spans_from at (slice_range old.now.pairs from.index to)) }
 {
+    // for the proof: the clauses of `text` say that the old text is short
     let _text = old.text();
     let begin = tokens.len();
     tokens.extend_from_slice(span_range(old.places().spans(), from.index, to))?;
@@ -245,8 +256,12 @@ fn has_bytes_at(text: &[u8], at: usize, bytes: &[u8]) -> bool
     same_bytes(slice(text, at, at + bytes.len()), bytes)
 }
 
-/// Adds the tokens of whole lines of the old text, if the new one has their bytes at byte `at`, and
-/// returns where they end.
+/// Adds the tokens of whole lines of the old text to those of the new one, where they begin at byte
+/// `at`, and returns where they end.
+///
+/// # Errors
+///
+/// `Memory`, or `Mismatch` if the new text has other bytes there.
 fn reuse_lines(
     text: &[u8],
     tokens: &mut Vec<Span>,
@@ -311,7 +326,22 @@ fn ends_with_line_end(scanned: &Scanned<'_>) -> bool
     is_line_end(scanned.kind(count - 1)) && scanned.last_gap().is_empty()
 }
 
-/// Returns the tokens of a text by itself; `Mismatch` if it has none.
+/// Returns why a text can't be tokenized by its pieces, by the error of one that was scanned by
+/// itself.
+fn fault_of_part(fault: ScanFault) -> RescanFault
+    ensures { result ≡ fault_of_part fault }
+{
+    match fault {
+        ScanFault::Memory => RescanFault::Memory,
+        _ => RescanFault::Mismatch,
+    }
+}
+
+/// Returns the tokens of a piece of a text by itself.
+///
+/// # Errors
+///
+/// `Memory`, or `Mismatch` if the piece has no tokens.
 fn scan_part<'t>(
     alloc: Global,
     buffer: Vec<Span>,
@@ -319,15 +349,20 @@ fn scan_part<'t>(
 ) -> Result<Scanned<'t>, RescanFault>
     ensures text { IfOk result (λ s. s.text ≡ text.now) }
     ensures tokenization { IfOk result (λ s. IsTokenization text.now s.pairs s.last) }
+    ensures fault { IfErr result (λ e. (fault : ScanFault) × IsScanFault text.now fault
+        × (e ≡ fault_of_part fault)) }
 {
     match scan_in(alloc, buffer, text) {
         Ok(scanned) => Ok(scanned),
-        Err(ScanFault::Memory) => Err(RescanFault::Memory),
-        Err(_) => Err(RescanFault::Mismatch),
+        Err(fault) => Err(fault_of_part(fault)),
     }
 }
 
-/// Adds the tokens of `len` bytes, if they are whole lines, and returns the buffer that they took.
+/// Adds the tokens of `len` bytes from byte `at` on, and returns the buffer that they took.
+///
+/// # Errors
+///
+/// `Memory`, or `Mismatch` if these bytes are not whole lines.
 fn scan_lines(
     alloc: Global,
     text: &[u8],
@@ -357,8 +392,12 @@ fn scan_lines(
     Ok(lines.into_buffer())
 }
 
-/// Adds the tokens of the rest of the old text, if the new one has its bytes from byte `at` on, and
-/// returns where the last gap begins.
+/// Adds the tokens of the rest of the old text to those of the new one, where they begin at byte
+/// `at`, and returns where the last gap begins.
+///
+/// # Errors
+///
+/// `Memory`, or `Mismatch` if the new text has other bytes from there on.
 fn reuse_rest(
     text: &[u8],
     tokens: &mut Vec<Span>,
@@ -387,17 +426,22 @@ struct ChangedLines {
     count: usize,
 }
 
-/// Returns the lines from `from` on in which piece `first` and those after it are replaced.
+/// Returns the lines from `from` on in which piece `first` and those after it are replaced, if a
+/// line starts after each of these pieces.
 fn changed_lines(
     old: &Scanned<'_>,
     from: LineStart,
     replaced: &[ReplacedRange],
     first: usize,
-) -> Result<ChangedLines, RescanFault>
+) -> Option<ChangedLines>
     requires line_start { IsLineStart old.now from.index from.at }
     requires some { first < length replaced.now }
-    ensures { IfOk result (λ changed. IsLineStart old.now changed.to.index changed.to.at
-        × (first < changed.count)) }
+    ensures line_start { IfSome result
+        (λ changed. IsLineStart old.now changed.to.index changed.to.at) }
+    ensures count { IfSome result
+        (λ changed. (first < changed.count) × (changed.count ≤ length replaced.now)) }
+    ensures pieces { IfSome result
+        (λ changed. AreBefore replaced.now first changed.count changed.to.at) }
 {
     let mut count = first;
     let mut to = from;
@@ -412,7 +456,7 @@ fn changed_lines(
     }
     let before = to.at.saturating_sub(from.at);
     let len = before.saturating_add(added).saturating_sub(removed);
-    Ok(ChangedLines { to, len, count })
+    Some(ChangedLines { to, len, count })
 }
 
 /// The first `at` bytes of a new text are scanned, up to a line of the old one.
@@ -422,7 +466,12 @@ struct Progress {
     at: usize,
 }
 
-/// Adds the tokens of the unchanged lines up to byte `limit` of the old text.
+/// Adds the tokens of the unchanged lines up to byte `limit` of the old text, and returns where
+/// they end.
+///
+/// # Errors
+///
+/// `Memory`, or `Mismatch` if the new text has other bytes there.
 fn reuse_unchanged(
     text: &[u8],
     tokens: &mut Vec<Span>,
@@ -448,8 +497,12 @@ fn reuse_unchanged(
     Ok(Progress { line_start, at })
 }
 
-/// Returns the tokens of an edited text, and where its last gap begins; `Mismatch` if more was
-/// changed than the replaced pieces say, or if what was changed can't be scanned by itself.
+/// Returns the tokens of an edited text, and where its last gap begins, in bytes from 0.
+///
+/// # Errors
+///
+/// `Memory`; `Mismatch` if more was changed than the replaced pieces say, or if what was changed
+/// can't be scanned by itself.
 fn rescan_tokens(
     alloc: Global,
     text: &[u8],
@@ -475,12 +528,10 @@ fn rescan_tokens(
     while first < replaced.len() {
         let limit = replaced[first].at as usize;
         progress = reuse_unchanged(text, tokens, old, progress, limit)?;
-        let ChangedLines { to, len, count } = changed_lines(
-            old,
-            progress.line_start,
-            replaced,
-            first,
-        )?;
+        let changed = changed_lines(old, progress.line_start, replaced, first);
+        let Some(ChangedLines { to, len, count }) = changed else {
+            return Err(RescanFault::Mismatch);
+        };
         if len > text.len() / 2 {
             // The changed lines have a list of tokens of their own, which would be as long as that
             // of the whole text.

@@ -1,4 +1,5 @@
--- Outside of literal text, each lexeme at the front of a text is what the scanner finds, or shorter.
+-- Outside of literal text, each lexeme at the start of a text is what the scanner finds, or
+-- shorter.
 use Rattle.std.proofs.Common.{◌≡◌, ℕ, suc, ◌+◌, ◌<◌, ◌≤◌, Bool, true, false, not, nat_lt, ◌&&◌, ◌||◌, ◌==◌, List, [], ◌∷◌, ◌++◌, length, slice_index, if◌then◌else◌, IsUtf8, Some, refl, sym, ap, subst, ◌∙◌, inl, inr, arith, append_assoc, length-append, encode_utf8, encode_utf8_all}
 use Rattle.std.proofs.lemmas.Bool.{cond_both, both_ways, or_parts, lt-ltb, and_parts, not-true, false≢true}
 use Rattle.std.proofs.lemmas.Bool.Decides.{nat_tests}

@@ -12,7 +12,7 @@ use Rattle.hcl_scan.specs.Lexeme.{comment_unit, quote_unit}
 use Rattle.hcl_scan.specs.Inner.HeredocToken.{here_open}
 use Rattle.hcl_scan.specs.Inner.NextToken.{id_continue_length, fraction_length, is_exponent_letter}
 
--- the byte at the front of a text is not this one
+-- the byte at the start of a text is not this one
 abbrev pub IsNot : ℕ → List ℕ → Type 0
 IsNot b t = (slice_index t 0 == b) ≡ false
 

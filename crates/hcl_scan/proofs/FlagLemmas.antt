@@ -78,7 +78,7 @@ id_flags b =
     no_letter : (b : ℕ) → 256 ≤ b → false ≡ is_ascii_id_continue b
     no_letter b past = grind (arith, nat_tests)
 
--- a table of bytes that pass, of which nothing is said past the last byte
+-- a table of bytes that pass, of which nothing is stated from 256 on
 passing : (low high : List ℕ) (passes : ℕ → Bool) → length high ≡ 16 → agree_below (has_flags low high) passes 256 ≡ true → (b : ℕ) → has_flags low high b ≡ true → passes b ≡ true
 passing low high passes size agree b has =
     elim (cases_lt b 256) [

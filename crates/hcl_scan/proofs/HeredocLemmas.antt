@@ -192,7 +192,7 @@ heredoc_stops name at_line_start (b ∷ rest) h =
     (λ _. cond_both (is_sigil b) _ 1 (λ n. n ≡ 0 → ((at_line_start && is_closing_line name (b ∷ rest)) ≡ true) ⊎ (b < 128))
     (λ e _. inr (grind (arith, nat_tests))) (λ _ k. absurd (omega arith))) h
 
--- a text may be cut before a closing line
+-- UTF-8 may be split before a closing line
 pub utf8_closing : (name s rest : List ℕ) → IsIdentifier name → IsUtf8 (s ++ rest) → is_closing_line name rest ≡ true → IsUtf8 rest
 utf8_closing name s rest ident u h =
     elim (closing_prefix name rest (identifier_some name ident).0 h) [

@@ -13,7 +13,7 @@ use Rattle.hcl_scan.proofs.TextLemmas.{first_1, first_2, utf8_tail}
 use Rattle.hcl_scan.proofs.HeredocLemmas.{identifier_some}
 use Rattle.hcl_scan.proofs.HeredocSound.{WordSplit, Words, words}
 
--- a marker at the front, as std tells it
+-- whether a marker is at the start, as std states it
 pub starts_with_bytes : (name t : List ℕ) → starts_with (λ a b. a == b) t name ≡ is_prefix_of name t
 starts_with_bytes [] [] = refl
 starts_with_bytes [] (b ∷ t) = refl

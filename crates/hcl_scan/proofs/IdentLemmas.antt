@@ -33,7 +33,7 @@ chars_ascii text at u h ascii =
     drop_more text at 0 h ∙ ap (λ (bs : List ℕ). bs ++ drop (at + 1) text) (sym (encode_ascii b ascii)) in
     (chars_past_char (drop at text) _ b u bytes, IsUtf8-past_char (drop at text) _ b u bytes)
 
--- past the end there is no character
+-- at the end of the text and after it there is no character
 pub chars_end : (text : List ℕ) (at : ℕ) → length text ≤ at → chars (drop at text) ≡ []
 chars_end text at h = ap chars (drop_all at text h) ∙ chars-nil
 

@@ -38,6 +38,7 @@ pub mod SoundWords
 pub mod Steps
 pub mod TableLemmas
 pub mod TextLemmas
+pub mod TokenCount
 pub mod TokenLemmas
 pub mod Unique
 pub mod UnitLemmas

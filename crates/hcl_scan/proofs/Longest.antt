@@ -64,7 +64,7 @@ pub token_no_whitespace : (mode : Mode) (t : List ℕ) (f : Kind × ℕ) → is_
 token_no_whitespace mode t f plain is =
     false_from_ne_true _ (λ is_white. let none = whitespace_none mode t (slice_index t 0) plain refl (whitespace_found (slice_index t 0) is_white) in absurd (cc))
 
--- a gap is as long as the blanks before a text that begins with none
+-- a gap is as long as the whitespace before a text that begins with none
 pub gap_is : (mode : Mode) (gap rest : List ℕ) → IsGap mode gap → (is_literal mode ≡ false → is_whitespace (slice_index rest 0) ≡ false) → length gap ≡ gap_length mode (gap ++ rest)
 gap_is mode gap rest is stop =
     elim (is_literal mode) as (λ b. is_literal mode ≡ b → length gap ≡ gap_length mode (gap ++ rest)) [

@@ -40,7 +40,7 @@ mark_prefix_utf8 text u =
       | false ↦ λ h. rw h u
     ] refl
 
--- the start of the cut
+-- the start of the tokenization
 pub started : (text : List ℕ) → IsUtf8 text → IsTokenizedTo text (mark_tokens text) (mark_length text) [] []
 started text u =
     elim (is_prefix_of byte_order_mark text) as (λ b. is_prefix_of byte_order_mark text ≡ b → IsTokenizedTo text (mark_tokens text) (mark_length text) [] []) [

@@ -1,4 +1,4 @@
--- A text has one cut or one fault.
+-- A text has one tokenization or one error.
 use Rattle.std.proofs.Common.{◌≡◌, ◌≢◌, ℕ, true, false, List, [], ◌∷◌, ◌++◌, length, drop, slice_index, IsUtf8, refl, sym, ap, ap₂, subst, ◌∙◌, inl, inr, arith, take_all}
 use Rattle.std.proofs.lemmas.Bool.{and_parts, both_ways}
 use Rattle.std.proofs.lemmas.List.Folds.{list_all-append}
@@ -42,7 +42,7 @@ gap_end last all gap s more kind g lexeme same =
     let rest : list_all is_whitespace (s ++ more) ≡ true = all_after gap (s ++ more) (subst (λ (x : List ℕ). list_all is_whitespace x ≡ true) same all) in
     both_ways _ (lexeme_no_whitespace Expression kind s more tt lexeme refl) (first_whitespace (s ++ more) (lexeme_some s more kind lexeme) rest)
 
--- pairs that are cut from the same text as far as can be
+-- pairs of the same text that is tokenized as far as possible
 same_tokenizations : (text : List ℕ) (ps qs : List Pair) (rest rest' : List ℕ) (left left' : List Mode) → IsUtf8 text
     → TokenizesPrefix text ps rest left → TokenizesPrefix text qs rest' left' → HasNoToken (mode_of left) rest → HasNoToken (mode_of left') rest' → Same ps qs rest rest' left left'
 same_tokenizations text ps qs rest rest' left left' u c d end end' =
@@ -88,7 +88,7 @@ no_tokenization_with_fault text fault pairs last (inl long) c = absurd (omega (a
 no_tokenization_with_fault text fault pairs last (inr (inl (at, e, short, v))) c = not_valid text at v c.utf8
 no_tokenization_with_fault text fault pairs last (inr (inr (short, u, stops))) c = no_tokenization_stop text fault pairs last stops c
 
--- the longest front that is UTF-8 has one length
+-- the longest prefix that is UTF-8 has one length
 one_valid : (text : List ℕ) (m n : ℕ) → IsValidUpTo text m → IsValidUpTo text n → m ≡ n
 one_valid text m n v w = utf8_len v ∙ sym (utf8_len w)
   where

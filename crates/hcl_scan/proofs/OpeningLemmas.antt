@@ -14,7 +14,7 @@ places_of-push openings o = ap (λ (x : List Opening). map (λ (p : Opening). p.
 
 pub ruleset opening_lemmas = (modes_of-push, places_of-push)
 
--- the last byte tells
+-- it depends only on the last byte whether a line begins
 pub line_start_after-end : (at_line_start : Bool) (t : List ℕ) → 0 < length t → is_line_start_after at_line_start t ≡ (slice_index t (length t - 1) == 10)
 line_start_after-end at_line_start t some =
     let n : ℕ = length t - 1 in

@@ -35,7 +35,7 @@ text_tokens t n is ends some =
 quote_at : (text : List ℕ) (from n : ℕ) → slice_index text (from + n) ≡ 34 → slice_index (drop from text) n ≡ 34
 quote_at text from n is = get_or-drop from text n 0 ∙ is
 
--- the cut goes on by a quote, text, and the quote that closes it
+-- the tokenization continues with a quote, text, and the quote that closes it
 pub text_more : (text : List ℕ) (tokens : List Span) (at : ℕ) (modes : List Mode) (places : List ℕ) (start first len : ℕ)
     → IsTokenizedTo text tokens at modes places
     → start ≡ at + gap_length (mode_of modes) (drop at text)
@@ -55,7 +55,7 @@ text_more text tokens at modes places start first len state start_is found is en
     let closes : quoted_token (drop (from + len) text) ≡ Some (QuoteClose, 1) = ap quoted_token (sym rest) ∙ both.1 in
     (one_more text two (from + len) (Quoted ∷ modes) (start ∷ places) (from + len) QuoteClose 1 lit (omega arith) closes).1
 
--- the cut goes on by a quote and the quote that closes it
+-- the tokenization continues with a quote and the quote that closes it
 pub empty_more : (text : List ℕ) (tokens : List Span) (at : ℕ) (modes : List Mode) (places : List ℕ) (start first : ℕ)
     → IsTokenizedTo text tokens at modes places
     → start ≡ at + gap_length (mode_of modes) (drop at text)
@@ -82,7 +82,7 @@ no_unit t ends = by_size (quote_unit false t) refl
         let none : ((slice_index t 0 == 34) || is_at_opening t) ≡ false = rw (begins.0, begins.1) refl in
         absurd (false≢true (sym none ∙ ends))
 
--- the cut goes on by quoted text
+-- the tokenization continues with quoted text
 pub literal_more : (text : List ℕ) (tokens : List Span) (at : ℕ) (modes : List Mode) (places : List ℕ) (len : ℕ)
     → Quoted ≡ mode_of modes
     → IsTokenizedTo text tokens at modes places
@@ -99,7 +99,7 @@ literal_more text tokens at (m ∷ ms) places len mode state is some =
     let more = (one_more text tokens at (Quoted ∷ ms) places at QuoteLit len there (omega arith) found).1 in
     subst (λ (x : Mode). IsTokenizedTo text (tokens ++ token_at at (at + len) QuoteLit ∷ []) (at + len) (x ∷ ms) places) mode more
 
--- the cut goes on by a token that leaves the openings as they are
+-- the tokenization continues with a token that leaves the openings as they are
 pub free_more : (text : List ℕ) (tokens : List Span) (at : ℕ) (modes : List Mode) (places : List ℕ) (start : ℕ) (kind : Kind) (len : ℕ)
     → IsTokenizedTo text tokens at modes places
     → start ≡ at + gap_length (mode_of modes) (drop at text)

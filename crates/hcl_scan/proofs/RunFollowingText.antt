@@ -189,7 +189,7 @@ skip_own (b ∷ w) z h =
       | false ↦ λ e. (rw e refl, rw e h)
     ] refl
 
--- whether a marker is there, and what follows it, up to a stop
+-- whether a marker is there, and what follows it, up to an LF, a `$` or a `%`
 marker_own : (name w z : List ℕ) → has_none name ≡ true → has_stop w ≡ true
     → (is_prefix_of name (w ++ z) ≡ is_prefix_of name w) × (is_prefix_of name w ≡ true → (drop (length name) (w ++ z) ≡ drop (length name) w ++ z) × (has_stop (drop (length name) w) ≡ true))
 marker_own [] w z none h = (refl, λ _. (refl, h))
@@ -211,7 +211,7 @@ ends_own (b ∷ []) z h =
     rw other refl
 ends_own (b ∷ c ∷ w) z h = refl
 
--- whether a line closes a heredoc depends only on what is up to a stop
+-- whether a line closes a heredoc depends only on what is up to an LF, a `$` or a `%`
 closing_own : (name w z : List ℕ) → has_none name ≡ true → has_stop w ≡ true → is_closing_line name (w ++ z) ≡ is_closing_line name w
 closing_own name w z none h =
     let first = skip_own w z h in
@@ -238,7 +238,7 @@ heredoc_at name at_line_start b y y' closes a =
       | false ↦ λ h. rw (h, closes) refl
     ] refl
 
--- no marker has a stop
+-- no marker has an LF, a `$` or a `%`
 stops_ascii : (b : ℕ) → 128 ≤ b → stops_line b ≡ false
 stops_ascii b h = grind (arith, nat_tests)
 

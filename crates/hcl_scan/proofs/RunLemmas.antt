@@ -1,4 +1,5 @@
--- Runs: what one unit more adds, that the longest run at the front is what run_length tells, and that it is a run.
+-- Runs: what one unit more adds, that run_length is the length of the longest run at the start,
+-- and that this is a run.
 use Rattle.std.proofs.Common.{◌≡◌, ℕ, zero, suc, ◌+◌, ◌-◌, ◌<◌, ◌≤◌, Bool, false, ◌==◌, List, [], ◌∷◌, ◌++◌, length, take, drop, slice_index, refl, sym, ap, ap₂, subst, ◌∙◌, arith, append_assoc, length-append, length-drop, take_at, drop_at, length-take-le, take-append-drop, drop-drop, get_or-drop}
 use Rattle.std.proofs.lemmas.Bool.Decides.{nat_tests}
 use Rattle.std.specs.List.{concat}
@@ -11,7 +12,7 @@ pub line_start_after-append : (at_line_start : Bool) (xs ys : List ℕ) → is_l
 line_start_after-append at_line_start [] ys = refl
 line_start_after-append at_line_start (x ∷ xs) ys = line_start_after-append (x == 10) xs ys
 
--- the last byte tells
+-- it depends only on the last byte
 pub line_start_after-last : (at_line_start : Bool) (t : List ℕ) (n : ℕ) → n < length t → is_line_start_after at_line_start (take (suc n) t) ≡ (slice_index t n == 10)
 line_start_after-last at_line_start [] n h = absurd (omega arith)
 line_start_after-last at_line_start (b ∷ t) zero h = refl

@@ -1,4 +1,4 @@
--- What the scanner finds at the front of a text is a lexeme of the mode.
+-- What the scanner finds at the start of a text is a lexeme of the mode.
 use Rattle.std.proofs.Common.{◌≡◌, ◌≢◌, ℕ, ◌<◌, true, false, not, ◌&&◌, cond, ◌==◌, List, [], ◌∷◌, length, drop, slice_index, IsUtf8, Some, None, refl, ap, subst, inl, inr, arith}
 use Rattle.std.proofs.lemmas.Bool.{cond_both, and_parts, or_cases}
 use Rattle.std.proofs.lemmas.Bool.Decides.{nat_tests}

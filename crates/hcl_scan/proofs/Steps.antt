@@ -1,4 +1,4 @@
--- The cut goes on by a token, ends with the text, or stops at a fault.
+-- The tokenization continues with a token, ends with the text, or stops at an error.
 use Rattle.std.proofs.Common.{◌≡◌, ◌≢◌, ℕ, suc, ◌+◌, ◌-◌, ◌<◌, ◌≤◌, Bool, true, false, List, [], ◌∷◌, ◌++◌, length, drop, take, slice_index, slice_range, IsUtf8, Some, None, IfSome, refl, sym, ap, subst, subst₂, ◌∙◌, arith, append-nil, append_assoc, length-append, length-drop, length-take-le, take-append-drop, drop-drop}
 use Rattle.std.proofs.lemmas.List.{drop_all}
 use Rattle.std.proofs.lemmas.List.Sums.{prefix_len-le-length}
@@ -67,7 +67,7 @@ gap_at text mode at start within u e =
       utf8 = utf8_after_whitespace (take (start - at) t) (drop start text) is_white.0 (subst IsUtf8 split u);
     }
 
--- the cut goes on by a token
+-- the tokenization continues with a token
 pub one_more : (text : List ℕ) (tokens : List Span) (at : ℕ) (modes : List Mode) (places : List ℕ) (start : ℕ) (kind : Kind) (len : ℕ)
     → IsTokenizedTo text tokens at modes places
     → start ≡ at + gap_length (mode_of modes) (drop at text)
@@ -135,7 +135,7 @@ pub expression_within : (closes : Bool) (text : List ℕ) (at : ℕ) → at ≤ 
 expression_within true text at within u found e = token_within Sequence text at tt within u found e
 expression_within false text at within u found e = token_within Expression text at tt within u found e
 
--- a lexeme at the front is not passed over
+-- a lexeme at the start is not skipped: some token is found there
 lexeme_found : (mode : Mode) (kind : Kind) (s rest : List ℕ) → HasMarker mode → IsLexeme mode kind s rest → (f : Kind × ℕ) × (token mode (s ++ rest) ≡ Some f)
 lexeme_found mode kind s rest m lexeme = by_found (token mode (s ++ rest)) refl (beats mode kind s rest m lexeme)
   where
@@ -156,11 +156,11 @@ prefix_then_not p (b ∷ t) h =
       | false ↦ λ k. rw k k
     ] refl
 
--- after the blanks there is no blank
+-- after the whitespace of a gap there is no more whitespace
 no_gap_after_gap : (mode : Mode) (t : List ℕ) → is_literal mode ≡ false → is_whitespace (slice_index (drop (gap_length mode t) t) 0) ≡ false
 no_gap_after_gap mode t plain = rw plain (prefix_then_not is_whitespace t refl)
 
--- the text is cut to its end
+-- the text is tokenized to its end
 pub finished : (text : List ℕ) (tokens : List Span) (at start : ℕ) (places : List ℕ) → length text ≤ MAX_TEXT → IsUtf8 text → IsTokenizedTo text tokens at [] places
     → start ≡ at + gap_length Expression (drop at text) → start ≡ length text → IsTokenization text (pairs_of text tokens) (drop at text)
 finished text tokens at start places short u c start_is end =
@@ -174,7 +174,7 @@ finished text tokens at start places short u c start_is end =
       whitespace = subst (λ (x : List ℕ). list_all is_whitespace x ≡ true) (sym all) g.whitespace.0;
     }
 
--- no token can be cut
+-- no further token is found
 pub stopped : (text : List ℕ) (tokens : List Span) (at start : ℕ) (modes : List Mode) (places : List ℕ) → IsTokenizedTo text tokens at modes places
     → start ≡ at + gap_length (mode_of modes) (drop at text) → token (mode_of modes) (drop start text) ≡ None → (modes ≡ [] → start ≢ length text)
     → EndsInFault text (fault_at (mode_of modes) (innermost_place modes places) start (drop start text))

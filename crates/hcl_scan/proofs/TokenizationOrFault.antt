@@ -1,4 +1,4 @@
--- Each text has a cut or a fault.
+-- Each text has a tokenization or an error.
 use Rattle.std.proofs.Common.{◌≡◌, ℕ, zero, suc, ◌+◌, ◌<◌, ◌≤◌, ◌⊎◌, List, [], ◌∷◌, ◌++◌, length, drop, slice_range, IsUtf8, Some, None, refl, ap, inl, inr, ⊎_elim, arith}
 use Rattle.std.proofs.lemmas.Bool.{cases_lt, cases_eq}
 use Rattle.std.specs.Str.Lossy.{utf8_valid_len}
@@ -18,14 +18,14 @@ use Rattle.hcl_scan.specs.Inner.TokenizedTo.{IsTokenizedTo}
 use Rattle.hcl_scan.proofs.MarkLemmas.{started}
 use Rattle.hcl_scan.proofs.Steps.{one_more, finished, stopped}
 
--- a text has a cut, or it has a fault
+-- a text has a tokenization, or it has an error
 abbrev HasTokenization : List ℕ → Type 0
 HasTokenization text = (pairs : List Pair) × (last : List ℕ) × IsTokenization text pairs last
 
 abbrev HasFault : List ℕ → Type 0
 HasFault text = (fault : ScanFault) × IsFault text fault
 
--- where no token can be cut the text ends, or stops at a fault
+-- where no token is found the text ends, or stops at an error
 at_end : (text : List ℕ) (tokens : List Span) (at start : ℕ) (modes : List Mode) (places : List ℕ) → length text ≤ MAX_TEXT → IsUtf8 text
     → IsTokenizedTo text tokens at modes places → start ≡ at + gap_length (mode_of modes) (drop at text) → token (mode_of modes) (drop start text) ≡ None
     → HasTokenization text ⊎ HasFault text
@@ -40,7 +40,7 @@ at_end text tokens at start (m ∷ modes) places short u c start_is none =
     no_modes : (m ∷ modes) ≡ [] → ⊥
     no_modes e = omega (arith, ap length e)
 
--- the cut goes on until then
+-- the tokenization continues up to there
 tokenization_continues : (fuel : ℕ) (text : List ℕ) (tokens : List Span) (at : ℕ) (modes : List Mode) (places : List ℕ) → length text ≤ MAX_TEXT → IsUtf8 text
     → IsTokenizedTo text tokens at modes places → length text < at + fuel → HasTokenization text ⊎ HasFault text
 tokenization_continues zero text tokens at modes places short u c enough = absurd (omega (arith, enough, c.within))

@@ -1,4 +1,4 @@
--- Pairs that are cut from a text as far as can be are the only ones.
+-- The pairs of a text that is tokenized as far as possible are the only ones.
 use Rattle.std.proofs.Common.{◌≡◌, ℕ, ◌<◌, true, List, [], ◌∷◌, ◌++◌, length, drop, take, IsUtf8, Some, refl, sym, ap, ap₂, subst, ◌∙◌, arith, take_at, drop_at}
 use Rattle.std.proofs.lemmas.Bool.{and_parts}
 use Rattle.std.proofs.lemmas.Bool.Decides.{nat_tests}
@@ -69,7 +69,7 @@ pub same_pair : (p q : Pair) → p.gap ≡ q.gap → p.kind ≡ q.kind → p.spe
 same_pair p q g k s =
     ap (λ (x : List ℕ). pair_of x p.kind p.spelling) g ∙ ap (λ (x : Kind). pair_of q.gap x p.spelling) k ∙ ap (pair_of q.gap q.kind) s
 
--- both are cut as far as can be
+-- both are tokenized as far as possible
 pub record Same (ps qs : List Pair) (rest rest' : List ℕ) (left left' : List Mode) : Type 0 where
   pub pairs : ps ≡ qs
   pub rests : rest ≡ rest'

@@ -1,4 +1,4 @@
--- Each gap and each token of a cut is UTF-8.
+-- Each gap and each token of a tokenization is UTF-8.
 use Rattle.std.proofs.Common.{◌≡◌, ℕ, true, false, List, [], ◌∷◌, ◌++◌, length, drop, IsUtf8, refl, sym, subst, take_at}
 use Rattle.std.proofs.lemmas.Str.{IsUtf8-take, IsCharBoundary-at_seam}
 use Rattle.hcl_token.specs.Tokens.{Pair, whole_text}

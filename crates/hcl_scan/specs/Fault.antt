@@ -3,6 +3,7 @@
 -- Elements.
 use Rattle.std.specs.Prelude.{◌≡◌, ◌≢◌, ℕ, suc, ◌+◌, ◌-◌, ◌<◌, ◌≤◌, false, ◌&&◌, if◌then◌else◌, List, [], ◌∷◌, ◌++◌, length, map, zip, drop, slice_index, IsUtf8, ◌==◌, ◌⊎◌}
 use Rattle.std.specs.Str.{IsValidUpTo}
+use Rattle.hcl_token.specs.Bytes.{star, slash, backslash}
 use Rattle.hcl_token.specs.declared.kind.Kind.{Kind}
 use Rattle.hcl_token.specs.Tokens.{Pair, whole_text}
 use Rattle.hcl_scan.specs.declared.fault.ScanFault.{ScanFault}
@@ -43,7 +44,8 @@ innermost_template (o ∷ openings) = if is_braces o.0 then innermost_template o
 -- outside of literal text
 abbrev pub token_fault : ℕ → List ℕ → ScanFault
 token_fault at rest =
-    if slice_index rest 0 == 47 && slice_index rest 1 == 42 then OpenComment at else BadCharacter at
+    if slice_index rest 0 == slash && slice_index rest 1 == star then OpenComment at
+    else BadCharacter at
 
 -- the error where no token begins: in this mode, whose innermost template begins at `opened`, at
 -- this place, with this text from there on
@@ -55,7 +57,7 @@ fault_at Braces opened at [] = OpenTemplate opened
 fault_at Braces opened at (b ∷ rest) = token_fault at (b ∷ rest)
 -- no escape after a `\`, a line end, or the end of the text
 fault_at Quoted opened at rest =
-    if slice_index rest 0 == 92 then BadEscape at else OpenString opened
+    if slice_index rest 0 == backslash then BadEscape at else OpenString opened
 -- the end of the text
 fault_at (Heredoc name at_line_start) opened at rest = OpenHeredoc opened
 

@@ -4,6 +4,7 @@ use Rattle.std.specs.Prelude.{◌≡◌, ◌≢◌, ℕ, suc, ◌≤◌, Bool, t
 use Rattle.std.specs.Char.{is_ascii_digit, is_ascii_hexdigit}
 use Rattle.std.specs.List.{list_all}
 use Rattle.std.specs.Str.{chars}
+use Rattle.hcl_token.specs.Bytes.{quote, star, slash, backslash, capital_e, capital_u, letter_e, letter_n, letter_r, letter_t, letter_u}
 use Rattle.hcl_token.specs.declared.kind.Kind.{Kind}
 use Rattle.hcl_token.specs.declared.kind.Kind.TheVariants.{Mark, LineEnd, LineComment, InlineComment, Identifier, Number, DotIndex, Plus, Minus, Star, Slash, Percent, And, Or, Bang, DoubleEqual, NotEqual, Less, Greater, LessEqual, GreaterEqual, Question, Colon, DoubleColon, Equal, FatArrow, OpenBrace, CloseBrace, OpenBracket, CloseBracket, OpenParen, CloseParen, Comma, Dot, Ellipsis, QuoteOpen, HereOpen, SeqClose, QuoteClose, InterpOpen, DirectiveOpen, QuoteLit, HereClose, HereLit}
 use Rattle.hcl_scan.specs.Runs.{UnitLength, IsRun, byte_unit}
@@ -43,11 +44,12 @@ comment_unit = byte_unit (λ b rest. not (is_at_line_end (b ∷ rest)))
 
 -- a byte at which no `*/` begins
 abbrev pub inline_unit : UnitLength
-inline_unit = byte_unit (λ b rest. not (b == 42 && slice_index rest 0 == 47))
+inline_unit = byte_unit (λ b rest. not (b == star && slice_index rest 0 == slash))
 
 -- n, r, t, `"` and `\`
 abbrev pub is_simple_escape : ℕ → Bool
-is_simple_escape e = e == 110 || e == 114 || e == 116 || e == 34 || e == 92
+is_simple_escape e =
+    e == letter_n || e == letter_r || e == letter_t || e == quote || e == backslash
 
 abbrev pub has_four_hex : List ℕ → Bool
 has_four_hex t = is_ascii_hexdigit (slice_index t 0) && is_ascii_hexdigit (slice_index t 1)
@@ -58,8 +60,9 @@ has_four_hex t = is_ascii_hexdigit (slice_index t 0) && is_ascii_hexdigit (slice
 abbrev pub escape_length : List ℕ → ℕ
 escape_length t =
     if is_simple_escape (slice_index t 0) then 1
-    else (if slice_index t 0 == 117 && has_four_hex (drop 1 t) then 5
-    else (if slice_index t 0 == 85 && (has_four_hex (drop 1 t) && has_four_hex (drop 5 t)) then 9
+    else (if slice_index t 0 == letter_u && has_four_hex (drop 1 t) then 5
+    else (if slice_index t 0 == capital_u && (has_four_hex (drop 1 t) && has_four_hex (drop 5 t))
+    then 9
     else 0))
 
 -- a unit of quoted text: an escape, `$${`, `%%{`, or any character but `"`, `\` and a line end, at
@@ -67,9 +70,9 @@ escape_length t =
 abbrev pub quote_unit : UnitLength
 quote_unit at_line_start [] = 0
 quote_unit at_line_start (b ∷ rest) =
-    if b == 92 then (if escape_length rest == 0 then 0 else suc (escape_length rest))
+    if b == backslash then (if escape_length rest == 0 then 0 else suc (escape_length rest))
     else (if is_sigil b then sigil_length b rest
-    else (if b == 34 then 0
+    else (if b == quote then 0
     else (if is_at_line_end (b ∷ rest) then 0 else 1)))
 
 -- ---- spellings
@@ -99,7 +102,7 @@ abbrev pub IsExponent : List ℕ → Type 0
 IsExponent s =
     (s ≡ [])
     ⊎ ((letter : ℕ) × (sign : List ℕ) × (digits : List ℕ) × (s ≡ letter ∷ (sign ++ digits))
-    × ((letter == 101 || letter == 69) ≡ true) × IsSign sign × IsTrue (is_decimal digits))
+    × ((letter == letter_e || letter == capital_e) ≡ true) × IsSign sign × IsTrue (is_decimal digits))
 
 abbrev pub IsLineEnd : List ℕ → Type 0
 IsLineEnd s = (s ≡ codes "\n") ⊎ (s ≡ codes "\r\n")
@@ -158,7 +161,8 @@ Spells mode DotIndex s rest =
     (digits : List ℕ) × (s ≡ codes "." ++ digits) × IsTrue (is_decimal digits)
 -- no operator directly before `*` or `/`
 Spells mode Slash s rest =
-    (fixed_spelling Slash ≡ Some s) × ((slice_index rest 0 == 42 || slice_index rest 0 == 47) ≡ false)
+    (fixed_spelling Slash ≡ Some s)
+    × ((slice_index rest 0 == star || slice_index rest 0 == slash) ≡ false)
 -- `<<` or `<<-`, the marker, and the end of the line
 Spells mode HereOpen s rest =
     (dash : List ℕ) × (name : List ℕ) × (end : List ℕ) × (s ≡ codes "<<" ++ (dash ++ (name ++ end)))

@@ -2,6 +2,7 @@
 -- HCL native syntax specification, Lexical Elements and Templates.
 use Rattle.std.specs.Prelude.{ℕ, ◌==◌, ◌||◌, Bool, true, false, not, List, [], ◌∷◌, take, drop, slice_index, if◌then◌else◌}
 use Rattle.std.specs.List.{prefix_len}
+use Rattle.hcl_token.specs.Bytes.{line_feed, carriage_return, minus}
 use Rattle.hcl_token.specs.declared.kind.Kind.{Kind}
 use Rattle.hcl_token.specs.declared.kind.Kind.TheVariants.{OpenBrace, CloseBrace, QuoteOpen, QuoteClose, HereOpen, HereClose, HereLit, InterpOpen, DirectiveOpen, SeqClose}
 use Rattle.hcl_scan.specs.Runs.{is_line_start_after}
@@ -56,8 +57,8 @@ is_at_line_start _ = false
 -- the marker that a heredoc's opening names: what is between `<<` or `<<-` and the line end
 abbrev pub marker_of : List ℕ → List ℕ
 marker_of spelling =
-    let name = drop (if slice_index spelling 2 == 45 then 3 else 2) spelling in
-    take (prefix_len (λ b. not (b == 10 || b == 13)) name) name
+    let name = drop (if slice_index spelling 2 == minus then 3 else 2) spelling in
+    take (prefix_len (λ b. not (b == line_feed || b == carriage_return)) name) name
 
 -- the mode of the heredoc after this piece of its text
 abbrev pub after_literal : List ℕ → Mode → Mode

@@ -2,6 +2,7 @@
 -- begins, 0 if it begins with none. The length may depend on whether a line begins there.
 use Rattle.std.specs.Prelude.{◌≡◌, ℕ, ◌<◌, ◌==◌, Bool, List, [], ◌∷◌, ◌++◌, length, if◌then◌else◌, ⊤}
 use Rattle.std.specs.List.{concat}
+use Rattle.hcl_token.specs.Bytes.{line_feed}
 
 abbrev pub UnitLength : Type 0
 UnitLength = Bool → List ℕ → ℕ
@@ -9,7 +10,7 @@ UnitLength = Bool → List ℕ → ℕ
 -- whether a line begins after a text: it ends in LF, or it is empty and a line begins before it
 abbrev pub is_line_start_after : Bool → List ℕ → Bool
 is_line_start_after at_line_start [] = at_line_start
-is_line_start_after at_line_start (b ∷ t) = is_line_start_after (b == 10) t
+is_line_start_after at_line_start (b ∷ t) = is_line_start_after (b == line_feed) t
 
 -- these are consecutive units, with rest after them
 abbrev pub AreUnitsOf : UnitLength → Bool → List (List ℕ) → List ℕ → Type 0

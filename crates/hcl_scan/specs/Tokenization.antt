@@ -9,9 +9,9 @@ use Rattle.hcl_scan.specs.Characters.{is_whitespace, is_prefix_of}
 use Rattle.hcl_scan.specs.Modes.{Mode, mode_of, is_literal, modes_after}
 use Rattle.hcl_scan.specs.Lexeme.{IsLongest}
 
--- U+FEFF
+-- U+FEFF in UTF-8
 abbrev pub byte_order_mark : List ℕ
-byte_order_mark = 239 ∷ 187 ∷ 191 ∷ []
+byte_order_mark = 0xef ∷ 0xbb ∷ 0xbf ∷ []
 
 -- the byte order mark at the start of a text is a token; nothing where there is none
 abbrev pub mark_prefix : List ℕ → List Pair

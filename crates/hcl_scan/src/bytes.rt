@@ -1,4 +1,5 @@
-//! Bytes of a text, and the pieces of it that single bytes delimit.
+//! Bytes of a text, and the pieces of it that single bytes delimit. A `_bytewise`
+//! function is the plain form; what takes 16 bytes at a time before it is for speed alone.
 
 ghost use Rattle.std.specs.Prelude.{◌≡◌, ◌+◌, ◌<◌, ◌≤◌, length, drop, slice_index, slice_range};
 ghost use Rattle.std.specs.List.{prefix_len};
@@ -29,21 +30,22 @@ static CLASS: [u8; 256] = *b"\
     44444444444444444444444444444444\
     44444444444444444444444444444444";
 
-/// An ASCII letter or `_`.
+/// Whether a byte is an ASCII letter or `_`.
 pub fn is_letter(b: u8) -> bool
     ensures { result ≡ is_letter b }
 {
     CLASS[b as usize] & LETTER != 0
 }
 
-/// An ASCII letter or digit, `_` or `-`.
+/// Whether a byte is an ASCII letter or digit, `_` or `-`.
 pub fn is_ascii_id_continue(b: u8) -> bool
     ensures { result ≡ is_ascii_id_continue b }
 {
     CLASS[b as usize] & ID_CONTINUE != 0
 }
 
-/// Neither `"`, `$`, `%`, `\`, LF nor CR.
+/// Whether a byte is neither `"`, `$`, `%`, `\`, LF nor CR: a unit of quoted text whatever follows
+/// it.
 pub fn is_ordinary_quoted(b: u8) -> bool
     ensures { result ≡ is_ordinary_quoted b }
 {
@@ -67,7 +69,7 @@ pub fn is_at_line_end(text: &[u8], at: usize) -> bool
     b == b'\n' || (b == b'\r' && byte_at(text, at + 1) == b'\n')
 }
 
-/// Returns the bytes between two places.
+/// Returns the bytes of a text between two places.
 pub fn slice(text: &[u8], from: usize, to: usize) -> &[u8]
     requires ordered { from ≤ to }
     requires within { to ≤ length text.now }
@@ -76,6 +78,9 @@ pub fn slice(text: &[u8], from: usize, to: usize) -> &[u8]
     &text[from..to]
 }
 
+/// Whether a byte is a space or a tab.
+///
+/// HCL native syntax specification, Comments and Whitespace.
 fn is_whitespace(b: u8) -> bool
     ensures { result ≡ is_whitespace b }
 {
@@ -113,7 +118,8 @@ pub fn skip_whitespace(text: &[u8], from: usize) -> (usize, u8)
     }
 }
 
-/// `skip_whitespace` after the first space or tab. Most often there is one alone.
+/// Returns what `skip_whitespace` does, after the first space or tab. Most often there is one
+/// alone.
 fn skip_more_whitespace(text: &[u8], from: usize) -> (usize, u8)
     requires { from ≤ length text.now }
     ensures value { result.0 ≡ from + prefix_len is_whitespace (drop from text.now) }
@@ -129,7 +135,7 @@ fn skip_more_whitespace(text: &[u8], from: usize) -> (usize, u8)
     }
 }
 
-/// `skip_whitespace` after two spaces or tabs, of which many lines have no more.
+/// Returns what `skip_whitespace` does, after two spaces or tabs. Many lines have no more of them.
 fn skip_indentation(text: &[u8], from: usize) -> (usize, u8)
     requires { from ≤ length text.now }
     ensures value { result.0 ≡ from + prefix_len is_whitespace (drop from text.now) }
@@ -159,7 +165,7 @@ fn skip_spaces(text: &[u8], from: usize) -> usize
     }
 }
 
-/// `skip_whitespace`, byte by byte.
+/// Returns what `skip_whitespace` does, byte by byte.
 fn skip_whitespace_bytewise(text: &[u8], from: usize) -> (usize, u8)
     requires { from ≤ length text.now }
     ensures value { result.0 ≡ from + prefix_len is_whitespace (drop from text.now) }

@@ -2,6 +2,7 @@
 
 ghost use Rattle.std.specs.Prelude.{◌≡◌};
 
+use hcl_token::MAX_TEXT;
 use std::alloc::{AllocError, AllocFailed};
 use thiserror::Error;
 
@@ -12,7 +13,7 @@ use thiserror::Error;
 #[derive(Clone, Copy, Debug, PartialEq, Eq, Error)]
 pub enum ScanFault {
     /// The text has more than `MAX_TEXT` bytes.
-    #[error("the text has more than 16777216 bytes")]
+    #[error("the text has more than {} bytes", MAX_TEXT)]
     TooLong,
     /// The first byte of the first ill-formed sequence.
     #[error("byte {at}: not UTF-8")]

@@ -35,7 +35,7 @@ fn is_marker_at(text: &[u8], at: usize, marker: &[u8]) -> bool
     }
 }
 
-/// `is_marker_at`, by the whole marker.
+/// Whether the marker is at the place, by all its bytes.
 #[inline(never)]
 fn has_marker_at(text: &[u8], at: usize, marker: &[u8]) -> bool
     requires { at ≤ length text.now }
@@ -68,7 +68,7 @@ fn is_closing_line(text: &[u8], at: usize, marker: &[u8]) -> bool
     is_at_line_end_or_eof(text, end)
 }
 
-/// Returns how many bytes the closing line has that begins at the place.
+/// Returns the number of bytes of the closing line that begins at the place, if one does.
 #[inline(never)]
 fn closing_line_len(text: &[u8], at: usize, marker: &[u8]) -> Option<usize>
     requires { at ≤ length text.now }
@@ -87,7 +87,7 @@ fn closing_line_len(text: &[u8], at: usize, marker: &[u8]) -> Option<usize>
     }
 }
 
-/// `closing_line_len` if a line of the heredoc begins at the place.
+/// Returns what `closing_line_len` does if a line of the heredoc begins at the place, else none.
 #[inline(always)]
 fn closing_token_len(text: &[u8], at: usize, marker: &[u8], at_line_start: bool) -> Option<usize>
     requires { at ≤ length text.now }
@@ -101,7 +101,7 @@ fn closing_token_len(text: &[u8], at: usize, marker: &[u8], at_line_start: bool)
     }
 }
 
-/// Text of a heredoc.
+/// A unit of the text of the heredoc with this marker.
 #[derive(Clone, Copy)]
 struct HeredocUnit<'t> {
     marker: &'t [u8],
@@ -112,7 +112,7 @@ impl<'t> Unit for HeredocUnit<'t> {
 
     #[tactic(auto, using(crate::proofs::HeredocPlaces::heredoc_unit_at))]
     fn len_at(&self, text: &[u8], at: usize, at_line_start: bool) -> usize {
-        // the trait requires this test; `text_end` calls this at places where no line begins
+        // for the proof: the trait requires this test; `text_end` calls this where no line begins
         if closing_token_len(text, at, self.marker, at_line_start).is_some() {
             return 0;
         }
@@ -148,6 +148,7 @@ fn text_end(text: &[u8], from: usize, at_line_start: bool, marker: &[u8]) -> usi
     let unit = HeredocUnit { marker };
     let mut at = from;
     let mut is_line_start = at_line_start;
+    // for the proof: the label names the loop's invariant
     'lines: loop {
         if closes_at(text, at, marker, is_line_start) {
             return at;
@@ -170,6 +171,9 @@ fn text_end(text: &[u8], from: usize, at_line_start: bool, marker: &[u8]) -> usi
     }
 }
 
+/// Whether the opening of a template sequence is at the place: `${` or `%{`.
+///
+/// HCL native syntax specification, Template Interpolations and Template Directives.
 pub fn is_at_opening(text: &[u8], at: usize) -> bool
     requires { at ≤ length text.now }
     ensures { result ≡ is_at_opening (drop at text.now) }
@@ -177,7 +181,8 @@ pub fn is_at_opening(text: &[u8], at: usize) -> bool
     is_sigil(byte_at(text, at)) && byte_at(text, at + 1) == b'{'
 }
 
-/// Returns the opening of a template sequence at a place where there is one.
+/// Returns the opening of a template sequence at a place where there is one: its kind, and the
+/// number of its bytes, of which a `~` is one.
 pub fn opening(text: &[u8], at: usize) -> (Kind, usize)
     requires { at ≤ length text.now }
     ensures { result ≡ opening (drop at text.now) }
@@ -229,7 +234,7 @@ pub fn heredoc_token(
     }
 }
 
-/// Returns how many bytes the line end at the place has, 0 if there is none.
+/// Returns the number of bytes of the line end at the place, 0 if there is none.
 fn line_end_len(text: &[u8], at: usize) -> usize
     requires { at ≤ length text.now }
     ensures value { result ≡ line_end_length (drop at text.now) }
@@ -245,7 +250,7 @@ fn line_end_len(text: &[u8], at: usize) -> usize
     }
 }
 
-/// Returns how many bytes `<<` or `<<-` has.
+/// Returns the number of bytes of the `<<` or `<<-` at the place.
 fn heredoc_start_len(text: &[u8], at: usize) -> usize
     requires { at ≤ length text.now }
     ensures { result ≡ heredoc_start_length (drop at text.now) }
@@ -253,7 +258,8 @@ fn heredoc_start_len(text: &[u8], at: usize) -> usize
     if byte_at(text, at + 2) == b'-' { 3 } else { 2 }
 }
 
-/// Returns the opening whose marker is `before` bytes after the place, if a line end follows it.
+/// Returns the opening of a heredoc whose marker is `before` bytes after the place, if a line end
+/// follows the marker.
 fn open_with_marker(text: &str, at: usize, before: usize) -> Option<(Kind, usize)>
     requires within { at + before ≤ length text.now }
     requires utf8 { IsUtf8 (drop (at + before) text.now) }
@@ -278,6 +284,7 @@ fn open_with_marker(text: &str, at: usize, before: usize) -> Option<(Kind, usize
     }
 }
 
+/// Whether `<<` is at the place.
 pub fn is_at_heredoc_start(text: &[u8], at: usize) -> bool
     requires { at ≤ length text.now }
     ensures { result ≡ is_at_heredoc_start (drop at text.now) }
@@ -285,7 +292,10 @@ pub fn is_at_heredoc_start(text: &[u8], at: usize) -> bool
     byte_at(text, at) == b'<' && byte_at(text, at + 1) == b'<'
 }
 
-/// Returns the opening of a heredoc at the place.
+/// Returns the opening of a heredoc at the place, if there is one: `<<` or `<<-`, the marker, and
+/// the line end.
+///
+/// HCL native syntax specification, Template Expressions.
 pub fn here_open(text: &str, at: usize) -> Option<(Kind, usize)>
     requires within { at ≤ length text.now }
     requires utf8 { IsUtf8 (drop at text.now) }

@@ -1,4 +1,5 @@
-//! Identifiers.
+//! Identifiers. A `_bytewise` function is the plain form; `_of_16` is for speed alone: it passes 16
+//! bytes at a time.
 
 ghost use Rattle.std.specs.Prelude.{◌≡◌, ◌∷◌, ◌+◌, ◌<◌, ◌≤◌, length, drop, true, false, Some, IsUtf8, slice_index};
 ghost use Rattle.std.specs.Char.{len_utf8};
@@ -12,7 +13,7 @@ use crate::sixteen::count_id_bytes;
 use hcl_token::Kind;
 use unicode_ident::{is_xid_continue, is_xid_start};
 
-/// The character at a place.
+/// Returns the character at a place.
 fn char_at(text: &str, at: usize) -> char
     requires within { at < length text.now }
     requires utf8 { IsUtf8 (drop at text.now) }
@@ -25,26 +26,33 @@ fn char_at(text: &str, at: usize) -> char
     rest.chars().next().unwrap()
 }
 
+/// Whether a character begins an identifier: XID_Start (Unicode Standard Annex #31), or `_`.
+///
+/// HCL native syntax specification, Identifiers; the `_` is this project's choice.
 fn is_id_start(c: char) -> bool
     ensures { result ≡ is_id_start c }
 {
     is_xid_start(c) | (c == '_')
 }
 
+/// Whether a character continues an identifier: XID_Continue (Unicode Standard Annex #31), or `-`.
+///
+/// HCL native syntax specification, Identifiers.
 fn is_id_continue(c: char) -> bool
     ensures { result ≡ is_id_continue c }
 {
     is_xid_continue(c) | (c == '-')
 }
 
-/// A letter, `_`, or the first byte of a character that is not ASCII.
+/// Whether a byte is an ASCII letter, `_`, or the first byte of a character that is not ASCII.
 pub fn is_word_start(b: u8) -> bool
     ensures { result ≡ is_word_start b }
 {
     b.is_ascii_alphabetic() | (b == b'_') | (128 <= b)
 }
 
-/// How many of the 16 bytes at a place continue an identifier, up to the first that does not.
+/// Returns how many of the 16 bytes at a place continue an identifier, up to the first that does
+/// not.
 #[inline(always)]
 fn count_id_bytes_of_16(text: &str, at: usize) -> usize
     requires within { at + 16 ≤ length text.now }
@@ -59,7 +67,7 @@ fn count_id_bytes_of_16(text: &str, at: usize) -> usize
     count_id_bytes(text.as_bytes(), at)
 }
 
-/// The end of the ASCII characters from a place on that continue an identifier.
+/// Returns the end of the ASCII characters from a place on that continue an identifier.
 fn ascii_id_end(text: &str, from: usize) -> usize
     requires within { from ≤ length text.now }
     requires utf8 { IsUtf8 (drop from text.now) }
@@ -80,7 +88,7 @@ fn ascii_id_end(text: &str, from: usize) -> usize
     ascii_id_end_bytewise(text, at)
 }
 
-/// `ascii_id_end`, byte by byte.
+/// Returns what `ascii_id_end` does, byte by byte.
 fn ascii_id_end_bytewise(text: &str, from: usize) -> usize
     requires within { from ≤ length text.now }
     requires utf8 { IsUtf8 (drop from text.now) }
@@ -98,7 +106,7 @@ fn ascii_id_end_bytewise(text: &str, from: usize) -> usize
     at
 }
 
-/// The end of the characters from a place on that continue an identifier.
+/// Returns the end of the characters from a place on that continue an identifier.
 #[inline(always)]
 pub fn id_end(text: &str, from: usize) -> usize
     requires within { from ≤ length text.now }
@@ -115,7 +123,7 @@ pub fn id_end(text: &str, from: usize) -> usize
     }
 }
 
-/// `id_end` where not all characters are ASCII.
+/// Returns what `id_end` does, where not all characters are ASCII.
 #[cold]
 #[inline(never)]
 fn unicode_id_end(text: &str, from: usize) -> usize
@@ -136,7 +144,8 @@ fn unicode_id_end(text: &str, from: usize) -> usize
     at
 }
 
-/// How many bytes the identifier has that begins with a letter at the place.
+/// Returns the number of bytes of the identifier that begins with an ASCII letter or `_` at the
+/// place.
 #[inline(always)]
 pub fn word_len(text: &str, at: usize) -> usize
     requires within { at < length text.now }
@@ -147,7 +156,10 @@ pub fn word_len(text: &str, at: usize) -> usize
     id_end(text, at + 1) - at
 }
 
-/// The identifier at a place where a word begins, as its kind and its length.
+/// Returns the identifier at the place where a word begins, as its kind and its length in bytes;
+/// none if its first character begins no identifier.
+///
+/// HCL native syntax specification, Identifiers.
 #[inline(never)]
 pub fn identifier(text: &str, at: usize) -> Option<(Kind, usize)>
     requires within { at < length text.now }

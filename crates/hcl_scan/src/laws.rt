@@ -27,8 +27,9 @@ pub fn one_fault()
         → fault ≡ other }
 {}
 
-/// Gaps and tokens that follow the modes, leave no opening open, are within the limit and have no
-/// empty gap between two tokens that join, are those of the text that they make.
+/// Gaps and tokens are those of the text that they make, if they follow the modes and leave no
+/// opening open, no gap between two tokens that join is empty, and the text has at most `MAX_TEXT`
+/// bytes.
 pub fn writes_back()
     ensures { (pairs : List Pair) (last : List ℕ) → Follows pairs last [] → AreApart pairs
         → length (whole_text pairs last) ≤ MAX_TEXT
@@ -41,13 +42,14 @@ pub fn tokenization_follows_modes()
         → Follows pairs last [] }
 {}
 
-/// If gaps and tokens follow the modes, each gap is allowed between its tokens.
+/// Each gap is allowed between its tokens, if gaps and tokens follow the modes.
 pub fn gaps_of()
     ensures { (pairs : List Pair) (last : List ℕ) → Follows pairs last []
         → AreAllowedGaps false pairs last }
 {}
 
-/// Tokens that follow the modes do so with other gaps, if each is allowed between its tokens.
+/// Tokens that follow the modes do so with other gaps, if each of these is allowed between its
+/// tokens and is not empty between two that join.
 pub fn other_gaps()
     ensures { (pairs others : List Pair) (last other : List ℕ) → Follows pairs last []
         → tokens_of others ≡ tokens_of pairs

@@ -22,5 +22,5 @@ mod token;
 mod tokenize;
 
 pub use fault::ScanFault;
-pub use hcl_token::{Item, Kind, Lines, MAX_TEXT, Place, Places, Span, Span as Token, TokenList};
+pub use hcl_token::{Item, Kind, Lines, MAX_TEXT, Place, Places, Span, TokenList};
 pub use scanned::{Scanned, scan, scan_in};

@@ -101,7 +101,7 @@ pub fn mode_of<'t>(openings: &[Opening<'t>]) -> Mode<'t>
     }
 }
 
-/// Directly in a template sequence, or in braces of it.
+/// Whether a place of this mode is directly in a template sequence, or in braces of it.
 fn is_in_sequence(mode: Mode<'_>) -> bool
     ensures { result ≡ is_in_sequence (mode_view mode.entry) }
 {
@@ -111,7 +111,7 @@ fn is_in_sequence(mode: Mode<'_>) -> bool
     }
 }
 
-/// After a `{` in a template sequence.
+/// Whether a place of this mode is after a `{` in a template sequence.
 fn is_braces(mode: Mode<'_>) -> bool
     ensures { result ≡ is_braces (mode_view mode.entry) }
 {
@@ -121,7 +121,7 @@ fn is_braces(mode: Mode<'_>) -> bool
     }
 }
 
-/// Whether a line of the heredoc begins here.
+/// Whether a place of this mode is at the start of a line of a heredoc.
 fn is_at_line_start(mode: Mode<'_>) -> bool
     ensures { result ≡ is_at_line_start (mode_view mode.entry) }
 {
@@ -134,7 +134,8 @@ fn is_at_line_start(mode: Mode<'_>) -> bool
     }
 }
 
-/// The heredoc, at a place where a line of it begins or not.
+/// Returns the mode of a heredoc at a place where a line of it begins or not; any other mode as it
+/// is.
 fn with_line_start<'t>(mode: Mode<'t>, at_line_start: bool) -> Mode<'t>
     ensures { mode_view result ≡ with_line_start at_line_start (mode_view mode.entry) }
 {
@@ -173,14 +174,14 @@ fn marker_of(spelling: &[u8]) -> &[u8]
     }
 }
 
-/// Neither LF nor CR.
+/// Whether a byte is neither LF nor CR.
 fn is_not_line_break(b: u8) -> bool
     ensures { result ≡ is_not_line_break b }
 {
     !((b == b'\n') | (b == b'\r'))
 }
 
-/// The first LF or CR from a place on.
+/// Returns the place of the first LF or CR from a place on, or the end of the text.
 fn marker_end(text: &[u8], from: usize) -> usize
     requires { from ≤ length text.now }
     ensures value { result ≡ from + prefix_len is_not_line_break (drop from text.now) }
@@ -193,7 +194,11 @@ fn marker_end(text: &[u8], from: usize) -> usize
     at
 }
 
-/// Adds an opening.
+/// Adds an opening whose token begins at byte `at`.
+///
+/// # Errors
+///
+/// Returns `AllocError` if memory runs out.
 #[tactic(auto, using(crate::proofs::OpeningLemmas::opening_lemmas))]
 fn push<'t>(openings: &mut Vec<Opening<'t>>, at: usize, mode: Mode<'t>) -> Result<(), AllocError>
     ensures modes { OnOk result
@@ -206,7 +211,7 @@ fn push<'t>(openings: &mut Vec<Opening<'t>>, at: usize, mode: Mode<'t>) -> Resul
     Ok(())
 }
 
-/// Closes the innermost opening.
+/// Removes the innermost opening, if there is one.
 #[tactic(auto, using(crate::proofs::OpeningLemmas::opening_lemmas))]
 fn pop<'t>(openings: &mut Vec<Opening<'t>>)
     ensures modes { modes_of openings.new.items ≡ drop 1 (modes_of openings.old.items) }
@@ -215,7 +220,11 @@ fn pop<'t>(openings: &mut Vec<Opening<'t>>)
     let _ = openings.pop();
 }
 
-/// The innermost opening, if it is a heredoc, goes on where a line of it begins or not.
+/// Updates the innermost opening, if it is a heredoc, at a place where a line of it begins or not.
+///
+/// # Errors
+///
+/// Returns `AllocError` if memory runs out.
 #[tactic(auto, using(crate::proofs::OpeningLemmas::opening_lemmas))]
 fn set_line_start<'t>(
     openings: &mut Vec<Opening<'t>>,
@@ -226,6 +235,7 @@ fn set_line_start<'t>(
         ≡ with_line_start_in at_line_start (modes_of openings.old.items)) }
     ensures places { OnOk result (places_of openings.new.items ≡ places_of openings.old.items) }
 {
+    // for the proof: popped and pushed, by the clauses on the list of both calls
     match openings.pop() {
         Some(opening) => push(
             openings,
@@ -236,7 +246,11 @@ fn set_line_start<'t>(
     }
 }
 
-/// Opens a template sequence.
+/// Adds a template sequence that begins at byte `at`.
+///
+/// # Errors
+///
+/// Returns `AllocError` if memory runs out.
 #[inline(always)]
 fn open_sequence<'t>(
     openings: &mut Vec<Opening<'t>>,
@@ -256,7 +270,11 @@ fn open_sequence<'t>(
     }
 }
 
-/// `open_sequence` in a heredoc: no line begins after it.
+/// Adds a template sequence in a heredoc, where no line begins after it.
+///
+/// # Errors
+///
+/// Returns `AllocError` if memory runs out.
 #[inline(never)]
 fn open_sequence_in_heredoc<'t>(
     openings: &mut Vec<Opening<'t>>,
@@ -272,7 +290,11 @@ fn open_sequence_in_heredoc<'t>(
     push(openings, at, Mode::Sequence)
 }
 
-/// Opens a heredoc, whose marker is in the spelling.
+/// Adds a heredoc that begins at byte `at`, with the marker that its spelling names.
+///
+/// # Errors
+///
+/// Returns `AllocError` if memory runs out.
 #[inline(never)]
 fn open_heredoc<'t>(
     openings: &mut Vec<Opening<'t>>,
@@ -298,6 +320,10 @@ fn open_heredoc<'t>(
 }
 
 /// Updates the innermost opening, a heredoc, after a piece of its text.
+///
+/// # Errors
+///
+/// Returns `AllocError` if memory runs out.
 #[inline(never)]
 fn continue_heredoc<'t>(openings: &mut Vec<Opening<'t>>, piece: &[u8]) -> Result<(), AllocError>
     ensures modes { OnOk result
@@ -331,7 +357,8 @@ pub fn can_change_openings(kind: Kind) -> bool
     )
 }
 
-/// `can_change_openings` in a mode: outside of every template braces change nothing.
+/// Whether a token of the kind can do anything to the openings in a mode: outside of every template
+/// braces can't.
 #[inline(always)]
 pub fn can_change_openings_in(mode: Mode<'_>, kind: Kind) -> bool
     ensures modes { (spelling : List ℕ) (modes : List spec.Mode)
@@ -347,8 +374,12 @@ pub fn can_change_openings_in(mode: Mode<'_>, kind: Kind) -> bool
     }
 }
 
-/// Updates the openings for a token of this kind and spelling that begins at a place, and the
-/// region.
+/// Updates the openings, and the region after the last of them, for a token of this kind and
+/// spelling that begins at byte `at`.
+///
+/// # Errors
+///
+/// Returns `AllocError` if memory runs out.
 pub fn update_openings<'t>(
     openings: &mut Vec<Opening<'t>>,
     region: &mut Region,
@@ -405,7 +436,8 @@ pub fn update_openings<'t>(
     Ok(())
 }
 
-/// Returns where the innermost template, or template sequence, begins.
+/// Returns where the innermost template, or template sequence, begins, in bytes from 0; 0 if there
+/// is none.
 pub fn innermost_template_start(openings: &[Opening<'_>]) -> usize
     ensures { result ≡ innermost_place (modes_of openings.now) (places_of openings.now) }
 {

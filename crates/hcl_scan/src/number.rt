@@ -1,4 +1,4 @@
-//! Numbers.
+//! Numbers. `short_number_len` is for speed alone: it returns what `number_len` does.
 
 ghost use Rattle.std.specs.Prelude.{◌≡◌, ◌==◌, ◌&&◌, ◌+◌, ◌≤◌, not, length, drop};
 ghost use Rattle.std.specs.Char.{is_ascii_digit};
@@ -7,7 +7,7 @@ ghost use Rattle.hcl_scan.specs.Inner.NextToken.{is_sign, is_exponent_letter, fr
 use crate::bytes::{byte_at, digits_end};
 use crate::sixteen::count_digits;
 
-/// Returns how many bytes the `.` and the digits at a place have, 0 if there are none.
+/// Returns the number of bytes of the `.` and the digits at a place, 0 if there are none.
 fn fraction_len(text: &[u8], at: usize) -> usize
     requires { at ≤ length text.now }
     ensures value { result ≡ fraction_length (drop at text.now) }
@@ -20,19 +20,21 @@ fn fraction_len(text: &[u8], at: usize) -> usize
     }
 }
 
+/// Whether a byte is `+` or `-`.
 fn is_sign(b: u8) -> bool
     ensures { result ≡ is_sign b }
 {
     (b == b'+') | (b == b'-')
 }
 
+/// Whether a byte is `e` or `E`.
 fn is_exponent_letter(b: u8) -> bool
     ensures { result ≡ is_exponent_letter b }
 {
     (b == b'e') | (b == b'E')
 }
 
-/// Returns how many bytes the exponent at a place has, 0 if there is none.
+/// Returns the number of bytes of the exponent at a place, 0 if there is none.
 fn exponent_len(text: &[u8], at: usize) -> usize
     requires { at ≤ length text.now }
     ensures value { result ≡ exponent_length (drop at text.now) }
@@ -51,7 +53,9 @@ fn exponent_len(text: &[u8], at: usize) -> usize
     }
 }
 
-/// Returns how many bytes the number at a place has, 0 if there is none.
+/// Returns the number of bytes of the number at a place, 0 if there is none.
+///
+/// HCL native syntax specification, Numeric Literals.
 #[inline(never)]
 pub fn number_len(text: &[u8], at: usize) -> usize
     requires { at ≤ length text.now }
@@ -63,7 +67,7 @@ pub fn number_len(text: &[u8], at: usize) -> usize
     letter + exponent_len(text, letter) - at
 }
 
-/// Whether no number goes on at a byte.
+/// Whether a byte continues no number: it is neither a digit, `.`, `e` nor `E`.
 fn ends_number(b: u8) -> bool
     ensures { result
         ≡ (not (is_ascii_digit b) && (not (b == 46) && not (is_exponent_letter b))) }
@@ -71,7 +75,7 @@ fn ends_number(b: u8) -> bool
     !(b.is_ascii_digit() | ((b == b'.') | is_exponent_letter(b)))
 }
 
-/// `number_len`, without a call where the number is whole and short, as most are.
+/// Returns what `number_len` does, without a call if the number is whole and short, as most are.
 #[inline(always)]
 pub fn short_number_len(text: &[u8], at: usize) -> usize
     requires { at ≤ length text.now }

@@ -21,7 +21,7 @@ pub fn operator(first: u8, second: u8, third: u8) -> Option<(Kind, usize)>
     }
 }
 
-/// An operator of one byte, of which no other begins with that byte.
+/// Returns the operator of one byte with which no other begins, and its length.
 fn single(first: u8) -> Option<(Kind, usize)>
     ensures { result ≡ single first }
 {
@@ -41,7 +41,7 @@ fn single(first: u8) -> Option<(Kind, usize)>
     }
 }
 
-/// One of the operators of which several begin with the same byte.
+/// Returns one of the operators of which several begin with the same byte, and its length.
 fn compound(first: u8, second: u8, third: u8) -> Option<(Kind, usize)>
     ensures { result ≡ compound first second third }
 {
@@ -65,7 +65,7 @@ fn compound(first: u8, second: u8, third: u8) -> Option<(Kind, usize)>
     }
 }
 
-/// An operator that begins with `=`.
+/// Returns the operator that begins with `=`, by its second byte, and its length.
 pub fn equal(second: u8) -> Option<(Kind, usize)>
     ensures value { result ≡ compound 61 second 0 }
     ensures kind { IfSome result (λ found. LeavesOpenings found.0) }
@@ -77,7 +77,7 @@ pub fn equal(second: u8) -> Option<(Kind, usize)>
     }
 }
 
-/// The operator of two bytes, or else that of the first byte alone.
+/// Returns the operator of two bytes if `two`, else that of the first byte alone, and its length.
 #[inline(always)]
 pub fn either(two: bool, long: Kind, short: Kind) -> Option<(Kind, usize)>
     ensures value { result ≡ (if two then Some (long, 2) else Some (short, 1)) }
@@ -91,7 +91,7 @@ pub fn either(two: bool, long: Kind, short: Kind) -> Option<(Kind, usize)>
     }
 }
 
-/// The operator of two bytes, or none.
+/// Returns the operator of two bytes and its length if `two`, else none.
 #[inline(always)]
 pub fn both(two: bool, kind: Kind) -> Option<(Kind, usize)>
     ensures value { result ≡ (if two then Some (kind, 2) else None) }

@@ -145,11 +145,11 @@ enum Addition {
     NotAdded { text_len: usize },
 }
 
-/// Adds a token that leaves the openings as they are, or quoted text in quotes. Where `is_free` it
-/// is known to leave them so.
+/// Adds a token that leaves the openings as they are, or quoted text in quotes, and returns what
+/// was added. If `is_free`, the token is known to leave the openings so.
 ///
-/// Adds nothing if the token is another. The text after a `"` has been read then, so its length is
-/// returned.
+/// Nothing is added if the token is another. The text after a `"` has been read then, so its length
+/// is returned.
 #[inline(always)]
 fn put_plain(
     tokens: &mut Vec<Span>,
@@ -205,7 +205,7 @@ fn put_plain(
     }
 }
 
-/// The mode, which is not literal, so that no marker is kept in registers for it.
+/// Returns a mode that is not literal as it is, so that no marker is kept in registers for it.
 #[inline(always)]
 fn without_marker<'t>(mode: Mode<'t>) -> Mode<'t>
     requires { is_literal (mode_view mode) ≡ false }
@@ -218,7 +218,7 @@ fn without_marker<'t>(mode: Mode<'t>) -> Mode<'t>
     }
 }
 
-/// `push_plain_tokens` outside of literal text.
+/// Adds tokens outside of literal text, as `push_plain_tokens` does.
 #[inline(always)]
 fn push_in_mode(
     buffer: Vec<Span>,
@@ -280,7 +280,7 @@ fn push_in_mode(
     }
 }
 
-/// `push_plain_tokens` in quoted text.
+/// Adds quoted text, as `push_plain_tokens` does.
 #[inline(always)]
 fn push_in_quotes(
     buffer: Vec<Span>,
@@ -315,8 +315,8 @@ fn push_in_quotes(
     }
 }
 
-/// Adds the tokens from a place on that leave the openings as they are, while memory is reserved
-/// for them, and quoted text in quotes.
+/// Adds the tokens from a place on that leave the openings as they are, and quoted text in quotes,
+/// while memory is reserved for them; returns the list and what follows these tokens.
 #[inline(always)]
 pub fn push_plain_tokens(
     buffer: Vec<Span>,

@@ -20,7 +20,8 @@ pub fn is_at_end(text: &[u8], at: usize) -> bool
     byte_at(text, at) == b'"' || is_at_opening(text, at)
 }
 
-/// Skips bytes that are units of quoted text whatever follows them, up to 16.
+/// Skips bytes that are units of quoted text whatever follows them, up to 16, and returns where
+/// they end.
 #[inline(always)]
 fn skip_ordinary(text: &[u8], from: usize) -> usize
     requires { from ≤ length text.now }
@@ -35,7 +36,8 @@ fn skip_ordinary(text: &[u8], from: usize) -> usize
     }
 }
 
-/// Skips bytes that are units of quoted text whatever follows them, after another unit.
+/// Skips bytes that are units of quoted text whatever follows them, after another unit, and returns
+/// where they end.
 ///
 /// Two escapes most often have few bytes between them, so after one no more than 16 are looked at.
 #[inline(always)]
@@ -85,7 +87,7 @@ fn quoted_end(text: &[u8], from: usize) -> usize
     }
 }
 
-/// Returns how many bytes the longest run of units of quoted text at a place has.
+/// Returns the number of bytes of the longest run of units of quoted text at a place.
 ///
 /// Most such texts are short, so the first 16 bytes are looked at before a call.
 #[inline(always)]

@@ -1,4 +1,5 @@
-//! Runs of units.
+//! Runs of units. A `_bytewise` function is the plain form; `_of_16` is for speed alone: it
+//! passes 16 bytes at a time.
 
 ghost use Rattle.std.specs.Prelude.{◌≡◌, ◌==◌, ◌∷◌, ◌+◌, ◌<◌, ◌≤◌, ℕ, List, length, drop, true, false, ◌&&◌, slice_index};
 ghost use Rattle.std.specs.Char.{is_ascii_hexdigit};
@@ -14,8 +15,8 @@ use crate::sixteen::{count_comment_bytes, count_inline_bytes, count_quoted_bytes
 pub trait Unit {
     ghost len: { Self → UnitLength };
 
-    /// Returns how many bytes the unit at the place has, 0 if there is none; `at_line_start` says
-    /// whether a line begins there.
+    /// Returns the number of bytes of the unit at the place, 0 if there is none; `at_line_start`
+    /// says whether a line begins there.
     fn len_at(&self, text: &[u8], at: usize, at_line_start: bool) -> usize
         requires { at < length text.now }
         ensures value { result ≡ len self.now at_line_start (drop at text.now) }
@@ -58,7 +59,7 @@ pub fn ordinary_end<U: Unit>(unit: &U, text: &[u8], from: usize) -> usize
     ordinary_end_bytewise(unit, text, at)
 }
 
-/// `ordinary_end`, byte by byte.
+/// Returns what `ordinary_end` does, byte by byte.
 fn ordinary_end_bytewise<U: Unit>(unit: &U, text: &[u8], from: usize) -> usize
     requires { from ≤ length text.now }
     ensures run { result + run_length (U.len unit.now) false (drop result text.now)
@@ -73,7 +74,7 @@ fn ordinary_end_bytewise<U: Unit>(unit: &U, text: &[u8], from: usize) -> usize
     at
 }
 
-/// `ordinary_end` if no line begins at the place; else no byte is skipped.
+/// Returns what `ordinary_end` does if no line begins at the place, else the place.
 fn skip_ordinary<U: Unit>(unit: &U, text: &[u8], from: usize, at_line_start: bool) -> usize
     requires { from ≤ length text.now }
     ensures run { result + run_length (U.len unit.now) at_line_start (drop result text.now)
@@ -81,6 +82,7 @@ fn skip_ordinary<U: Unit>(unit: &U, text: &[u8], from: usize, at_line_start: boo
     ensures within { result ≤ length text.now }
     ensures onward { from ≤ result }
 {
+    // for the proof: a function of its own, since the fact is lost where an `if` joins
     if at_line_start {
         from
     } else {
@@ -97,6 +99,7 @@ pub fn run_end<U: Unit>(unit: &U, text: &[u8], from: usize, at_line_start: bool)
 {
     let mut at = from;
     let mut is_line_start = at_line_start;
+    // for the proof: the label names the loop's invariant
     'units: loop {
         let on = skip_ordinary(unit, text, at, is_line_start);
         if on == text.len() {
@@ -111,7 +114,7 @@ pub fn run_end<U: Unit>(unit: &U, text: &[u8], from: usize, at_line_start: bool)
     }
 }
 
-/// Text of a comment that ends with its line.
+/// A unit of the text of a comment that ends with its line.
 pub struct CommentUnit;
 
 impl Unit for CommentUnit {
@@ -131,7 +134,7 @@ impl Unit for CommentUnit {
     }
 }
 
-/// Text of a comment that ends at `*/`.
+/// A unit of the text of a comment that ends at `*/`.
 pub struct InlineUnit;
 
 impl Unit for InlineUnit {
@@ -155,18 +158,21 @@ impl Unit for InlineUnit {
     }
 }
 
+/// Whether a hexadecimal digit is at the place.
 fn is_hex(text: &[u8], at: usize) -> bool
     ensures { result ≡ is_ascii_hexdigit (slice_index text.now at) }
 {
     byte_at(text, at).is_ascii_hexdigit()
 }
 
+/// Whether a `\` and this byte are an escape.
 fn is_simple_escape(b: u8) -> bool
     ensures { result ≡ is_simple_escape b }
 {
     (b == b'n') | (b == b'r') | (b == b't') | (b == b'"') | (b == b'\\')
 }
 
+/// Whether four hexadecimal digits are at the place.
 fn has_four_hex(text: &[u8], at: usize) -> bool
     requires { at ≤ length text.now }
     ensures value { result ≡ has_four_hex (drop at text.now) }
@@ -175,6 +181,7 @@ fn has_four_hex(text: &[u8], at: usize) -> bool
     is_hex(text, at) && is_hex(text, at + 1) && is_hex(text, at + 2) && is_hex(text, at + 3)
 }
 
+/// Whether eight hexadecimal digits are at the place.
 fn has_eight_hex(text: &[u8], at: usize) -> bool
     requires { at ≤ length text.now }
     ensures value { result
@@ -184,13 +191,16 @@ fn has_eight_hex(text: &[u8], at: usize) -> bool
     has_four_hex(text, at) && has_four_hex(text, at + 4)
 }
 
-/// Returns how many bytes the escape after a `\` has, 0 if there is none.
+/// Returns the number of bytes of the escape after a `\`, 0 if there is none.
+///
+/// HCL native syntax specification, Template Expressions.
 fn escape_len(text: &[u8], at: usize) -> usize
     requires { at ≤ length text.now }
     ensures value { result ≡ escape_length (drop at text.now) }
     ensures within { at + result ≤ length text.now }
 {
     let b = byte_at(text, at);
+    // for the proof: `if` in `if` in place of `&&`, so that no branches join
     if is_simple_escape(b) {
         1
     } else if b == b'u' {
@@ -202,8 +212,10 @@ fn escape_len(text: &[u8], at: usize) -> usize
     }
 }
 
-/// Returns how many bytes the unit has that begins with a `$` or a `%` before the place, 0 if that
-/// is an opening.
+/// Returns the number of bytes of the unit that begins with a `$` or a `%` before the place, 0 if
+/// that is an opening.
+///
+/// HCL native syntax specification, Template Literals.
 pub fn sigil_len(text: &[u8], at: usize, sigil: u8) -> usize
     requires within { at ≤ length text.now }
     requires sigil { 0 < sigil }
@@ -220,13 +232,16 @@ pub fn sigil_len(text: &[u8], at: usize, sigil: u8) -> usize
     }
 }
 
+/// Whether a byte is `$` or `%`.
 pub fn is_sigil(b: u8) -> bool
     ensures { result ≡ is_sigil b }
 {
     (b == b'$') | (b == b'%')
 }
 
-/// Text in quotes.
+/// A unit of text in quotes.
+///
+/// HCL native syntax specification, Template Expressions and Template Literals.
 pub struct QuoteUnit;
 
 impl Unit for QuoteUnit {

@@ -44,8 +44,12 @@ pub fn scan<'t>(alloc: Global, text: &'t [u8]) -> Result<Scanned<'t>, ScanFault>
     scan_in(alloc, Vec::new(alloc), text)
 }
 
-/// `scan`, with the tokens in a buffer, as `Scanned::into_buffer` returns it. The elements of the
-/// buffer are dropped.
+/// Returns the tokens of a text, as `scan` does, in a buffer, as `Scanned::into_buffer` returns it.
+/// The elements of the buffer are dropped.
+///
+/// # Errors
+///
+/// Those of `scan`.
 pub fn scan_in<'t>(
     alloc: Global,
     buffer: Vec<Span>,
@@ -113,6 +117,14 @@ impl<'t> Scanned<'t> {
         ensures tokenization { IsTokenization self.now.text self.now.pairs self.now.last }
     {
         self.tokens.len()
+    }
+
+    /// Returns the number of tokens in 32 bits, as nodes of a tree hold it: at most `MAX_TEXT`.
+    #[inline]
+    pub fn count(&self) -> u32
+        ensures { result ≡ length self.now.pairs }
+    {
+        self.len() as u32
     }
 
     /// Whether there is no token.

@@ -40,7 +40,7 @@ const QUOTED_STOPS: [u8; 16] = [
 // Of a heredoc: `$`, `%` and LF.
 const HEREDOC_STOPS: [u8; 16] = [1, 0, 0, 0, b'$', b'%', 0, 0, 0, 0, b'\n', 0, 0, 0, 0, 0];
 
-/// The bits that the two tables have in common at each byte.
+/// Returns the bits that the two tables have in common at each byte.
 #[inline(always)]
 fn flags(v: u8x16, low: u8x16, high: u8x16) -> u8x16
     requires { (length v ≡ 16) × (length low ≡ 16) × (length high ≡ 16) }
@@ -50,7 +50,7 @@ fn flags(v: u8x16, low: u8x16, high: u8x16) -> u8x16
     low.swizzle_dyn(v & u8x16::splat(15)) & high.swizzle_dyn(v >> u8x16::splat(4))
 }
 
-/// How many lanes precede the first that is 0.
+/// Returns the number of lanes before the first that is 0.
 #[inline(always)]
 fn count_nonzero(v: u8x16) -> usize
     requires { length v ≡ 16 }
@@ -64,7 +64,8 @@ fn count_nonzero(v: u8x16) -> usize
     }
 }
 
-/// How many of the 16 bytes at a place have a flag in both tables, up to the first that has none.
+/// Returns how many of the 16 bytes at a place have a flag in both tables, up to the first that has
+/// none.
 #[inline(always)]
 fn count_flagged(text: &[u8], at: usize, low: u8x16, high: u8x16) -> usize
     requires within { at + 16 ≤ length text.now }
@@ -78,7 +79,7 @@ fn count_flagged(text: &[u8], at: usize, low: u8x16, high: u8x16) -> usize
     count_nonzero(flags(u8x16::from_slice(&text[at..]), low, high))
 }
 
-/// The bits in which each byte differs from what the table has at its low four bits.
+/// Returns the bits in which each byte differs from what the table has at its low four bits.
 #[inline(always)]
 fn differences(v: u8x16, table: u8x16) -> u8x16
     requires { (length v ≡ 16) × (length table ≡ 16) }
@@ -89,7 +90,7 @@ fn differences(v: u8x16, table: u8x16) -> u8x16
     v ^ table.swizzle_dyn(v & u8x16::splat(15))
 }
 
-/// How many of the 16 bytes at a place are not in the table, up to the first that is.
+/// Returns how many of the 16 bytes at a place are not in the table, up to the first that is.
 #[inline(always)]
 fn count_unlisted(text: &[u8], at: usize, table: u8x16) -> usize
     requires within { at + 16 ≤ length text.now }
@@ -103,7 +104,8 @@ fn count_unlisted(text: &[u8], at: usize, table: u8x16) -> usize
     count_nonzero(differences(u8x16::from_slice(&text[at..]), table))
 }
 
-/// How many of the 16 bytes at a place continue an identifier, up to the first that does not.
+/// Returns how many of the 16 bytes at a place continue an identifier, up to the first that does
+/// not.
 #[inline(always)]
 pub fn count_id_bytes(text: &[u8], at: usize) -> usize
     requires { at + 16 ≤ length text.now }
@@ -118,7 +120,7 @@ pub fn count_id_bytes(text: &[u8], at: usize) -> usize
     count_flagged(text, at, low, high)
 }
 
-/// How many of the 16 bytes at a place are neither LF nor CR, up to one that is.
+/// Returns how many of the 16 bytes at a place are neither LF nor CR, up to one that is.
 #[inline(always)]
 pub fn count_comment_bytes(text: &[u8], at: usize) -> usize
     requires { at + 16 ≤ length text.now }
@@ -130,7 +132,7 @@ pub fn count_comment_bytes(text: &[u8], at: usize) -> usize
     count_unlisted(text, at, stops)
 }
 
-/// How many of the 16 bytes at a place are neither `*` nor LF, up to one that is.
+/// Returns how many of the 16 bytes at a place are neither `*` nor LF, up to one that is.
 #[inline(always)]
 pub fn count_inline_bytes(text: &[u8], at: usize) -> usize
     requires { at + 16 ≤ length text.now }
@@ -143,8 +145,8 @@ pub fn count_inline_bytes(text: &[u8], at: usize) -> usize
     count_flagged(text, at, low, high)
 }
 
-/// How many of the 16 bytes at a place are neither `"`, `$`, `%`, `\`, LF nor CR, up to one that
-/// is.
+/// Returns how many of the 16 bytes at a place are neither `"`, `$`, `%`, `\`, LF nor CR, up to one
+/// that is.
 #[inline(always)]
 pub fn count_quoted_bytes(text: &[u8], at: usize) -> usize
     requires { at + 16 ≤ length text.now }
@@ -156,7 +158,7 @@ pub fn count_quoted_bytes(text: &[u8], at: usize) -> usize
     count_unlisted(text, at, stops)
 }
 
-/// How many of the 16 bytes at a place are neither `$`, `%` nor LF, up to one that is.
+/// Returns how many of the 16 bytes at a place are neither `$`, `%` nor LF, up to one that is.
 #[inline(always)]
 pub fn count_heredoc_bytes(text: &[u8], at: usize) -> usize
     requires { at + 16 ≤ length text.now }
@@ -168,7 +170,7 @@ pub fn count_heredoc_bytes(text: &[u8], at: usize) -> usize
     count_unlisted(text, at, stops)
 }
 
-/// How many of the 16 bytes at a place are digits, up to the first that is not.
+/// Returns how many of the 16 bytes at a place are digits, up to the first that is not.
 #[inline(always)]
 pub fn count_digits(text: &[u8], at: usize) -> usize
     requires { at + 16 ≤ length text.now }
@@ -181,7 +183,7 @@ pub fn count_digits(text: &[u8], at: usize) -> usize
     count_flagged(text, at, low, high)
 }
 
-/// How many of the 16 bytes at a place are spaces, up to the first that is not.
+/// Returns how many of the 16 bytes at a place are spaces, up to the first that is not.
 #[inline(always)]
 pub fn count_spaces(text: &[u8], at: usize) -> usize
     requires { at + 16 ≤ length text.now }

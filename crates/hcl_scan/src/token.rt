@@ -1,4 +1,5 @@
-//! The token at a place.
+//! The token at a place. For speed alone: `expression_token` tests the first byte before
+//! `any_expression_token`, and `next_plain_token_apart` is `next_plain_token` by a call.
 
 ghost use Rattle.std.specs.Prelude.{◌≡◌, ◌==◌, ◌+◌, ◌<◌, ◌≤◌, true, false, length, drop, slice_index, IsUtf8, Some, IfSome, if◌then◌else◌};
 ghost use Rattle.hcl_token.specs.declared.kind.Kind.TheVariants.{SeqClose, CloseBrace};
@@ -21,7 +22,9 @@ use crate::quoted::rest_end;
 use crate::runs::{CommentUnit, InlineUnit, run_end};
 use hcl_token::Kind;
 
-/// Returns the comment whose `/*` is before the place.
+/// Returns the comment whose `/*` is before the place, if it is closed.
+///
+/// HCL native syntax specification, Comments and Whitespace.
 fn inline_comment(text: &[u8], body: usize) -> Option<(Kind, usize)>
     requires { body ≤ length text.now }
     ensures { result ≡ inline_comment (drop body text.now) }
@@ -76,7 +79,7 @@ fn punctuation(text: &[u8], at: usize, can_close: bool) -> Option<(Kind, usize)>
     }
 }
 
-/// Returns how many bytes the comment has that begins with a `#` at a place.
+/// Returns the number of bytes of the comment that begins with a `#` at a place.
 #[inline(never)]
 fn comment_len(text: &[u8], at: usize) -> usize
     requires { at < length text.now }
@@ -109,7 +112,7 @@ struct Found {
     is_free: bool,
 }
 
-/// A token that leaves the openings as they are.
+/// Returns what is found: a token that leaves the openings as they are, or none.
 #[inline(always)]
 fn free(token: Option<(Kind, usize)>) -> Found
     requires { IfSome token (λ found. LeavesOpenings found.0) }
@@ -122,7 +125,7 @@ fn free(token: Option<(Kind, usize)>) -> Found
     }
 }
 
-/// A token that may change the openings, or none.
+/// Returns what is found: a token that may change the openings, or none.
 #[inline(always)]
 fn other(token: Option<(Kind, usize)>) -> Found
     ensures token { result.token ≡ token }
@@ -200,7 +203,7 @@ fn close_brace_token(can_close: bool) -> Option<(Kind, usize)>
     }
 }
 
-/// `expression_token` for any first byte; none at the end.
+/// Returns the token outside of literal text for any first byte; none at the end.
 #[inline(always)]
 fn slow_expression_token(text: &str, at: usize, can_close: bool) -> Option<(Kind, usize)>
     requires within { at ≤ length text.now }
@@ -214,8 +217,9 @@ fn slow_expression_token(text: &str, at: usize, can_close: bool) -> Option<(Kind
     }
 }
 
-/// `slow_expression_token` where the text does not end. Its contract is of any first byte, though
-/// `expression_token` has arms of its own for many.
+/// Returns the token outside of literal text for any first byte, where the text does not end.
+///
+/// `expression_token` has arms of its own for many bytes.
 #[inline(always)]
 fn any_expression_token(text: &str, at: usize, can_close: bool) -> Option<(Kind, usize)>
     requires within { at < length text.now }
@@ -246,6 +250,8 @@ fn heredoc_or_less(found: Option<(Kind, usize)>) -> Option<(Kind, usize)>
 }
 
 /// Returns the token in quoted text.
+///
+/// HCL native syntax specification, Template Expressions and Templates.
 #[inline(always)]
 fn quoted_token(text: &[u8], at: usize) -> Option<(Kind, usize)>
     requires { at ≤ length text.now }
@@ -336,7 +342,7 @@ pub fn next_plain_token(text: &str, at: usize, mode: Mode<'_>) -> (NextToken, bo
     (NextToken { start, token }, found.is_free)
 }
 
-/// `next_plain_token` where it is rare.
+/// Returns the gap and the token that `next_plain_token` does, by a call where that is rare.
 #[inline(never)]
 pub fn next_plain_token_apart(text: &str, at: usize, mode: Mode<'_>) -> NextToken
     requires within { at ≤ length text.now }

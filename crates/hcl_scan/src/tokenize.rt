@@ -59,10 +59,11 @@ fn fault_at(text: &[u8], mode: Mode<'_>, opened: usize, at: usize) -> ScanFault
     }
 }
 
-/// Whether the tokens are those of the whole text.
+/// Whether the tokens are those of the whole text: they stop at its end, and no opening is open.
 fn is_done(openings: &[Opening<'_>], start: usize, len: usize) -> bool
     ensures { IsTrue result ↔ ((start ≡ len) × (openings.now ≡ [])) }
 {
+    // for the proof: a function of its own, so that each branch after it has one fact
     start == len && openings.is_empty()
 }
 
@@ -73,8 +74,12 @@ fn starts_with_mark(text: &[u8]) -> bool
     byte_at(text, 0) == 0xef && byte_at(text, 1) == 0xbb && byte_at(text, 2) == 0xbf
 }
 
-/// Adds the byte order mark, if the text begins with one, as the first token, and returns its
-/// length, else 0.
+/// Adds the byte order mark, if the text begins with one, as the first token, and returns the
+/// number of its bytes, else 0.
+///
+/// # Errors
+///
+/// Returns `AllocError` if memory runs out.
 fn push_mark(tokens: &mut Vec<Span>, text: &[u8]) -> Result<usize, AllocError>
     ensures tokens { OnOk result (tokens.new.items ≡ tokens.old.items ++ mark_tokens text.now) }
     ensures length { IfOk result (λ at. at ≡ mark_length text.now) }
@@ -87,6 +92,10 @@ fn push_mark(tokens: &mut Vec<Span>, text: &[u8]) -> Result<usize, AllocError>
 }
 
 /// Returns a list with memory for one more token.
+///
+/// # Errors
+///
+/// Returns `AllocError` if memory runs out.
 #[inline(never)]
 fn reserve_one(buffer: Vec<Span>) -> Result<Vec<Span>, AllocError>
     ensures items { IfOk result (λ tokens. tokens.items ≡ buffer.items) }
@@ -100,6 +109,10 @@ fn reserve_one(buffer: Vec<Span>) -> Result<Vec<Span>, AllocError>
 /// Adds a token.
 ///
 /// The list is handed on by value, so that it is in registers where it need not grow.
+///
+/// # Errors
+///
+/// Returns `AllocError` if memory runs out.
 #[inline(always)]
 fn push_token(
     buffer: Vec<Span>,
@@ -122,7 +135,11 @@ fn push_token(
     Ok(tokens)
 }
 
-/// Returns the tokens of a text, in a buffer, and where its last gap begins.
+/// Returns the tokens of a text, in a buffer, and where its last gap begins, in bytes from 0.
+///
+/// # Errors
+///
+/// The text's own error, or `Memory`.
 fn tokenize_str(
     alloc: Global,
     buffer: Vec<Span>,
@@ -141,6 +158,7 @@ fn tokenize_str(
     let mut openings: Vec<Opening<'_>> = Vec::new(alloc);
     let mut at = push_mark(&mut tokens, bytes)?;
     let mut region = Region::Expression;
+    // for the proof: the label names the loop's invariant
     'scan: loop {
         let PlainTokens {
             tokens: list,
@@ -185,8 +203,12 @@ fn cleared(buffer: Vec<Span>) -> Vec<Span>
     tokens
 }
 
-/// Returns the tokens of a text, in the memory of a list, and where its last gap begins; or its
-/// error. Nothing is allocated for a text that is empty, too long or not UTF-8.
+/// Returns the tokens of a text, in the memory of a list, and where its last gap begins, in bytes
+/// from 0. Nothing is allocated for a text that is empty, too long or not UTF-8.
+///
+/// # Errors
+///
+/// The text's own error, or `Memory`.
 pub fn tokenize(
     alloc: Global,
     buffer: Vec<Span>,

@@ -1,4 +1,4 @@
--- The table of tokens that join, row by row: which the cut keeps apart by itself.
+-- The table of tokens that join, row by row: which of them tokenization keeps apart by itself.
 use Rattle.std.proofs.Common.{◌≡◌, ℕ, zero, suc, ◌<◌, ◌≤◌, true, false, not, ◌&&◌, ◌||◌, ◌==◌, List, [], ◌∷◌, ◌++◌, length, slice_index, codes, refl, sym, ap, subst, ◌∙◌, inl, inr, arith}
 use Rattle.std.proofs.lemmas.Bool.{and_parts, or_cases}
 use Rattle.std.proofs.lemmas.Bool.Decides.{nat_tests}
@@ -124,7 +124,7 @@ module _ (mode other : Mode) (s n r : List ℕ) where
   directive_row k.SeqClose g h = tilde_directive mode s n r g.0.1 g h
   directive_row _ g h = absurd (cc)
 
-  -- of two tokens that are cut with no gap between them, and join: the grammar has to keep them apart
+  -- two tokens that join, tokenized with no gap between them: the grammar has to keep them apart
   pub rows : (a b : Kind) → IsLongest mode a s (n ++ r) → Spells other b n r → joins_with a s b n ≡ true → glues a b n ≡ true
   rows k.Identifier b g w h = absurd (word_row b g w h)
   rows k.Number b g w h = number_row b g w h

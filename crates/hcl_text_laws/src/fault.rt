@@ -25,11 +25,11 @@ pub enum ParseFault {
 }
 
 /// Returns the byte where a token begins; the length of the text, if there is none.
-fn byte_offset(scanned: &Scanned<'_>, number: usize) -> usize
+fn byte_offset(scanned: &Scanned<'_>, number: u32) -> usize
     ensures { result ≡ byte_offset scanned.now number }
 {
-    if number < scanned.len() {
-        scanned.item(number).start as usize
+    if number < scanned.count() {
+        scanned.item(number as usize).start as usize
     } else {
         scanned.text().len()
     }

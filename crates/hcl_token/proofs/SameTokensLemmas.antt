@@ -3,6 +3,7 @@ use Rattle.std.proofs.Common.{◌≡◌, ℕ, zero, suc, ◌+◌, ◌-◌, ◌*�
 use Rattle.std.proofs.lemmas.List.{get_or_default, take-take, drop-take, drop-drop, length-take-le}
 use Rattle.hcl_token.specs.declared.kind.Kind.{Kind}
 use Rattle.hcl_token.specs.declared.span.Span.{Span}
+use Rattle.hcl_token.specs.declared.tokens.TheConstants.{MAX_TEXT}
 use Rattle.hcl_token.specs.Tokens.{Pair, whole_text}
 use Rattle.hcl_token.specs.Pairs.{pair_at, pairs_from, InOrder}
 use Rattle.hcl_token.specs.TokenizedText.{TokenizedText, pairs_in_range, without_first_gap}
@@ -170,7 +171,7 @@ token_within (x ∷ tokens) at last (suc k) o h =
 
 -- the token of a run, at most MAX_TEXT
 within_run : (text : List ℕ) (tokens : List Span) (k : ℕ) → IsTokenRun text tokens → k < length tokens
-    → (begin_of tokens ≤ (get_or tokens k none).start) × ((get_or tokens k none).start ≤ (get_or tokens k none).stop) × ((get_or tokens k none).stop ≤ 16777216)
+    → (begin_of tokens ≤ (get_or tokens k none).start) × ((get_or tokens k none).start ≤ (get_or tokens k none).stop) × ((get_or tokens k none).stop ≤ MAX_TEXT)
 within_run text tokens k r h =
     let is = token_within tokens (begin_of tokens) r.order.1 k (order-here tokens r.order.0 r.order.1 r.order.2 r.some) h in
     (is.0, is.1, omega (arith, is.2, r.order.3, r.short))

@@ -2,8 +2,10 @@
 -- read as other tokens (as `1`, `e`, `+`, `5`).
 -- The table is this project's own; the tokens are those of the HCL native syntax specification,
 -- Lexical Elements.
-use Rattle.std.specs.Prelude.{ℕ, nat_le, ◌==◌, Bool, true, false, not, ◌&&◌, ◌||◌, List, [], ◌∷◌}
+use Rattle.std.specs.Prelude.{ℕ, ◌==◌, Bool, true, false, not, ◌&&◌, ◌||◌, List, [], ◌∷◌}
+use Rattle.std.specs.Char.{is_ascii_digit}
 use Rattle.std.specs.List.{list_all}
+use Rattle.hcl_token.specs.Bytes.{slash, colon, equals, greater, capital_e, letter_e, tilde}
 use Rattle.hcl_token.specs.declared.kind.Kind.{Kind}
 use Rattle.hcl_token.specs.declared.kind.Kind.TheVariants.{Identifier, Number, DotIndex, Minus, Star, Slash, Bang, Less, Greater, Colon, Equal, Dot, Ellipsis, SeqClose, InterpOpen, DirectiveOpen}
 
@@ -18,7 +20,7 @@ ends_with byte (b ∷ spelling) = ends_with byte spelling
 
 -- the digits `0` to `9` alone
 abbrev pub is_digits : List ℕ → Bool
-is_digits spelling = list_all (λ b. nat_le 48 b && nat_le b 57) spelling
+is_digits spelling = list_all is_ascii_digit spelling
 
 -- after an Identifier: Identifier, Number, `-`
 abbrev pub joins_after_identifier : Kind → Bool
@@ -31,7 +33,7 @@ joins_after_identifier _ = false
 -- DotIndex
 abbrev pub joins_after_number : List ℕ → Kind → List ℕ → Bool
 joins_after_number number Number next = true
-joins_after_number number Identifier next = starts_with 101 next || starts_with 69 next
+joins_after_number number Identifier next = starts_with letter_e next || starts_with capital_e next
 joins_after_number number DotIndex next = is_digits number
 joins_after_number number _ next = false
 
@@ -43,7 +45,7 @@ joins_after_dot_index _ = false
 -- after `<`: `<`, or a token that begins with `=`
 abbrev pub joins_after_less : Kind → List ℕ → Bool
 joins_after_less Less next = true
-joins_after_less _ next = starts_with 61 next
+joins_after_less _ next = starts_with equals next
 
 -- after `.`: Number, `.`, `...`, DotIndex
 abbrev pub joins_after_dot : Kind → Bool
@@ -56,11 +58,11 @@ joins_after_dot _ = false
 -- after `/`: `*`, or a token that begins with `/`
 abbrev pub joins_after_slash : Kind → List ℕ → Bool
 joins_after_slash Star next = true
-joins_after_slash _ next = starts_with 47 next
+joins_after_slash _ next = starts_with slash next
 
 -- after `${` or `%{` without `~`: `~}`
 abbrev pub joins_after_opening : List ℕ → Kind → List ℕ → Bool
-joins_after_opening opening SeqClose next = not (ends_with 126 opening) && starts_with 126 next
+joins_after_opening opening SeqClose next = not (ends_with tilde opening) && starts_with tilde next
 joins_after_opening opening _ next = false
 
 -- a token of this kind and this spelling joins with one of that kind and that spelling
@@ -69,10 +71,10 @@ joins_with Identifier first kind next = joins_after_identifier kind
 joins_with Number first kind next = joins_after_number first kind next
 joins_with DotIndex first kind next = joins_after_dot_index kind
 joins_with Less first kind next = joins_after_less kind next
-joins_with Greater first kind next = starts_with 61 next
-joins_with Equal first kind next = starts_with 61 next || starts_with 62 next
-joins_with Bang first kind next = starts_with 61 next
-joins_with Colon first kind next = starts_with 58 next
+joins_with Greater first kind next = starts_with equals next
+joins_with Equal first kind next = starts_with equals next || starts_with greater next
+joins_with Bang first kind next = starts_with equals next
+joins_with Colon first kind next = starts_with colon next
 joins_with Dot first kind next = joins_after_dot kind
 joins_with Slash first kind next = joins_after_slash kind next
 joins_with InterpOpen first kind next = joins_after_opening first kind next

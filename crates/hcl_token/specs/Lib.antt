@@ -1,6 +1,8 @@
+pub mod Bytes
 pub mod TokenizedText
 pub mod Inner
 pub mod Pairs
+pub mod Kinds
 pub mod Joins
 pub mod TokenLists
 pub mod Place

@@ -3,6 +3,7 @@
 use Rattle.std.specs.Prelude.{◌≡◌, ℕ, zero, suc, ◌+◌, Bool, true, false, List, [], ◌∷◌, length, sum_by, count_by, ◌==◌, if◌then◌else◌}
 use Rattle.std.specs.List.{All, list_any, concat}
 use Rattle.unicode_segmentation.specs.Grapheme.{graphemes}
+use Rattle.hcl_token.specs.Bytes.{line_feed}
 use Rattle.hcl_token.specs.declared.kind.Kind.{Kind}
 use Rattle.hcl_token.specs.declared.kind.Kind.TheVariants.{Mark}
 use Rattle.hcl_token.specs.declared.place.Place.{Place}
@@ -13,7 +14,7 @@ abbrev pub clusters : List ℕ → ℕ
 clusters text = length (graphemes true text)
 
 abbrev pub is_lf : ℕ → Bool
-is_lf b = b == 10
+is_lf b = b == line_feed
 
 abbrev pub is_mark : Kind → Bool
 is_mark Mark = true

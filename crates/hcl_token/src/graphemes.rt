@@ -10,7 +10,7 @@ use unicode_segmentation::UnicodeSegmentation;
 pub(crate) fn is_ascii_without_cr(text: &[u8]) -> bool
     ensures { result ≡ is_ascii_without_cr text.now }
 {
-    // no early end: over whole lines at a time the processor does this many bytes at once
+    // no early end: the processor does many bytes at once
     let mut ascii = true;
     for byte in text {
         ascii &= (*byte < 128) & (*byte != 13);
@@ -18,13 +18,16 @@ pub(crate) fn is_ascii_without_cr(text: &[u8]) -> bool
     ascii
 }
 
+/// Returns the number of extended grapheme clusters of a text.
 fn clusters_of_str(text: &str) -> usize
     ensures { result ≡ clusters text.now }
 {
     text.graphemes(true).count()
 }
 
-/// How many extended grapheme clusters a text in UTF-8 has (Unicode Standard Annex #29).
+/// Returns the number of extended grapheme clusters of a text in UTF-8.
+///
+/// Unicode Standard Annex #29.
 pub fn clusters(text: &[u8]) -> usize
     requires { IsUtf8 text.now }
     ensures { result ≡ clusters text.now }

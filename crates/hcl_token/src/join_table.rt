@@ -5,6 +5,7 @@ ghost use Rattle.hcl_token.specs.Joins.{joins_with, starts_with, ends_with, is_d
 
 use crate::kind::Kind;
 
+/// Whether a spelling starts with a byte; an empty one does not.
 fn starts_with(spelling: &[u8], byte: u8) -> bool
     ensures { result ≡ starts_with byte spelling.now }
 {
@@ -14,6 +15,7 @@ fn starts_with(spelling: &[u8], byte: u8) -> bool
     }
 }
 
+/// Whether a spelling ends with a byte; an empty one does not.
 fn ends_with(spelling: &[u8], byte: u8) -> bool
     ensures { result ≡ ends_with byte spelling.now }
 {
@@ -23,12 +25,15 @@ fn ends_with(spelling: &[u8], byte: u8) -> bool
     }
 }
 
+/// Whether each byte of a spelling is a digit.
 fn is_digits(spelling: &[u8]) -> bool
     ensures { result ≡ is_digits spelling.now }
 {
     spelling.iter().all(|b| (48 <= *b) & (*b <= 57))
 }
 
+/// Whether a number joins with a token of this kind and spelling: with a number, with a name that
+/// begins with `e` or `E`, and, if it is digits alone, with a `.` and digits.
 fn joins_after_number(number: &[u8], kind: Kind, next: &[u8]) -> bool
     ensures { result ≡ joins_after_number number.now kind next.now }
 {
@@ -40,6 +45,8 @@ fn joins_after_number(number: &[u8], kind: Kind, next: &[u8]) -> bool
     }
 }
 
+/// Whether the opening of a template sequence joins with a token of this kind and spelling: one
+/// without `~` does with `~}`.
 fn joins_after_opening(opening: &[u8], kind: Kind, next: &[u8]) -> bool
     ensures { result ≡ joins_after_opening opening.now kind next.now }
 {

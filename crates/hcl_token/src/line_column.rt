@@ -22,7 +22,7 @@ const CHUNK: usize = 224;
 /// The place at the beginning of a text.
 pub(crate) const FIRST_PLACE: Place = Place { line: 1, column: 1 };
 
-/// Returns the bytes of a text from one place up to another.
+/// Returns the bytes of a text from one offset up to another.
 pub(crate) fn slice(text: &[u8], from: u32, to: u32) -> &[u8]
     requires ordered { from ≤ to }
     requires within { to ≤ length text.now }
@@ -31,7 +31,7 @@ pub(crate) fn slice(text: &[u8], from: u32, to: u32) -> &[u8]
     &text[from as usize..to as usize]
 }
 
-/// Returns where the gap before token `i` begins, or the gap after the last token.
+/// Returns where the gap before token `i` begins, or the gap after the last token, in bytes from 0.
 pub(crate) fn gap_at(tokens: &[Span], i: usize) -> u32
     requires { i ≤ length tokens.now }
     ensures { result ≡ gap_at tokens.now i }
@@ -48,16 +48,18 @@ pub(crate) fn token_range(tokens: &[Span], from: usize, to: usize) -> &[Span]
     &tokens[from..to]
 }
 
+/// Whether a token is a byte order mark, which counts for nothing in a place.
 fn is_mark(kind: Kind) -> bool
     ensures { result ≡ is_mark kind }
 {
     matches!(kind, Kind::Mark)
 }
 
-/// No early end: the processor does many tokens at once.
+/// Whether one of the tokens is a byte order mark.
 fn has_mark(tokens: &[Span]) -> bool
     ensures { result ≡ has_mark tokens.now }
 {
+    // no early end: the processor does many tokens at once
     let mut marked = false;
     for token in tokens {
         marked |= is_mark(token.kind());
@@ -65,7 +67,9 @@ fn has_mark(tokens: &[Span]) -> bool
     marked
 }
 
-/// Counted in 8 bits, of which the processor adds sixteen at once.
+/// Returns the number of line feeds of a piece of text that has at most `MAX_U8_COUNT` bytes.
+///
+/// It is counted in 8 bits, of which the processor adds sixteen at once.
 fn count_line_feeds_u8(piece: &[u8]) -> u8
     requires { length piece.now < 2 ^ 8 }
     ensures { result ≡ count_by is_lf piece.now }
@@ -77,6 +81,7 @@ fn count_line_feeds_u8(piece: &[u8]) -> u8
     count
 }
 
+/// Returns the number of line feeds of a piece of text.
 fn count_line_feeds(piece: &[u8]) -> usize
     ensures value { result ≡ count_by is_lf piece.now }
     ensures within { result ≤ length piece.now }
@@ -90,6 +95,7 @@ fn count_line_feeds(piece: &[u8]) -> usize
     count + usize::from(count_line_feeds_u8(&piece[from..]))
 }
 
+/// Returns what follows the last line feed of a piece of text, or all of it if it has none.
 fn last_line(piece: &[u8]) -> &[u8]
     ensures { result.now ≡ last_line piece.now }
 {
@@ -182,7 +188,7 @@ fn place_after_tokens(text: &[u8], tokens: &[Span], from: u32, to: u32, at: Plac
     }
 }
 
-/// The place of the gap before token `to`, where that of the gap before token `from` is `at`.
+/// Returns the place of the gap before token `to`, if that of the gap before token `from` is `at`.
 pub(crate) fn gap_place(text: &[u8], tokens: &[Span], from: usize, at: Place, to: usize) -> Place
     requires at { (last : ℕ) × IsGapPlace text.now tokens.now last from at }
     requires order { from ≤ to }
@@ -199,7 +205,7 @@ pub(crate) fn gap_place(text: &[u8], tokens: &[Span], from: usize, at: Place, to
     )
 }
 
-/// The place of token `i`, where that of the gap before it is `at`.
+/// Returns the place of token `i`, if that of the gap before it is `at`.
 pub(crate) fn token_place(text: &[u8], tokens: &[Span], i: usize, at: Place) -> Place
     requires at { (last : ℕ) × IsGapPlace text.now tokens.now last i at }
     requires within { i < length tokens.now }
@@ -210,18 +216,21 @@ pub(crate) fn token_place(text: &[u8], tokens: &[Span], i: usize, at: Place) -> 
     place_after_piece(at, slice(text, begins, token.start()))
 }
 
-/// The line of the gap before token `to`, where that of the gap before token `from` is `line`. No
-/// byte order mark has a line feed, so no look at the kinds of the tokens is needed.
+/// Returns the line of the gap before token `to`, if that of the gap before token `from` is `line`;
+/// lines are counted from 1.
+///
+/// No byte order mark has a line feed, so no look at the kinds of the tokens is needed.
 pub(crate) fn gap_line(text: &[u8], tokens: &[Span], from: usize, line: usize, to: usize) -> usize
     requires at { (last : ℕ) × IsOnLine text.now tokens.now last from line }
     requires order { from ≤ to }
     requires within { to ≤ length tokens.now }
-    ensures { result ≡ (place_after_pairs first_place (take to (pairs_of text.now tokens.now))).line }
+    ensures { result
+        ≡ (place_after_pairs first_place (take to (pairs_of text.now tokens.now))).line }
 {
     line + count_line_feeds(slice(text, gap_at(tokens, from), gap_at(tokens, to)))
 }
 
-/// The line of token `i`, where that of the gap before it is `line`.
+/// Returns the line of token `i`, if that of the gap before it is `line`; lines are counted from 1.
 pub(crate) fn token_line(text: &[u8], tokens: &[Span], i: usize, line: usize) -> usize
     requires at { (last : ℕ) × IsOnLine text.now tokens.now last i line }
     requires within { i < length tokens.now }

@@ -31,6 +31,7 @@ impl<'s> Model for Lines<'s> {
 }
 
 impl<'s> Lines<'s> {
+    /// Returns a cursor at the start of a text with these tokens.
     pub(crate) fn new(text: &'s [u8], tokens: &'s [Span]) -> Lines<'s>
         requires order { (last : ℕ) × IsWellFormed text.now tokens.now last }
         requires marks { MarksHaveNoLf (pairs_of text.now tokens.now) }
@@ -44,7 +45,7 @@ impl<'s> Lines<'s> {
         }
     }
 
-    /// The line of token `i`, from 1.
+    /// Returns the line of token `i`, from 1.
     pub fn of(&mut self, i: usize) -> usize
         requires { i < length self.old }
         ensures line { result ≡ line_of self.old i }

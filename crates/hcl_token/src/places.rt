@@ -31,6 +31,7 @@ impl<'s> Model for Places<'s> {
 }
 
 impl<'s> Places<'s> {
+    /// Returns a cursor at the start of a text with these tokens.
     pub(crate) fn new(text: &'s [u8], tokens: &'s [Span]) -> Places<'s>
         requires { (last : ℕ) × IsWellFormed text.now tokens.now last }
         ensures { result ≡ pairs_of text.now tokens.now }
@@ -50,7 +51,7 @@ impl<'s> Places<'s> {
         self.tokens
     }
 
-    /// The line and the column of token `i`, from 1.
+    /// Returns the line and the column of token `i`, from 1.
     pub fn of(&mut self, i: usize) -> Place
         requires { i < length self.old }
         ensures place { result ≡ place_of self.old i }

@@ -19,12 +19,15 @@ fn shift_of(to: u32, from: u32) -> u64
     (STEP * u64::from(to)).wrapping_sub(STEP * u64::from(from))
 }
 
+/// Whether the word of a token is `shift` greater than that of another, modulo 2^64.
 fn is_shifted_by(one: Span, other: Span, shift: u64) -> bool
     ensures { IsTrue result ↔ IsWordShiftedBy shift one other }
 {
     one.word_distance(other) == shift
 }
 
+/// Whether the word of each token is `shift` greater than that of the other one of its number,
+/// modulo 2^64.
 fn are_shifted_by(tokens: &[Span], others: &[Span], shift: u64) -> bool
     requires { length tokens.now ≡ length others.now }
     ensures { IsTrue result ↔ AreWordsShiftedBy shift tokens.now others.now }
@@ -37,7 +40,7 @@ fn are_shifted_by(tokens: &[Span], others: &[Span], shift: u64) -> bool
     are_shifted
 }
 
-/// The bytes of tokens and of the gaps between them.
+/// Returns the bytes of tokens and of the gaps between them.
 fn token_bytes<'t>(text: &'t [u8], tokens: &[Span]) -> &'t [u8]
     requires { IsTokenRun text.now tokens.now }
     ensures { result.now ≡ whole_text (token_run text.now tokens.now) [] }
@@ -45,14 +48,17 @@ fn token_bytes<'t>(text: &'t [u8], tokens: &[Span]) -> &'t [u8]
     slice(text, tokens[0].start(), tokens[tokens.len() - 1].stop())
 }
 
+/// Whether two pieces of text are equal.
 fn same_bytes(bytes: &[u8], others: &[u8]) -> bool
     ensures { IsTrue result ↔ (bytes.now ≡ others.now) }
 {
     bytes == others
 }
 
-/// Whether tokens are the same, with the same gaps between them. All their bytes are compared at
-/// once: then kinds and places are left, which are in one word for each token.
+/// Whether tokens are the same, with the same gaps between them.
+///
+/// All their bytes are compared at once: then kinds and places are left, which are in one word for
+/// each token.
 pub(crate) fn are_same_tokens(text: &[u8], tokens: &[Span], other: &[u8], others: &[Span]) -> bool
     requires self_run { IsTokenRun text.now tokens.now }
     requires other_run { IsTokenRun other.now others.now }

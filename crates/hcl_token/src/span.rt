@@ -103,7 +103,11 @@ impl Span {
         requires stop { self.start ≤ self.stop }
         requires fits { to + (self.start - from) < MAX_TEXT }
         requires short { to + (self.stop - from) < 2 ^ 32 }
-        ensures { result ≡ record { start = to + (self.start - from); stop = to + (self.stop - from); kind = self.kind } }
+        ensures { result ≡ record {
+          start = to + (self.start - from);
+          stop = to + (self.stop - from);
+          kind = self.kind;
+        } }
     {
         let word = self.word() - STEP * u64::from(from) + STEP * u64::from(to);
         Span {

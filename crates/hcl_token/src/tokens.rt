@@ -82,8 +82,10 @@ impl<'t> Tokens<'t> {
 
     /// Returns the text with its tokens, which were detached.
     pub fn attach(text: &'t [u8], list: TokenList) -> Tokens<'t>
-        requires { (tokenized : TokenizedText) × (tokenized.text ≡ text.now) × IsTokenListOf tokenized list }
-        ensures { (tokenized : TokenizedText) → tokenized.text ≡ text.now → IsTokenListOf tokenized list → result ≡ tokenized }
+        requires { (tokenized : TokenizedText) × (tokenized.text ≡ text.now)
+            × IsTokenListOf tokenized list }
+        ensures { (tokenized : TokenizedText) → tokenized.text ≡ text.now
+            → IsTokenListOf tokenized list → result ≡ tokenized }
     {
         Tokens {
             text,

@@ -1,4 +1,4 @@
--- The tokens of a text that parses, and faults by numbers of tokens and by bytes.
+-- The tokens of a text that parses, and errors by numbers of tokens and by bytes.
 use Rattle.std.proofs.Common.{◌≡◌, ℕ, Bool, true, false, List, Result, Ok, Err, IfOk, IfErr, MatchResult, sym, subst}
 use Rattle.hcl_expr.specs.ReaderRules.{ReaderState}
 use Rattle.hcl_token.specs.TokenizedText.{TokenizedText}
@@ -28,7 +28,7 @@ pub its_answer : (ts : List Token) {here : ReaderState} {r q : Result Tree Token
     → Reads (file here.tokens here.depth 0) r new → IsParseResult ts MAX_NESTING q
 its_answer ts {q = q} new answers e same h = answers ts MAX_NESTING q new (its_reading ts new e same h)
 
--- ---- faults by bytes
+-- ---- errors by bytes
 
 pub memory_to_parse_fault : (s : TokenizedText) (f : TokenFault) → pure.IsMemory f → IsMemory (to_parse_fault s f)
 memory_to_parse_fault s token.Memory h = tt

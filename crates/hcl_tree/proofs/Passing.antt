@@ -61,11 +61,11 @@ module _ (ts : List Token) (d i : ℕ) where
   unfolding file
   whole_file ms j new e h = rw (e, h) refl
 
-  -- a body that is refused is the fault of the file
+  -- if the body is refused, its error is the error of the file
   pub body_refused : (f : TokenFault) (at : ℕ) → at ≡ after_if_next ts false k.Mark i → (f ≢ Memory → members ts d at ≡ Err f) → f ≢ Memory → file ts d i ≡ Err f
   body_refused f at is h other = unread_body f (subst (λ n. members ts d n ≡ Err f) is (h other))
 
-  -- and so is what follows it
+  -- and so is the error of what follows the body
   pub end_refused : (ms : List Member) (f : TokenFault) (at j following : ℕ) → at ≡ after_if_next ts false k.Mark i → members ts d at ≡ Ok (ms, j) → following ≡ after_if_next ts false k.LineComment j
       → expect_end ts (next_kind ts false following) following ≡ Err f → file ts d i ≡ Err f
   end_refused ms f at j following is e is_following h =

@@ -17,7 +17,7 @@ use hcl_token::Kind;
 
 /// Takes at most one attribute, of a block on one line.
 #[tactic(auto, unfolding(hcl_grammar::specs::Pure::BodyParser::one_line_body))]
-fn one_line_body(reader: &Reader<'_, '_>, at: &mut usize) -> Result<Content, TokenFault>
+fn one_line_body(reader: &Reader<'_, '_>, at: &mut u32) -> Result<Content, TokenFault>
     ensures { Reads (spec.one_line_body reader.now at.old) result at.new }
 {
     let lines = reader.outside_brackets();
@@ -33,7 +33,7 @@ fn one_line_body(reader: &Reader<'_, '_>, at: &mut usize) -> Result<Content, Tok
 
 /// Takes the rest of an attribute, after its name and `=`.
 #[tactic(auto, unfolding(hcl_grammar::specs::Pure::BodyParser::attribute_by))]
-fn attribute(reader: &Reader<'_, '_>, first: usize, at: &mut usize) -> Result<Member, TokenFault>
+fn attribute(reader: &Reader<'_, '_>, first: u32, at: &mut u32) -> Result<Member, TokenFault>
     ensures { Reads (spec.attribute reader.now first at.old) result at.new }
 {
     let value = reader.outside_brackets().boxed_expr(Goal::Whole, at)?;
@@ -44,7 +44,7 @@ fn attribute(reader: &Reader<'_, '_>, first: usize, at: &mut usize) -> Result<Me
 /// Takes the body of a block that was opened.
 #[cycle(nest)]
 #[tactic(auto, unfolding(hcl_grammar::specs::Pure::BodyParser::nested_body))]
-fn nested_body(reader: &Reader<'_, '_>, at: &mut usize) -> Result<Content, TokenFault>
+fn nested_body(reader: &Reader<'_, '_>, at: &mut u32) -> Result<Content, TokenFault>
     ensures { Reads (spec.nested_body reader.now at.old) result at.new }
 {
     let from = *at;
@@ -58,7 +58,7 @@ fn nested_body(reader: &Reader<'_, '_>, at: &mut usize) -> Result<Content, Token
 /// the line.
 #[cycle(nest)]
 #[tactic(auto, unfolding(hcl_grammar::specs::Pure::BodyParser::block_content))]
-fn block_content(reader: &Reader<'_, '_>, at: &mut usize) -> Result<Content, TokenFault>
+fn block_content(reader: &Reader<'_, '_>, at: &mut u32) -> Result<Content, TokenFault>
     ensures { Reads (spec.block_content reader.now at.old) result at.new }
 {
     if reader.eat_inner_newline(at)? {
@@ -70,7 +70,7 @@ fn block_content(reader: &Reader<'_, '_>, at: &mut usize) -> Result<Content, Tok
 /// Takes the rest of a block, after its word.
 #[cycle(nest)]
 #[tactic(auto, unfolding(hcl_grammar::specs::Pure::BodyParser::block_by))]
-fn block(reader: &Reader<'_, '_>, first: usize, at: &mut usize) -> Result<Member, TokenFault>
+fn block(reader: &Reader<'_, '_>, first: u32, at: &mut u32) -> Result<Member, TokenFault>
     ensures { Reads (spec.block reader.now first at.old) result at.new }
 {
     let lines = reader.outside_brackets();
@@ -81,7 +81,7 @@ fn block(reader: &Reader<'_, '_>, first: usize, at: &mut usize) -> Result<Member
     let content = block_content(&braces, at)?;
     lines.expect(Kind::CloseBrace, at)?;
     reader.eol(at)?;
-    Ok(nodes::block(first, *at, labels, content)?)
+    Ok(nodes::block(first, *at, labels, content))
 }
 
 /// Takes the rest of an attribute or of a block, after its first word.
@@ -89,8 +89,8 @@ fn block(reader: &Reader<'_, '_>, first: usize, at: &mut usize) -> Result<Member
 #[tactic(auto, unfolding(hcl_grammar::specs::Pure::BodyParser::attribute_or_block))]
 fn attribute_or_block(
     reader: &Reader<'_, '_>,
-    first: usize,
-    at: &mut usize,
+    first: u32,
+    at: &mut u32,
 ) -> Result<Member, TokenFault>
     ensures { Reads (spec.attribute_or_block reader.now first at.old) result at.new }
 {
@@ -104,7 +104,7 @@ fn attribute_or_block(
 /// Takes a member, if one comes next.
 #[cycle(nest)]
 #[tactic(auto, unfolding(hcl_grammar::specs::Pure::BodyParser::member_of))]
-fn next_member(reader: &Reader<'_, '_>, at: &mut usize) -> Result<Option<Member>, TokenFault>
+fn next_member(reader: &Reader<'_, '_>, at: &mut u32) -> Result<Option<Member>, TokenFault>
     ensures { Reads (spec.member reader.now at.old) result at.new }
 {
     let lines = reader.outside_brackets();
@@ -117,7 +117,7 @@ fn next_member(reader: &Reader<'_, '_>, at: &mut usize) -> Result<Option<Member>
 
 /// Takes the members of a body.
 #[cycle(nest)]
-pub fn members(reader: &Reader<'_, '_>, at: &mut usize) -> Result<Items<Member>, TokenFault>
+pub fn members(reader: &Reader<'_, '_>, at: &mut u32) -> Result<Items<Member>, TokenFault>
     ensures { Reads (spec.members reader.now at.old) result at.new }
 {
     let mut found = Items::new(reader.alloc());
@@ -136,7 +136,7 @@ pub fn members(reader: &Reader<'_, '_>, at: &mut usize) -> Result<Items<Member>,
 /// Takes the next member of a text's body, if one comes next.
 ///
 /// Line ends before it are not taken. `parse` makes its tree of a text's members in order.
-pub fn member(reader: &Reader<'_, '_>, at: &mut usize) -> Result<Option<Member>, TokenFault>
+pub fn member(reader: &Reader<'_, '_>, at: &mut u32) -> Result<Option<Member>, TokenFault>
     ensures derived { IsMemberResult reader.now.tokens reader.now.depth at.old result at.new }
     ensures reads { Reads (spec.member reader.now at.old) result at.new }
 {

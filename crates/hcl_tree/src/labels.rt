@@ -14,7 +14,7 @@ use hcl_token::Kind;
 /// Takes the rest of a label in quotes, after its quote, which is token `first`. It has no
 /// interpolation.
 #[tactic(auto, unfolding(hcl_grammar::specs::Pure::BodyParser::quoted_label))]
-fn quoted_label(reader: &Reader<'_, '_>, first: usize, at: &mut usize) -> Result<Label, TokenFault>
+fn quoted_label(reader: &Reader<'_, '_>, first: u32, at: &mut u32) -> Result<Label, TokenFault>
     ensures { ReadsExactly (spec.quoted_label reader.now first at.old) result at.new }
 {
     let lines = reader.outside_brackets();
@@ -29,7 +29,7 @@ fn quoted_label(reader: &Reader<'_, '_>, first: usize, at: &mut usize) -> Result
 
 /// Takes a label, if one comes next.
 #[tactic(auto, unfolding(hcl_grammar::specs::Pure::BodyParser::label_of, hcl_grammar::specs::Tokens::after_next))]
-fn label(reader: &Reader<'_, '_>, at: &mut usize) -> Result<Option<Label>, TokenFault>
+fn label(reader: &Reader<'_, '_>, at: &mut u32) -> Result<Option<Label>, TokenFault>
     ensures { ReadsExactly (spec.label reader.now at.old) result at.new }
 {
     let (first, next) = reader.outside_brackets().next_token(*at);
@@ -47,7 +47,7 @@ fn label(reader: &Reader<'_, '_>, at: &mut usize) -> Result<Option<Label>, Token
 }
 
 /// Takes the labels that come next.
-pub fn labels(reader: &Reader<'_, '_>, at: &mut usize) -> Result<Items<Label>, TokenFault>
+pub fn labels(reader: &Reader<'_, '_>, at: &mut u32) -> Result<Items<Label>, TokenFault>
     ensures { Reads (spec.labels reader.now at.old) result at.new }
 {
     let mut found = Items::new(reader.alloc());

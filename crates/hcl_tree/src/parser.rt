@@ -23,7 +23,7 @@ use std::alloc::Global;
 
 /// Takes all tokens, and returns their tree.
 #[tactic(auto, unfolding(hcl_grammar::specs::Pure::BodyParser::file))]
-fn file(reader: &Reader<'_, '_>, at: &mut usize) -> Result<Tree, TokenFault>
+fn file(reader: &Reader<'_, '_>, at: &mut u32) -> Result<Tree, TokenFault>
     ensures { Reads (spec.file reader.now at.old) result at.new }
 {
     let lines = reader.outside_brackets();
@@ -76,6 +76,7 @@ pub fn parse(alloc: Global, scanned: &Scanned<'_>) -> Result<Tree, ParseFault>
 {
     hcl_grammar_laws::laws::file_parser_is_exact();
     hcl_scan::laws::one_tokenization();
+    // for the proof: a clause of `len` says that these are the tokens of the text
     let _count = scanned.len();
     let mut at = 0;
     to_parse_result(scanned, file(&Reader::new(alloc, scanned), &mut at))

@@ -1,4 +1,4 @@
-//! Edits and records as rows spell them. The answer notes what is spelled otherwise.
+//! Edits and records as rows write them. The answer notes what is written otherwise.
 
 use crate::actual::Answer;
 use edit_record::{Edit, Edits, Journal, Record, Word};
@@ -14,17 +14,17 @@ fn number(text: &str) -> usize {
     text.parse::<usize>().unwrap_or(usize::MAX)
 }
 
-/// An edit spelled `PLACE;REMOVED;ADDED`.
-fn edit_of(alloc: Global, spelled: &str) -> Result<Edit, AllocError> {
-    let (at, sides) = parted(spelled, ';');
+/// An edit written as `PLACE;REMOVED;ADDED`.
+fn edit_of(alloc: Global, text: &str) -> Result<Edit, AllocError> {
+    let (at, sides) = parted(text, ';');
     let (removed, added) = parted(sides, ';');
     Edit::new(alloc, number(at), removed.as_bytes(), added.as_bytes())
 }
 
 /// Edits, each followed by `,`.
-pub fn edits_of(spelled: &str, out: &mut Answer) -> Vec<Edit> {
+pub fn edits_of(text: &str, out: &mut Answer) -> Vec<Edit> {
     let mut edits = Vec::new(out.alloc);
-    for edit in spelled.split_terminator(',') {
+    for edit in text.split_terminator(',') {
         let is_put = match edit_of(out.alloc, edit) {
             Ok(edit) => edits.push(edit).is_ok(),
             Err(_) => false,
@@ -34,9 +34,9 @@ pub fn edits_of(spelled: &str, out: &mut Answer) -> Vec<Edit> {
     edits
 }
 
-/// A list spelled `LENGTH:EDITS`.
-pub fn list_of(spelled: &str, out: &mut Answer) -> Edits {
-    let (old_len, edits) = parted(spelled, ':');
+/// A list written as `LENGTH:EDITS`.
+pub fn list_of(text: &str, out: &mut Answer) -> Edits {
+    let (old_len, edits) = parted(text, ':');
     match Edits::make(number(old_len), edits_of(edits, out)) {
         Ok(list) => list,
         Err(_) => {
@@ -46,10 +46,10 @@ pub fn list_of(spelled: &str, out: &mut Answer) -> Edits {
     }
 }
 
-/// Records spelled `WORD LIST`, each followed by `&`.
-pub fn journal_of(spelled: &str, out: &mut Answer) -> Journal {
+/// Records written as `WORD LIST`, each followed by `&`.
+pub fn journal_of(text: &str, out: &mut Answer) -> Journal {
     let mut journal = Journal::empty(out.alloc);
-    for record in spelled.split_terminator('&') {
+    for record in text.split_terminator('&') {
         let (word, list) = parted(record, ' ');
         let record = Record::make(word_of(word), list_of(list, out));
         out.hold(journal.push(record).is_ok(), "too many records");

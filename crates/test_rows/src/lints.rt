@@ -4,11 +4,15 @@ use crate::actual::Answer;
 use crate::parses::read;
 use crate::records::turned;
 use crate::row::Row;
+use edit_record::{Change, Edits};
 use hcl_scan::Scanned;
 use hcl_tree::Tree;
+use std::alloc::Global;
 use std::fmt::Write;
 use tf_findings::findings;
-use tf_lint::{FixResult, Issue, LintFault, Place, Rule, RuleSet, fix_text, issues};
+use tf_lint::{
+    FixResult, Issue, LintFault, Place, Rule, RuleSet, fix_step, fix_text, issues, parse_text,
+};
 use tf_rules::Finding;
 
 pub fn answer(row: &Row, out: &mut Answer) {
@@ -17,7 +21,8 @@ pub fn answer(row: &Row, out: &mut Answer) {
         "set" => names(set_of(row.word(1)), out),
         "line" => line(row, out),
         "issues" | "findings" => read(row, row.text(2), out),
-        "fix" | "step" => fix(row, out),
+        "fix" => fix(row, out),
+        "step" => step(row, out),
         _ => out.show(&LintFault::Memory),
     }
 }
@@ -34,16 +39,16 @@ fn rule(name: &str, out: &mut Answer) {
     }
 }
 
-/// A set spelled `all`, `none`, `+RULE` (that one alone) or `-RULE` (all others); any other word is
+/// A set: `all`, `none`, `+RULE` (that one alone) or `-RULE` (all others); any other word is
 /// none.
-fn set_of(spelled: &str) -> RuleSet {
-    if let Some(rule) = spelled.strip_prefix('+').and_then(Rule::by_name) {
+fn set_of(spelling: &str) -> RuleSet {
+    if let Some(rule) = spelling.strip_prefix('+').and_then(Rule::by_name) {
         return RuleSet::none().with(rule);
     }
-    if let Some(rule) = spelled.strip_prefix('-').and_then(Rule::by_name) {
+    if let Some(rule) = spelling.strip_prefix('-').and_then(Rule::by_name) {
         return RuleSet::all().without(rule);
     }
-    if spelled == "all" {
+    if spelling == "all" {
         RuleSet::all()
     } else {
         RuleSet::none()
@@ -103,10 +108,11 @@ pub fn searched(row: &Row, scanned: &Scanned<'_>, tree: &Tree, out: &mut Answer)
 fn write_findings(found: &[Finding], scanned: &Scanned<'_>, out: &mut Answer) {
     let mut places = scanned.places();
     for finding in found {
-        if finding.first() >= scanned.len() {
+        let first = finding.first() as usize;
+        if first >= scanned.len() {
             return out.put("no such token");
         }
-        write_finding(finding, places.of(finding.first()), out);
+        write_finding(finding, places.of(first), out);
         out.put("; ");
     }
 }
@@ -142,30 +148,65 @@ fn fix(row: &Row, out: &mut Answer) {
         return out.put("no rule");
     };
     match fix_text(out.alloc, row.text(2), RuleSet::none().with(rule)) {
-        Ok(fixed) => write_fix_result(row, &fixed, out),
+        Ok(fixed) => write_new_text(row, &fixed, out),
         Err(fault) => out.refuse(&fault),
     }
 }
 
-/// The new text, whose edits have to undo to the old one; or how many issues the fix resolves, and
-/// how many edits it makes.
-fn write_fix_result(row: &Row, fixed: &FixResult, out: &mut Answer) {
+/// The new text, whose edits have to undo to the old one.
+fn write_new_text(row: &Row, fixed: &FixResult, out: &mut Answer) {
     match &fixed.change {
-        Some(change) if row.word(0) == "fix" => {
+        Some(change) => {
             turned(&change.edits, "both", row.text(2), out);
             out.hold(
                 out.text() == change.text.as_slice(),
                 "the edits make another text",
             );
         }
-        Some(change) => {
-            let (issues, count) = (fixed.fixed, change.edits.edits().len());
+        None => out.put_bytes(row.text(2)),
+    }
+}
+
+/// The step of one rule over a text with its tree.
+fn step(row: &Row, out: &mut Answer) {
+    let Some(rule) = Rule::by_name(row.word(1)) else {
+        return out.put("no rule");
+    };
+    match parse_text(out.alloc, row.text(2)) {
+        Ok(parsed) => match fix_step(out.alloc, &parsed.scanned, &parsed.tree, rule) {
+            Ok(edits) => write_step(row, rule, &edits, out),
+            Err(fault) => out.refuse(&fault),
+        },
+        Err(fault) => out.refuse(&fault),
+    }
+}
+
+/// How many issues a fix by this rule alone resolves, and how many edits its step makes, which have
+/// to make the text that the fix makes.
+fn write_step(row: &Row, rule: Rule, edits: &Edits, out: &mut Answer) {
+    match fix_text(out.alloc, row.text(2), RuleSet::none().with(rule)) {
+        Ok(fixed) => {
+            let (issues, count) = (fixed.fixed, edits.edits().len());
             let _ = write!(out, "{issues} {count}");
+            let is_made = makes_fixed_text(out.alloc, edits, row.text(2), &fixed);
+            out.hold(is_made, ", and the edits make another text");
         }
-        None if row.word(0) == "fix" => out.put_bytes(row.text(2)),
-        None => {
-            let issues = fixed.fixed;
-            let _ = write!(out, "{issues} 0");
-        }
+        Err(fault) => out.refuse(&fault),
+    }
+}
+
+/// Whether the edits of a step make of a text what the fix makes of it.
+fn makes_fixed_text(alloc: Global, edits: &Edits, text: &[u8], fixed: &FixResult) -> bool {
+    match edits.apply(alloc, text) {
+        Ok(new) => is_new_text(fixed, text, &new),
+        Err(_) => false,
+    }
+}
+
+/// Whether a fix makes this of a text.
+fn is_new_text(fixed: &FixResult, text: &[u8], new: &[u8]) -> bool {
+    match &fixed.change {
+        Some(change) => change.text.as_slice() == new,
+        None => text == new,
     }
 }

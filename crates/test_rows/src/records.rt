@@ -3,7 +3,7 @@
 use crate::actual::Answer;
 use crate::edit_syntax::{edits_of, journal_of, list_of, name_of, word_of};
 use crate::row::Row;
-use edit_record::lists::laws::{
+use edit_record::laws::{
     apply_is_exact, change_is_one_to_one, edit_results_are_exact, make_is_exact,
     pieces_make_valid_edits, pieces_transform, transformed_lengths_match, undo_is_exact,
 };

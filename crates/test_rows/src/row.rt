@@ -23,15 +23,15 @@ impl Row {
             fields: Vec::new(alloc),
             is_whole: true,
         };
-        for spelled in line.split(" | ") {
-            let field = Field::read(alloc, spelled);
+        for spelling in line.split(" | ") {
+            let field = Field::read(alloc, spelling);
             let is_put = field.is_whole && row.fields.push(field.bytes).is_ok();
             row.is_whole = row.is_whole && is_put;
         }
         row
     }
 
-    /// Whether all of it was read: it is spelled as rows are, and had memory.
+    /// Whether all of it was read: it is written as rows are, and had memory.
     pub fn is_whole(&self) -> bool {
         self.is_whole
     }
@@ -77,12 +77,12 @@ struct Field {
 }
 
 impl Field {
-    fn read(alloc: Global, spelled: &str) -> Field {
+    fn read(alloc: Global, spelling: &str) -> Field {
         let mut field = Field {
             bytes: Vec::new(alloc),
             is_whole: true,
         };
-        for piece in spelled.split("\\+") {
+        for piece in spelling.split("\\+") {
             field.put_piece(alloc, piece);
         }
         field
@@ -115,8 +115,8 @@ impl Field {
         }
     }
 
-    fn put_number(&mut self, alloc: Global, spelled: &str, i: u64) {
-        let (first, step) = self.parted(spelled, '+');
+    fn put_number(&mut self, alloc: Global, spelling: &str, i: u64) {
+        let (first, step) = self.parted(spelling, '+');
         let number = self
             .number(first)
             .saturating_add(self.number(step).saturating_mul(i));

@@ -3,7 +3,7 @@
 use crate::actual::Answer;
 use crate::edit_syntax::{journal_of, list_of, spell};
 use crate::row::Row;
-use edit_record::squashes::laws::{squash_all_is_unique, squash_is_associative, squash_is_unique};
+use edit_record::laws::{squash_all_is_unique, squash_is_associative, squash_is_unique};
 use edit_record::{Edits, Journal, Unmet, squash};
 use std::alloc::Global;
 

@@ -3,9 +3,8 @@
 use crate::actual::Answer;
 use crate::edit_syntax::{journal_of, list_of, name_of, spell};
 use crate::row::Row;
-use edit_record::swaps::laws::{move_to_end_is_unique, swap_is_unique};
+use edit_record::laws::{move_to_end_is_unique, swap_is_unique};
 use edit_record::{Edits, MoveFault, Record, SwapFault, move_to_end, swap};
-use std::fmt::Write;
 
 pub fn answer(row: &Row, out: &mut Answer) {
     match row.word(0) {
@@ -50,13 +49,13 @@ fn move_to_end_row(row: &Row, out: &mut Answer) {
     }
 }
 
-/// How many records there are, and the last of them.
+/// All the records, in order, as a row spells them.
 fn write_reordered(others: &[Record], out: &mut Answer) {
-    out.show(&others.len());
-    if let Some(last) = others.last() {
-        let word = name_of(last.word());
-        let _ = write!(out, ", {word} ");
-        spell(last.edits(), out);
+    for record in others {
+        out.put(name_of(record.word()));
+        out.put(" ");
+        spell(record.edits(), out);
+        out.put("&");
     }
 }
 

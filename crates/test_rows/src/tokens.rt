@@ -205,9 +205,9 @@ const KINDS: [Kind; 29] = [
 
 fn kind_of(name: &str, out: &mut Answer) -> Kind {
     for kind in KINDS {
-        let mut spelled = Answer::new(out.alloc);
-        let _ = write!(spelled, "{kind:?}");
-        if spelled.text() == name.as_bytes() {
+        let mut written = Answer::new(out.alloc);
+        let _ = write!(written, "{kind:?}");
+        if written.text() == name.as_bytes() {
             return kind;
         }
     }

@@ -16,7 +16,7 @@ mod walk;
 use crate::report::Report;
 use anyhow::Result;
 use counts::Tally;
-use coverage::Seen;
+use coverage::Coverage;
 use hcl_scan::{Scanned, scan};
 use hcl_tree::parse;
 use std::fmt::Write;
@@ -26,7 +26,7 @@ use tf_lint::{RuleSet, issues};
 /// Tries all of them.
 pub fn run(rt: &HostRuntime) -> Result<()> {
     let expected = fs::read_to_string(rt, "corpus/expected")?;
-    let mut seen = Seen::new();
+    let mut seen = Coverage::new();
     let mut tally = Tally::new();
     let mut count = 0u64;
     for line in expected.lines() {
@@ -39,7 +39,7 @@ pub fn run(rt: &HostRuntime) -> Result<()> {
     Ok(())
 }
 
-fn try_one(rt: &HostRuntime, line: &str, seen: &mut Seen, tally: &mut Tally) -> Result<()> {
+fn try_one(rt: &HostRuntime, line: &str, seen: &mut Coverage, tally: &mut Tally) -> Result<()> {
     let (name, _) = line.split_once(' ').unwrap_or((line, ""));
     let mut report = Report::new(rt.alloc());
     let file = format!(in report.alloc; "corpus/{name}")?;
@@ -63,7 +63,7 @@ fn print_difference(rt: &HostRuntime, line: &str, found: &str, report: &Report) 
 fn line_of(
     name: &str,
     text: &[u8],
-    seen: &mut Seen,
+    seen: &mut Coverage,
     tally: &mut Tally,
     report: &mut Report,
 ) -> String {
@@ -77,7 +77,13 @@ fn line_of(
 }
 
 /// Notes what occurs in a text, and writes how many issues of each rule it has after its line.
-fn look(text: &[u8], line: &mut String, seen: &mut Seen, tally: &mut Tally, report: &mut Report) {
+fn look(
+    text: &[u8],
+    line: &mut String,
+    seen: &mut Coverage,
+    tally: &mut Tally,
+    report: &mut Report,
+) {
     match scan(report.alloc, text) {
         Ok(scanned) => look_at(&scanned, line, seen, tally, report),
         Err(_) => report.hold(false, "it has no tokens"),
@@ -87,7 +93,7 @@ fn look(text: &[u8], line: &mut String, seen: &mut Seen, tally: &mut Tally, repo
 fn look_at(
     scanned: &Scanned<'_>,
     line: &mut String,
-    seen: &mut Seen,
+    seen: &mut Coverage,
     tally: &mut Tally,
     report: &mut Report,
 ) {

@@ -1,4 +1,4 @@
--- Rules that are taken out of a set, and put in, one choice after another.
+-- Rules that are removed from a set, or added to it, one choice after another.
 use Rattle.std.proofs.Common.{◌≡◌, ◌≢◌, ◌==◌, ◌||◌, ℕ, ◌<◌, ◌+◌, Bool, true, false, not, List, take, length, get_or, inl, inr, refl, sym, ap, ◌∙◌}
 use Rattle.std.proofs.lemmas.Bool.Decides.{eqb_tells}
 use Rattle.std.proofs.lemmas.List.Folds.{list_any_more}

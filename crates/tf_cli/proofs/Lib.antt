@@ -1,2 +1,5 @@
 pub mod Choosing
+pub mod Commands
 pub mod Naming
+pub mod Tasks
+pub mod Values

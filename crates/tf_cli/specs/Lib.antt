@@ -1,2 +1,4 @@
 pub mod Arguments
 pub mod Choices
+pub mod Options
+pub mod Tasks

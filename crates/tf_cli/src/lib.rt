@@ -8,5 +8,6 @@ mod options;
 mod outcome;
 mod rule_choice;
 
-pub use command_line::{Action, CommandLine, Exit, Task};
+pub use command_line::{CommandLine, Exit, Task};
+pub use options::Action;
 pub use outcome::{FileOutcome, RunOutcome};

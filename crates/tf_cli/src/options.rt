@@ -1,9 +1,13 @@
-//! The tables of the commands and of their options, of which arguments, actions and help are made.
+//! The tables of the commands and of their options, of which arguments and help are made.
 
-ghost use Rattle.std.specs.Prelude.{◌≡◌, ◌≤◌, ◌↔◌, ◌⊎◌, true, false, length};
+ghost use Rattle.std.specs.Prelude.{◌≡◌, ◌≤◌, ◌↔◌, ◌⊎◌, true, false, Some, length};
 ghost use Rattle.std.specs.List.{list_any};
 ghost use Rattle.tf_cli.specs.Arguments.{is_dash};
+ghost use Rattle.tf_cli.specs.Options.{subcommand_name, file_count_of, flag_name};
 ghost use Rattle.tf_cli.specs.declared.options.FileCount.{FileCount};
+ghost use Rattle.tf_cli.specs.declared.options.Subcommand.{Subcommand};
+
+use tf_rules::RuleSet;
 
 /// A command of `tfk`.
 #[derive(Clone, Copy)]
@@ -31,6 +35,20 @@ pub enum FileCount {
     Several,
     /// One, which has a journal: not `-`.
     One,
+}
+
+/// What is to be done to a file.
+#[derive(Clone, Copy)]
+pub enum Action {
+    Format,
+    /// Reports which files are not formatted.
+    Check,
+    Lint(RuleSet),
+    Fix(RuleSet),
+    /// Reverts the command of this number, the oldest being 1, or without one the last.
+    Revert(Option<u32>),
+    /// Lists the recorded commands.
+    List,
 }
 
 /// An option.
@@ -86,7 +104,10 @@ impl Subcommand {
     ];
 
     /// Returns the row of the command.
-    pub fn info(self) -> SubcommandInfo {
+    pub fn info(self) -> SubcommandInfo
+        ensures name { result.name.now ≡ subcommand_name self }
+        ensures file_count { result.file_count ≡ file_count_of self }
+    {
         match self {
             Subcommand::Fmt => SubcommandInfo {
                 name: "fmt",
@@ -108,17 +129,28 @@ impl Subcommand {
             },
             Subcommand::Revert => SubcommandInfo {
                 name: "revert",
-                about: "Reverts the last change of a file, or an earlier one",
+                about: "Reverts the last command on a file, or an earlier one",
                 file_help: "The file to revert",
                 file_count: FileCount::One,
             },
         }
     }
 
+    /// Returns the command's name.
+    pub fn name(self) -> &'static str
+        ensures { result.now ≡ subcommand_name self }
+    {
+        self.info().name
+    }
+
     /// Returns the command of a name; none if no command has it.
-    pub fn by_name(name: &str) -> Option<Subcommand> {
-        for subcommand in Subcommand::ALL {
-            if name == subcommand.info().name {
+    pub fn by_name(name: &str) -> Option<Subcommand>
+        ensures { (subcommand : Subcommand) → (result ≡ Some subcommand)
+            ↔ (name.now ≡ subcommand_name subcommand) }
+    {
+        for i in 0..Subcommand::COUNT {
+            let subcommand = Subcommand::ALL[i];
+            if name == subcommand.name() {
                 return Some(subcommand);
             }
         }
@@ -140,7 +172,9 @@ impl Flag {
     ];
 
     /// Returns the row of the option.
-    pub fn info(self) -> FlagInfo {
+    pub fn info(self) -> FlagInfo
+        ensures { result.name.now ≡ flag_name self }
+    {
         match self {
             Flag::Check => FlagInfo {
                 name: "check",
@@ -165,14 +199,14 @@ impl Flag {
             },
             Flag::Take => FlagInfo {
                 name: "take",
-                help: "Revert change N alone, the oldest being 1",
+                help: "Revert command N alone, the oldest being 1",
                 value: FlagValue::Number,
                 conflict: None,
                 commands: Commands::Revert,
             },
             Flag::List => FlagInfo {
                 name: "list",
-                help: "Write nothing; list the recorded changes",
+                help: "Write nothing; list the recorded commands",
                 value: FlagValue::Nothing,
                 conflict: Some(Flag::Take),
                 commands: Commands::Revert,
@@ -188,7 +222,9 @@ impl Flag {
     }
 
     /// Returns the option's name, without the `--`.
-    pub fn name(self) -> &'static str {
+    pub fn name(self) -> &'static str
+        ensures { result.now ≡ flag_name self }
+    {
         self.info().name
     }
 

@@ -1,3 +1,6 @@
 pub mod Common
 pub mod Handles
 pub mod Snapshots
+pub mod FileEffects
+pub mod Ends
+pub mod Opening

@@ -10,6 +10,7 @@ use tf_session::{Command, Fault, RunFault};
 /// elsewhere, or the text is not the one that it was saved with.
 ///
 /// # Errors
+///
 /// `Memory`; `Read` and others where a file can't be read.
 pub fn can_adopt<R: Files>(
     rt: &R,

@@ -127,7 +127,8 @@ pub fn reply_to<T: Drop>(answer: io::Result<T>) -> Reply {
     }
 }
 
-/// A name that is too long can be found nowhere, and can't be written either.
+/// Opens a file to be written, and writes nothing. A name that is too long can be found nowhere,
+/// and can't be written either.
 fn open<R: Files>(rt: &R, name: &str) -> Reply {
     let mut options = OpenOptions::new();
     options.write(true);
@@ -176,7 +177,12 @@ pub fn sync_directory<R: Files>(rt: &R, name: &str) -> Reply {
     }
 }
 
-/// Opens the directory of this name to be synced; or returns the reply.
+/// Opens the directory of this name to be synced.
+///
+/// # Errors
+///
+/// The reply to the sync: `CannotReplace` without the permission to read the directory, else
+/// `Failed`.
 pub fn open_directory<R: Files>(rt: &R, name: &str) -> Result<R::File, Reply> {
     let directory = match Path::new(name).parent() {
         Some(directory) if !directory.as_str().is_empty() => directory.as_str(),
@@ -197,7 +203,8 @@ pub fn sync_opened<F: OpenFile>(directory: &F) -> Reply {
     }
 }
 
-/// Nothing of what was written is to be reported where another program has changed a file.
+/// Looks whether the new file is this command's own. If another program has changed a file, nothing
+/// of what was written is to be reported.
 fn compare_new<R: Files>(rt: &R, file: &mut PartFile<'_, R::File>) -> Reply {
     match find_own_new(rt, file) {
         Reply::Done => Reply::Done,
@@ -229,8 +236,8 @@ fn adopt<R: Files>(rt: &R, alloc: Global, journal: &mut PartFile<'_, R::File>) -
     }
 }
 
-/// Nothing is renamed over what is mounted. No look comes before the rename of the text, which
-/// follows the comparison of its file at once.
+/// Renames the new file to the part. Nothing is renamed over what is mounted. No look precedes
+/// the rename of the text, which follows the comparison of its file at once.
 fn rename<R: Files>(rt: &R, file: &PartFile<'_, R::File>) -> Reply {
     match fs::rename(rt, file.new, file.own) {
         Err(error) if error.kind() == ErrorKind::ResourceBusy => Reply::CannotReplace,

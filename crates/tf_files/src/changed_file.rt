@@ -51,6 +51,7 @@ impl ChangedFile {
     /// written in place. After an error they are as they were.
     ///
     /// # Errors
+    ///
     /// `Write` with the part and the number of its bytes that were written, 0 where another program
     /// has changed a file meanwhile; `Read` where it is not known what the next recovery will find.
     pub fn save<R: Files>(&self, rt: &R, alloc: Global) -> Result<(), RunFault> {
@@ -67,6 +68,7 @@ impl ChangedFile {
     /// first: a new journal that is there now is another command's, on its way.
     ///
     /// # Errors
+    ///
     /// As those of `save`.
     pub fn complete<R: Files>(
         &self,
@@ -91,6 +93,7 @@ impl ChangedFile {
 /// come, in their order.
 ///
 /// # Errors
+///
 /// Where there is no memory for that nothing is done.
 pub fn save_together<R: Files>(
     rt: &R,

@@ -1,5 +1,7 @@
 //! The names of a file, of its journal, and of the new files that are to replace them.
 
+ghost use Rattle.std.specs.Prelude.{◌≡◌, IfOk, IfErr, string_bytes};
+
 use crate::adoption::can_adopt;
 use std::alloc::{AllocError, Global};
 use std::fs;
@@ -33,7 +35,14 @@ pub struct FilePaths {
 
 impl FilePaths {
     /// Returns the names for a file of this name.
-    pub fn of<R: Files>(rt: &R, alloc: Global, name: &str) -> Result<FilePaths, RunFault> {
+    ///
+    /// # Errors
+    ///
+    /// `Memory`.
+    pub fn of<R: Files>(rt: &R, alloc: Global, name: &str) -> Result<FilePaths, RunFault>
+        ensures text { IfOk result (λ paths. string_bytes paths.text ≡ name.now) }
+        ensures fault { IfErr result (λ fault. fault ≡ RunFault.Memory) }
+    {
         let text = String::from_str(alloc, name)?;
         let real_text = String::from_str(alloc, name)?;
         let real_text = resolve(rt, alloc, real_text)?;
@@ -54,6 +63,7 @@ impl FilePaths {
     /// interrupted after it had replaced the text.
     ///
     /// # Errors
+    ///
     /// `Read` if the system does not report whether a file exists.
     pub fn current_journal<R: Files>(&self, rt: &R, alloc: Global) -> Result<&str, RunFault> {
         let is_new = is_found(rt, &self.new_journal)?
@@ -94,7 +104,9 @@ pub fn is_not_found(error: &io::Error) -> bool {
 
 /// Returns the name of the file that a name leads to; the name itself if the system does not report
 /// it.
-fn resolve<R: Files>(rt: &R, alloc: Global, name: String) -> Result<String, RunFault> {
+fn resolve<R: Files>(rt: &R, alloc: Global, name: String) -> Result<String, RunFault>
+    ensures { IfErr result (λ fault. fault ≡ RunFault.Memory) }
+{
     match rt.canonicalize(alloc, name.as_str()) {
         Ok(path) => Ok(path.into_string()),
         Err(error) if error.kind() == ErrorKind::OutOfMemory => Err(RunFault::Memory),

@@ -16,5 +16,5 @@ mod snapshot;
 
 pub use changed_file::{ChangedFile, save_together};
 pub use found_files::FoundFiles;
-pub use journaled_file::{JournaledFile, load_read_only};
+pub use journaled_file::{FileEffect, FileFault, JournaledFile, load_read_only};
 pub use saves::Attempt;

@@ -88,7 +88,8 @@ pub fn copy_attributes<R: Files>(rt: &R, part: SavedFile, file: &PartFile<'_, R:
     }
 }
 
-/// The owner comes first, since a change of it takes bits of the mode away.
+/// Gives the new file the owner, group and mode of a file that was read. The owner comes first,
+/// since a change of it takes bits of the mode away.
 fn make_like<R: Files>(rt: &R, name: &str, seen: Snapshot, created: &R::File) -> Reply {
     match fs::symlink_metadata(rt, name) {
         Ok(old) if Snapshot::of_found(&old) == seen => match copy_owner(rt, &old, created) {
@@ -143,6 +144,10 @@ fn set_permissions<F: OpenFile>(created: &F, permissions: Permissions) -> Reply 
 
 /// Empties a file that had a byte. Such a file is written out as soon as a handle to it is closed
 /// (ext4, XFS), and nobody waits for that.
+///
+/// # Errors
+///
+/// Those of the system's calls.
 pub fn truncate<F: Write + Seek + OpenFile>(file: &mut F) -> io::Result<()> {
     file.write_all(b"\n")?;
     file.set_len(0)?;

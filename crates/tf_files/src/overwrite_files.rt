@@ -12,7 +12,7 @@ use std::io::{ErrorKind, Read, Seek, Write};
 use std::os::unix::fs::OpenOptionsExt;
 use std::rt::Files;
 use tf_saving::Reply;
-use tf_session::{Part, RunFault};
+use tf_session::{RunFault, SessionPart};
 
 /// Writes both files over the old ones, the journal first, and waits until both are durable. After
 /// an error the old bytes are put back, as far as the system lets it; a crash in the middle loses
@@ -21,6 +21,7 @@ use tf_session::{Part, RunFault};
 /// name.
 ///
 /// # Errors
+///
 /// `Write` with the part and the number of its bytes that were written, 0 where another program has
 /// changed a file meanwhile; `Read` and `Memory` where an old file can't be read for its backup.
 pub fn overwrite<R: Files>(
@@ -31,7 +32,7 @@ pub fn overwrite<R: Files>(
     read: Option<Snapshots>,
 ) -> Result<(), RunFault> {
     let Some(read) = read else {
-        return Err(write_fault(Part::Text, 0));
+        return Err(write_fault(SessionPart::Text, 0));
     };
     match read.journal {
         Some(journal) => overwrite_both(rt, alloc, paths, contents, read.text, journal),
@@ -48,10 +49,16 @@ fn overwrite_both<R: Files>(
     seen: Snapshot,
     seen_journal: Snapshot,
 ) -> Result<(), RunFault> {
-    let old_journal = old_bytes(rt, alloc, Part::Journal, &paths.journal, seen_journal)?;
-    let old_text = old_bytes(rt, alloc, Part::Text, &paths.text, seen)?;
-    let mut journal = open_seen(rt, Part::Journal, &paths.journal, seen_journal)?;
-    let mut text = open_seen(rt, Part::Text, &paths.text, seen)?;
+    let old_journal = old_bytes(
+        rt,
+        alloc,
+        SessionPart::Journal,
+        &paths.journal,
+        seen_journal,
+    )?;
+    let old_text = old_bytes(rt, alloc, SessionPart::Text, &paths.text, seen)?;
+    let mut journal = open_seen(rt, SessionPart::Journal, &paths.journal, seen_journal)?;
+    let mut text = open_seen(rt, SessionPart::Text, &paths.text, seen)?;
     let put = write_both(&mut journal, &mut text, contents);
     if put.is_err() {
         put_back(&mut text, &old_text);
@@ -69,7 +76,7 @@ fn create_and_overwrite<R: Files>(
     contents: NewContents<'_>,
     seen: Snapshot,
 ) -> Result<(), RunFault> {
-    let old_text = old_bytes(rt, alloc, Part::Text, &paths.text, seen)?;
+    let old_text = old_bytes(rt, alloc, SessionPart::Text, &paths.text, seen)?;
     let mut journal = create_journal(rt, paths, seen)?;
     let put = overwrite_text(rt, paths, contents, seen, &mut journal, &old_text);
     if put.is_err() {
@@ -88,9 +95,9 @@ fn overwrite_text<R: Files>(
     old_text: &Option<Vec<u8>>,
 ) -> Result<(), RunFault> {
     sync_journal_name(rt, paths)?;
-    let mut text = open_seen(rt, Part::Text, &paths.text, seen)?;
+    let mut text = open_seen(rt, SessionPart::Text, &paths.text, seen)?;
     if len_of(journal) != Some(0) {
-        return Err(write_fault(Part::Journal, 0));
+        return Err(write_fault(SessionPart::Journal, 0));
     }
     let put = write_both(journal, &mut text, contents);
     if put.is_err() {
@@ -107,12 +114,12 @@ fn write_both<F: Write + OpenFile>(
     text: &mut F,
     contents: NewContents<'_>,
 ) -> Result<(), RunFault> {
-    write_part(Part::Journal, contents.journal, journal)?;
-    write_part(Part::Text, contents.text, text)?;
-    truncate(Part::Text, text, contents.text.len())?;
-    truncate(Part::Journal, journal, contents.journal.len())?;
-    sync(Part::Journal, journal, contents.journal.len())?;
-    sync(Part::Text, text, contents.text.len())
+    write_part(SessionPart::Journal, contents.journal, journal)?;
+    write_part(SessionPart::Text, contents.text, text)?;
+    truncate(SessionPart::Text, text, contents.text.len())?;
+    truncate(SessionPart::Journal, journal, contents.journal.len())?;
+    sync(SessionPart::Journal, journal, contents.journal.len())?;
+    sync(SessionPart::Text, text, contents.text.len())
 }
 
 /// Creates an empty journal with the owner, group and mode of the text's file, as far as the system
@@ -131,14 +138,14 @@ fn create_journal<R: Files>(
             let _ = make_first_journal(rt, paths, seen, &journal);
             Ok(journal)
         }
-        Err(_) => Err(write_fault(Part::Journal, 0)),
+        Err(_) => Err(write_fault(SessionPart::Journal, 0)),
     }
 }
 
 /// Waits until the name of a new journal is durable.
 fn sync_journal_name<R: Files>(rt: &R, paths: &FilePaths) -> Result<(), RunFault> {
     match sync_directory(rt, &paths.journal) {
-        Reply::Failed | Reply::NotFound => Err(write_fault(Part::Journal, 0)),
+        Reply::Failed | Reply::NotFound => Err(write_fault(SessionPart::Journal, 0)),
         Reply::Done | Reply::CannotReplace => Ok(()),
     }
 }
@@ -163,11 +170,12 @@ fn len_of<F: OpenFile>(file: &F) -> Option<u64> {
 /// Opens a part to be written over, and changes nothing.
 ///
 /// # Errors
+///
 /// `Write` with no byte sent, also where the name leads to another file than the one that was seen,
 /// or that one has changed.
 fn open_seen<R: Files>(
     rt: &R,
-    part: Part,
+    part: SessionPart,
     name: &str,
     seen: Snapshot,
 ) -> Result<R::File, RunFault> {
@@ -178,7 +186,7 @@ fn open_seen<R: Files>(
 }
 
 /// Cuts off what follows the bytes of a part. In what is no regular file there is nothing.
-fn truncate<F: OpenFile>(part: Part, file: &F, len: usize) -> Result<(), RunFault> {
+fn truncate<F: OpenFile>(part: SessionPart, file: &F, len: usize) -> Result<(), RunFault> {
     if file.set_len(len as u64).is_ok() || !is_regular_file(file) {
         Ok(())
     } else {
@@ -187,7 +195,7 @@ fn truncate<F: OpenFile>(part: Part, file: &F, len: usize) -> Result<(), RunFaul
 }
 
 /// Waits until the bytes of a part are durable. What is no regular file may have no such call.
-fn sync<F: OpenFile>(part: Part, file: &F, len: usize) -> Result<(), RunFault> {
+fn sync<F: OpenFile>(part: SessionPart, file: &F, len: usize) -> Result<(), RunFault> {
     if file.sync_all().is_ok() || !is_regular_file(file) {
         Ok(())
     } else {
@@ -208,7 +216,7 @@ fn is_regular_file<F: OpenFile>(file: &F) -> bool {
 fn old_bytes<R: Files>(
     rt: &R,
     alloc: Global,
-    part: Part,
+    part: SessionPart,
     name: &str,
     seen: Snapshot,
 ) -> Result<Option<Vec<u8>>, RunFault> {

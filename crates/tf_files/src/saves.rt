@@ -1,7 +1,11 @@
 //! Follows the saves of many files: each up to its next wait for the disk, then all waits in a row.
 
+ghost use Rattle.std.specs.Prelude.{◌≡◌, true, IfErr};
+ghost use Rattle.tf_files.specs.Ends.{result_of_end, part_fault, unknown_fault};
+ghost use Rattle.tf_files.specs.Opening.{is_file_fault};
+
 use crate::calls::{NewFile, PartFile, make, open_directory, sync_opened};
-use crate::file_part::{session_part, write_fault};
+use crate::file_part::write_fault;
 use crate::file_paths::FilePaths;
 use crate::found_files::FileId;
 use crate::snapshot::Snapshots;
@@ -10,7 +14,7 @@ use std::fs::OpenFile;
 use std::io::{Read, Seek, Write};
 use std::rt::Files;
 use tf_saving::{End, Reply, SavedFile, Step, Syscall};
-use tf_session::RunFault;
+use tf_session::{RunFault, SessionPart};
 
 /// The bytes that a file and its journal are to have.
 #[derive(Clone, Copy)]
@@ -81,9 +85,12 @@ fn wait_for_all<R: Files>(rt: &R, alloc: Global, saves: &mut [Save<'_, R::File>]
 /// Makes the calls of a recovery.
 ///
 /// # Errors
+///
 /// `Read` where it is not known what was interrupted; `Write` of the journal where a new one can't
 /// be removed or renamed; `Memory`.
-pub fn recover<R: Files>(rt: &R, alloc: Global, paths: &FilePaths) -> Result<(), RunFault> {
+pub fn recover<R: Files>(rt: &R, alloc: Global, paths: &FilePaths) -> Result<(), RunFault>
+    ensures { IfErr result (λ fault. is_file_fault fault ≡ true) }
+{
     let mut recovery = Save::<R::File> {
         text: PartFile::text(paths, &[], None, NewFile::Left, false),
         journal: PartFile::journal(paths, &[], None, NewFile::Left, false),
@@ -95,8 +102,8 @@ pub fn recover<R: Files>(rt: &R, alloc: Global, paths: &FilePaths) -> Result<(),
 }
 
 impl<'a, F: Drop> Save<'a, F> {
-    /// The save of a text and a journal, before its first call. `read` is what both files were
-    /// before they were read; in company the system is to start writing early.
+    /// Makes the save of a text and a journal, before its first call. `read` is what both files
+    /// were before they were read; in company the system is to start writing early.
     pub fn new(
         paths: &'a FilePaths,
         contents: NewContents<'a>,
@@ -115,20 +122,28 @@ impl<'a, F: Drop> Save<'a, F> {
     }
 
     /// Returns whether the new files have replaced the old ones, or the error that this end is.
-    fn outcome(&self, end: End) -> Result<bool, RunFault> {
+    fn outcome(&self, end: End) -> Result<bool, RunFault>
+        ensures value { result ≡ result_of_end end self.now.text.sent self.now.journal.sent
+            self.now.journal.is_out_of_memory }
+        ensures fault { IfErr result (λ fault. is_file_fault fault ≡ true) }
+    {
         match end {
             End::Success => Ok(true),
             End::InPlace => Ok(false),
-            End::Unknown if self.journal.is_out_of_memory => Err(RunFault::Memory),
-            End::Unknown => Err(RunFault::Read),
-            End::Error(SavedFile::Text) => Err(write_fault(
-                session_part(SavedFile::Text),
-                self.text.sent,
-            )),
-            End::Error(SavedFile::Journal) | End::Late => Err(write_fault(
-                session_part(SavedFile::Journal),
-                self.journal.sent,
-            )),
+            End::Unknown => Err(unknown_fault(self.journal.is_out_of_memory)),
+            End::Error(part) => Err(self.part_fault(part)),
+            End::Late => Err(self.part_fault(SavedFile::Journal)),
+        }
+    }
+
+    /// Returns the error that not all of a part was written.
+    fn part_fault(&self, part: SavedFile) -> RunFault
+        ensures value { result ≡ part_fault part self.now.text.sent self.now.journal.sent }
+        ensures fault { is_file_fault result ≡ true }
+    {
+        match part {
+            SavedFile::Text => write_fault(SessionPart::Text, self.text.sent),
+            SavedFile::Journal => write_fault(SessionPart::Journal, self.journal.sent),
         }
     }
 }
@@ -207,9 +222,12 @@ impl<'a, F: Read + Write + Seek + OpenFile + Drop> Save<'a, F> {
     /// they can't, both are to be written in place.
     ///
     /// # Errors
+    ///
     /// `Write` with the part and the number of its bytes that were written; `Read` where it is not
     /// known what the next recovery will find.
-    pub fn result<R: Files<File = F>>(&mut self, rt: &R, alloc: Global) -> Result<bool, RunFault> {
+    pub fn result<R: Files<File = F>>(&mut self, rt: &R, alloc: Global) -> Result<bool, RunFault>
+        ensures { IfErr result (λ fault. is_file_fault fault ≡ true) }
+    {
         let end = self.end(rt, alloc);
         self.outcome(end)
     }
@@ -223,6 +241,18 @@ impl<'a, F: Read + Write + Seek + OpenFile + Drop> Save<'a, F> {
             Err(_) if matches!(end, End::Error(_)) => Attempt::Refused,
             Err(fault) => Attempt::Fault(fault),
         }
+    }
+}
+
+/// Returns the error if it is not known what the next recovery will find.
+fn unknown_fault(is_out_of_memory: bool) -> RunFault
+    ensures value { result ≡ unknown_fault is_out_of_memory }
+    ensures fault { is_file_fault result ≡ true }
+{
+    if is_out_of_memory {
+        RunFault::Memory
+    } else {
+        RunFault::Read
     }
 }
 

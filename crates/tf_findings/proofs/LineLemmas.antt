@@ -79,7 +79,7 @@ quiet_spelling pairs rule line i kind spelling is_kind is_spelling none_said =
     let f : t ≡ spelling = cc (same_spelling, is_spelling) in
     ap (λ x. silences x t rule) e ∙ (ap (λ x. silences kind x rule) f ∙ none_said))
 
--- past a token that is no silencing comment
+-- a token that is no silencing comment can be skipped
 pub quiet_step : (pairs : List Pair) (rule : Rule) (line i : ℕ) → i < length pairs → silences_at pairs rule line i ≡ false
     → silenced_from pairs rule line (i + 1) (drop (i + 1) pairs) ≡ silenced_from pairs rule line i (drop i pairs)
 quiet_step pairs rule line i within none_said =

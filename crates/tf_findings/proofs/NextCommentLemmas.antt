@@ -9,7 +9,7 @@ use Rattle.hcl_token.specs.declared.kind.Kind.{Kind}
 use Rattle.tf_rules.specs.Findings.{valid_findings}
 use Rattle.tf_rules.specs.declared.rule.Rule.{Rule}
 use Rattle.tf_rules.specs.declared.rule_set.RuleSet.{RuleSet}
-use Rattle.tf_findings.specs.Comments.{is_comment}
+use Rattle.hcl_token.specs.Kinds.{is_comment}
 use Rattle.tf_findings.specs.Silencing.{silenced_from}
 use Rattle.tf_findings.specs.Inner.NextComment.{IsNoComment, AreNoComments, HasComment}
 use Rattle.tf_findings.proofs.CommentLemmas.{found_from, found_step, other_adds}

@@ -43,11 +43,11 @@ use Rattle.tf_rules.specs.Table.{all_rules, index_of, is_comment_rule}
 use Rattle.std.proofs.lemmas.Bool.Decides.{nat_tests}
 use Rattle.tf_findings.specs.RuleFilter.{is_found_by, FindingsOfOneRule}
 use Rattle.tf_findings.specs.FoundBy.{FindingsMatchTheirRule}
-use Rattle.tf_rules.specs.FoundBy.{IsFoundBy}
+use Rattle.tf_rules.specs.FoundBy.{MatchesRule}
 use Rattle.tf_findings.specs.Order.{rank, report_order}
 use Rattle.tf_findings.specs.Silencing.{is_silenced}
 use Rattle.tf_rules.specs.Attributes.{attributes, has_attribute}
-use Rattle.tf_rules.specs.TreeLayers.{MemberLayer}
+use Rattle.hcl_grammar.specs.TreeLayers.{MemberLayer}
 use Rattle.tf_rules.specs.Rules.Missing.{is_undocumented, untyped_findings, undocumented_findings, missing_findings}
 use Rattle.tf_rules.specs.TopLevelFindings.{top_level_layer_findings, top_level_member_findings}
 use Rattle.tf_rules.specs.Spelling.{token_text}
@@ -73,7 +73,7 @@ only_has rule other = refl
 
 -- ---- findings of one rule among others
 
--- where all are of one rule, its rank tells of each whether it passes
+-- if all are of one rule, its rank decides for each whether it passes
 alike : (pairs : List Pair) (rule other : Rule) (b : Bool) (fs : List Finding) → (rank other == rank rule) ≡ b
     → AreFrom pairs other fs → AllByRecursion (λ (f : Finding). is_found_by rule f ≡ b) fs
 alike pairs rule other b [] e h = tt
@@ -104,7 +104,7 @@ by_test rule fs false true h k = absurd (false≢true (h refl).0)
 by_test rule fs true false h k = k refl
 by_test rule fs false false h k = refl
 
--- d whether the rule of the findings is the one that is asked for
+-- d: whether the rule of the findings is the one to filter by
 from_test : (pairs : List Pair) (rule other : Rule) (fs : List Finding) (d : Bool) → (d ≡ true → other ≡ rule) → AreFrom pairs other fs → AreFrom pairs rule (if d then fs else [])
 from_test pairs rule other fs true same h = subst (λ (r : Rule). AreFrom pairs r fs) (same refl) h
 from_test pairs rule other fs false same h = tt
@@ -152,7 +152,7 @@ module _ (rules : RuleSet) (rule : Rule) (has : has_rule rules rule ≡ true) wh
 
   untyped : (pairs : List Pair) (b : Block) (l : Label) → Picks pairs rule (untyped_findings rules pairs b l) (untyped_findings (only rule) pairs b l)
   untyped pairs b l =
-      chosen_if TypedVariables (bytes_eq (token_text pairs b.block_type) (codes "variable") && not (has_attribute pairs (codes "type") false (attributes b))) _
+      chosen_if TypedVariables (bytes_eq (token_text pairs b.block_type) (codes "variable") && not (has_attribute pairs (codes "type") (attributes b))) _
       (missing_rule.of_rule pairs TypedVariables b l.name refl)
 
   undocumented : (pairs : List Pair) (other : Rule) (kind : List ℕ) (b : Block) (l : Label) → is_comment_rule other ≡ false
@@ -204,7 +204,7 @@ has_itself rule = refl
 
 pub one_origin : FindingsMatchTheirRule
 one_origin rule pairs members found a =
-    let P = IsFoundBy pairs rule in
+    let P = MatchesRule pairs rule in
     let named = all_findings (only rule) pairs members a.nodes in
     let are = (all (only rule) rule (has_itself rule) pairs members a.nodes).are in
     subst (AreFrom pairs rule) (sym a.kept)

@@ -1,4 +1,4 @@
--- What passes the test is sound, in another order too, and some of it.
+-- What passes the test is valid, in another order too, and some of it.
 use Rattle.std.proofs.Common.{◌≡◌, ℕ, Bool, true, false, List, [], ◌∷◌, refl}
 use Rattle.std.specs.Prelude.{filter, if◌then◌else◌}
 use Rattle.std.specs.List.{AllByRecursion}
@@ -15,7 +15,7 @@ passes : SoundIsSound → (count : ℕ) (f : Finding) (rest : List Finding) (b :
 passes law count f rest true e h = (law count f e, h)
 passes law count f rest false e h = h
 
--- what passes the test is sound
+-- what passes the test is valid
 pub all_valid : SoundIsSound → (count : ℕ) (fs : List Finding) → AreValidFindings count (valid_findings count fs)
 all_valid law count [] = tt
 all_valid law count (f ∷ fs) = passes law count f (valid_findings count fs) (is_valid count f) refl (all_valid law count fs)

@@ -1,9 +1,9 @@
 -- What a comment says that silences rules, as `# tflint-ignore: terraform_deprecated_index,
 -- terraform_typed_variables # why`.
 -- TFLint, Annotations.
-use Rattle.std.specs.Prelude.{ℕ, ◌-◌, nat_le, nat_lt, not, true, false, ◌&&◌, ◌||◌, ◌==◌, Bool, List, [], ◌∷◌, take, drop, length, slice_index, codes, if◌then◌else◌}
+use Rattle.std.specs.Prelude.{ℕ, ◌-◌, nat_le, nat_lt, not, ◌&&◌, ◌||◌, ◌==◌, Bool, List, [], ◌∷◌, take, drop, length, slice_index, codes, if◌then◌else◌}
 use Rattle.std.specs.List.{prefix_len, list_all, list_any}
-use Rattle.std.specs.Str.{bytes_eq}
+use Rattle.std.specs.Str.{byte, bytes_eq}
 use Rattle.hcl_token.specs.declared.kind.Kind.{Kind}
 use Rattle.hcl_token.specs.declared.kind.Kind.TheVariants.{LineComment, InlineComment}
 use Rattle.tf_rules.specs.declared.rule.Rule.{Rule}
@@ -11,19 +11,14 @@ use Rattle.tf_rules.specs.Table.{name_of}
 use Rattle.tf_findings.specs.declared.silencing.class.ByteClass.{ByteClass}
 use Rattle.tf_findings.specs.declared.silencing.class.ByteClass.TheVariants.{Whitespace, NameByte, NotComma, NotHash}
 
--- whether a token of the kind is a comment
-abbrev pub is_comment : Kind → Bool
-is_comment LineComment = true
-is_comment InlineComment = true
-is_comment _ = false
-
 -- a space or a tab; an ASCII letter, a digit, `_` or `-`; anything but a comma; anything but `#`
 abbrev pub is_in_class : ByteClass → ℕ → Bool
-is_in_class Whitespace b = b == 32 || b == 9
-is_in_class NameByte b = (nat_le 97 b && nat_le b 122)
-    || ((nat_le 65 b && nat_le b 90) || ((nat_le 48 b && nat_le b 57) || (b == 95 || b == 45)))
-is_in_class NotComma b = not (b == 44)
-is_in_class NotHash b = not (b == 35)
+is_in_class Whitespace b = b == byte " " || b == byte "\t"
+is_in_class NameByte b = (nat_le (byte "a") b && nat_le b (byte "z"))
+    || ((nat_le (byte "A") b && nat_le b (byte "Z"))
+    || ((nat_le (byte "0") b && nat_le b (byte "9")) || (b == byte "_" || b == byte "-")))
+is_in_class NotComma b = not (b == byte ",")
+is_in_class NotHash b = not (b == byte "#")
 
 -- how many bytes at the start are of the class
 abbrev pub class_prefix_len : ByteClass → List ℕ → ℕ
@@ -45,7 +40,7 @@ cons_to_first b (p ∷ ps) = (b ∷ p) ∷ ps
 -- the parts of a text between its commas
 abbrev pub split_commas : List ℕ → List (List ℕ)
 split_commas [] = [] ∷ []
-split_commas (b ∷ bs) = if b == 44 then [] ∷ split_commas bs else cons_to_first b (split_commas bs)
+split_commas (b ∷ bs) = if b == byte "," then [] ∷ split_commas bs else cons_to_first b (split_commas bs)
 
 -- the name at the start of a part, after whitespace
 abbrev pub leading_name : List ℕ → List ℕ
@@ -71,15 +66,21 @@ list_names rule t =
     (class_prefix_len NotHash t == length t || ends_in_whitespace (list_part t))
     && (list_all is_name (split_commas (list_part t)) && list_any (names_rule rule) (split_commas (list_part t)))
 
+abbrev pub begins_with : List ℕ → List ℕ → Bool
+begins_with word t = bytes_eq (take (length word) t) word
+
+abbrev pub ignore_word : List ℕ
+ignore_word = codes "tflint-ignore:"
+
 -- the body of a comment silences a rule: whitespace, `tflint-ignore:`, and the list
 abbrev pub body_silences : Rule → List ℕ → Bool
-body_silences rule t = bytes_eq (take 14 (skip_whitespace t)) (codes "tflint-ignore:")
-    && list_names rule (drop 14 (skip_whitespace t))
+body_silences rule t = begins_with ignore_word (skip_whitespace t)
+    && list_names rule (drop (length ignore_word) (skip_whitespace t))
 
 -- a comment without what opens and closes it; other tokens hold nothing
 abbrev pub comment_body : Kind → List ℕ → List ℕ
 comment_body LineComment spelling =
-    if slice_index spelling 0 == 35 then drop 1 spelling else drop 2 spelling
+    if slice_index spelling 0 == byte "#" then drop 1 spelling else drop 2 spelling
 comment_body InlineComment spelling = take (length spelling - 4) (drop 2 spelling)
 comment_body _ spelling = []
 

@@ -16,6 +16,7 @@ use hcl_scan::Scanned;
 use std::alloc::{AllocError, Global};
 use tf_rules::{Finding, LintContext, Role, RuleSet, Unbroken};
 
+/// Adds what the rules find at the nodes of these members, one after the other.
 #[cycle(bodies)]
 fn walk_members(
     cx: &WalkContext<'_, '_>,
@@ -33,6 +34,7 @@ fn walk_members(
     Ok(())
 }
 
+/// Adds what the rules find at the nodes of an attribute or a block.
 #[cycle(bodies)]
 fn walk_member(
     cx: &WalkContext<'_, '_>,
@@ -50,6 +52,7 @@ fn walk_member(
     }
 }
 
+/// Adds what the rules find at the nodes between the braces of a block.
 #[cycle(bodies)]
 fn walk_content(
     cx: &WalkContext<'_, '_>,
@@ -67,6 +70,7 @@ fn walk_content(
     }
 }
 
+/// Adds what the rules find at the nodes of the attribute that a block on one line may have.
 fn walk_optional_attribute(
     cx: &WalkContext<'_, '_>,
     a: &Option<Boxed<Attribute>>,

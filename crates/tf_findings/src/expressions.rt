@@ -21,6 +21,7 @@ use hcl_grammar::{Boxed, Items};
 use std::alloc::AllocError;
 use tf_rules::{Finding, Role, check_expr, check_tail, check_term_beyond};
 
+/// Adds what the rules find at an expression in this role, and then at the nodes inside of it.
 #[cycle(expressions)]
 pub fn walk_expr(
     cx: &WalkContext<'_, '_>,
@@ -38,6 +39,7 @@ pub fn walk_expr(
     Ok(())
 }
 
+/// Adds what the rules find at the nodes inside of an expression in this role.
 #[cycle(expressions)]
 fn walk_expr_kind(
     cx: &WalkContext<'_, '_>,
@@ -78,6 +80,7 @@ fn walk_expr_kind(
     }
 }
 
+/// Adds what the rules find in a boxed expression of this role.
 #[cycle(expressions)]
 fn walk_boxed(
     cx: &WalkContext<'_, '_>,
@@ -93,6 +96,7 @@ fn walk_boxed(
     walk_expr(cx, role, e.get(), found)
 }
 
+/// Adds what the rules find at the operands of a chain after the first, and inside of them.
 #[cycle(expressions)]
 fn walk_operations(
     cx: &WalkContext<'_, '_>,
@@ -111,6 +115,7 @@ fn walk_operations(
     Ok(())
 }
 
+/// Adds what the rules find at the tails of a term and inside of them, in order.
 #[cycle(expressions)]
 fn walk_tails(
     cx: &WalkContext<'_, '_>,
@@ -130,6 +135,7 @@ fn walk_tails(
     Ok(())
 }
 
+/// Adds what the rules find at a tail, and then inside of it. `splat` is as for `check_tail`.
 #[cycle(expressions)]
 fn walk_tail(
     cx: &WalkContext<'_, '_>,
@@ -147,6 +153,7 @@ fn walk_tail(
     Ok(())
 }
 
+/// Adds what the rules find at the nodes inside of a tail: an index has an expression.
 #[cycle(expressions)]
 fn walk_tail_children(
     cx: &WalkContext<'_, '_>,
@@ -167,6 +174,7 @@ fn walk_tail_children(
     }
 }
 
+/// Adds what the rules find at expressions that have one role, and inside of them.
 #[cycle(expressions)]
 fn walk_exprs(
     cx: &WalkContext<'_, '_>,
@@ -185,6 +193,7 @@ fn walk_exprs(
     Ok(())
 }
 
+/// Adds what the rules find at the elements of an object, at each key and then at its value.
 #[cycle(expressions)]
 fn walk_elems(
     cx: &WalkContext<'_, '_>,
@@ -203,6 +212,7 @@ fn walk_elems(
     Ok(())
 }
 
+/// Adds what the rules find at the condition that a `for` may have, and inside of it.
 #[cycle(expressions)]
 fn walk_filter(
     cx: &WalkContext<'_, '_>,
@@ -220,6 +230,7 @@ fn walk_filter(
     }
 }
 
+/// Adds what the rules find at a term, and then inside of it. `role` is as for `check_term`.
 #[cycle(expressions)]
 fn walk_term(
     cx: &WalkContext<'_, '_>,
@@ -253,8 +264,10 @@ fn walk_term(
     }
 }
 
-// `walk_term` alone calls it, and not at numbers, names, tuples, objects and parentheses: their
-// arms are there since a `match` has all of them, and its clause speaks of each node.
+/// Adds what the rules find at the nodes inside of a term.
+///
+/// `walk_term` alone calls it, and not at numbers, names, tuples, objects and parentheses: their
+/// arms are there since a `match` has all of them, and its clause speaks of each node.
 #[cycle(expressions)]
 fn walk_primary(
     cx: &WalkContext<'_, '_>,
@@ -280,6 +293,7 @@ fn walk_primary(
     }
 }
 
+/// Adds what the rules find in a `for` in square brackets.
 #[cycle(expressions)]
 fn walk_for_tuple(
     cx: &WalkContext<'_, '_>,
@@ -297,6 +311,7 @@ fn walk_for_tuple(
     Ok(())
 }
 
+/// Adds what the rules find in a `for` in braces.
 #[cycle(expressions)]
 fn walk_for_object(
     cx: &WalkContext<'_, '_>,
@@ -315,6 +330,7 @@ fn walk_for_object(
     Ok(())
 }
 
+/// Adds what the rules find in the parts of a template, in order.
 #[cycle(expressions)]
 fn walk_parts(
     cx: &WalkContext<'_, '_>,
@@ -332,6 +348,7 @@ fn walk_parts(
     Ok(())
 }
 
+/// Adds what the rules find in a part of a template: in literal text nothing.
 #[cycle(expressions)]
 fn walk_part(cx: &WalkContext<'_, '_>, x: &Part, found: &mut Vec<Finding>) -> Result<(), AllocError>
     requires { AreUnbroken cx.now.lint.scanned.now.pairs cx.now.unbroken.first cx.now.unbroken.past }
@@ -347,6 +364,7 @@ fn walk_part(cx: &WalkContext<'_, '_>, x: &Part, found: &mut Vec<Finding>) -> Re
     }
 }
 
+/// Adds what the rules find in an `if` directive: in its condition and its branches.
 #[cycle(expressions)]
 fn walk_if_directive(
     cx: &WalkContext<'_, '_>,
@@ -364,6 +382,7 @@ fn walk_if_directive(
     Ok(())
 }
 
+/// Adds what the rules find after the `else` that an `if` directive may have.
 #[cycle(expressions)]
 fn walk_else_branch(
     cx: &WalkContext<'_, '_>,
@@ -381,6 +400,7 @@ fn walk_else_branch(
     }
 }
 
+/// Adds what the rules find in a `for` directive: in its collection and its body.
 #[cycle(expressions)]
 fn walk_for_directive(
     cx: &WalkContext<'_, '_>,
@@ -398,6 +418,8 @@ fn walk_for_directive(
     Ok(())
 }
 
+/// Whether `.*` precedes the place after a tail, with only attribute names and legacy indices in
+/// between; `splat` says so of the place before the tail.
 fn splat_after(splat: bool, tail: &Tail) -> bool
     ensures { result ≡ splat_after splat (out-Tail tail.now) }
 {

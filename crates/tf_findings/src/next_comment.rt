@@ -4,7 +4,7 @@
 ghost use Rattle.std.specs.Prelude.{◌≡◌, ◌<◌, ◌≤◌, ◌+◌, ℕ, Some, true, false, length};
 ghost use Rattle.hcl_token.specs.TokenizedText.{kind_of};
 ghost use Rattle.hcl_token.specs.declared.kind.Kind.{Kind};
-ghost use Rattle.tf_findings.specs.Comments.{is_comment};
+ghost use Rattle.hcl_token.specs.Kinds.{is_comment};
 ghost use Rattle.tf_findings.specs.declared.next_comment.TheConstants.{BLOCK};
 ghost use Rattle.tf_findings.specs.Inner.NextComment.{IsNoComment, AreNoComments, HasComment};
 

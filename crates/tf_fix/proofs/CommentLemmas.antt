@@ -113,8 +113,8 @@ are_comments rule pairs at (f ∷ fs) is of are =
 
 all_comments : (rule : Rule) (pairs : List Pair) (findings : List Finding) → is_comment_rule rule ≡ true → AreOfRule rule pairs findings → AreValidFindings (length pairs) findings
     → AreComments 0 pairs (selected findings)
-all_comments rule pairs findings is of sound =
-    are_comments rule pairs 0 (selected findings) is (selected_of rule pairs 0 findings of) (selected_are pairs 0 findings (omega arith) sound)
+all_comments rule pairs findings is of valid =
+    are_comments rule pairs 0 (selected findings) is (selected_of rule pairs 0 findings of) (selected_are pairs 0 findings (omega arith) valid)
 
 gap_is : (pairs : List Pair) (i : ℕ) (p : Pair) → slice_get pairs i ≡ Some p → gap_at pairs i ≡ p.gap
 gap_is pairs i p found = ap (λ o. unwrap_or (option_map (λ (q : Pair). q.gap) o) []) found
@@ -250,22 +250,22 @@ comments_apart prev at pairs last (f ∷ fs) are a =
 
 pub comments_settled : (rule : Rule) (tokenized : TokenizedText) (findings : List Finding) → is_comment_rule rule ≡ true → AreApart tokenized.pairs → AreOfRule rule tokenized.pairs findings → AreValidFindings (length tokenized.pairs) findings
     → fix_step_text tokenized findings ≡ whole_text (fixed_pairs_from 0 tokenized.pairs (selected findings)) tokenized.last
-comments_settled rule tokenized findings is apart of sound =
+comments_settled rule tokenized findings is apart of valid =
     let new = fixed_pairs_from 0 tokenized.pairs (selected findings) in
-    let a : Apart None (parts_of new tokenized.last) = comments_apart None 0 tokenized.pairs tokenized.last (selected findings) (all_comments rule tokenized.pairs findings is of sound) (apart_text tokenized.pairs tokenized.last apart) in
+    let a : Apart None (parts_of new tokenized.last) = comments_apart None 0 tokenized.pairs tokenized.last (selected findings) (all_comments rule tokenized.pairs findings is of valid) (apart_text tokenized.pairs tokenized.last apart) in
     sym (pairs_settled None new tokenized.last) ∙ ap text_of_parts (stays_same None (parts_of new tokenized.last) a) ∙ parts_written new tokenized.last
 
 -- ---- the whole step
 
 pub comments_before : (rule : Rule) (tokenized : TokenizedText) (findings : List Finding) → is_comment_rule rule ≡ true → AreOfRule rule tokenized.pairs findings → AreValidFindings (length tokenized.pairs) findings
     → old_text (comment_pieces 0 tokenized.pairs tokenized.last (selected findings)) ≡ whole_text tokenized.pairs tokenized.last
-comments_before rule tokenized findings is of sound = pieces_before 0 tokenized.pairs tokenized.last (selected findings) (all_comments rule tokenized.pairs findings is of sound)
+comments_before rule tokenized findings is of valid = pieces_before 0 tokenized.pairs tokenized.last (selected findings) (all_comments rule tokenized.pairs findings is of valid)
 
 pub comments_after : (rule : Rule) (tokenized : TokenizedText) (findings : List Finding) → is_comment_rule rule ≡ true → AreApart tokenized.pairs → AreOfRule rule tokenized.pairs findings → AreValidFindings (length tokenized.pairs) findings
     → new_text (comment_pieces 0 tokenized.pairs tokenized.last (selected findings)) ≡ fix_step_text tokenized findings
-comments_after rule tokenized findings is apart of sound =
-    pieces_after 0 tokenized.pairs tokenized.last (selected findings) (all_comments rule tokenized.pairs findings is of sound) ∙ sym (comments_settled rule tokenized findings is apart of sound)
+comments_after rule tokenized findings is apart of valid =
+    pieces_after 0 tokenized.pairs tokenized.last (selected findings) (all_comments rule tokenized.pairs findings is of valid) ∙ sym (comments_settled rule tokenized findings is apart of valid)
 
 pub comments_edits : (rule : Rule) (tokenized : TokenizedText) (findings : List Finding) → is_comment_rule rule ≡ true → AreOfRule rule tokenized.pairs findings → AreValidFindings (length tokenized.pairs) findings
     → changed_entries 0 (comment_pieces 0 tokenized.pairs tokenized.last (selected findings)) ≡ map (comment_edit tokenized.pairs) (selected findings)
-comments_edits rule tokenized findings is of sound = pieces_entries 0 0 tokenized.pairs tokenized.last (selected findings) (all_comments rule tokenized.pairs findings is of sound) refl
+comments_edits rule tokenized findings is of valid = pieces_entries 0 0 tokenized.pairs tokenized.last (selected findings) (all_comments rule tokenized.pairs findings is of valid) refl

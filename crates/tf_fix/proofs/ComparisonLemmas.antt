@@ -5,16 +5,16 @@ use Rattle.edit_record.specs.Lists.Pieces.{EditEntry, changed_entries}
 use Rattle.hcl_token.specs.Tokens.{Pair}
 use Rattle.tf_fix.specs.Parts.{TextPart, parts_of, text_of_parts}
 use Rattle.tf_fix.specs.SettledSpaces.{Prev, prev_after}
-use Rattle.tf_fix.specs.Replacements.{Replacement, AreInOrder, added, stays_until, pieces_from}
+use Rattle.tf_fix.specs.Replacements.{Replacement, AreReplacementsInOrder, added, stays_until, pieces_from}
 use Rattle.tf_fix.specs.Inner.Views.{boundary_index, next_index, replacement_parts, replacements, HaveBytes}
 use Rattle.tf_fix.specs.declared.splice.Replacement.{Replacement as Replacing}
 use Rattle.tf_fix.proofs.PartLemmas.{length_written, staying_is}
 
-pub order_le : (at : ℕ) (rs : List Replacement) (end : ℕ) → AreInOrder at rs end → at ≤ end
+pub order_le : (at : ℕ) (rs : List Replacement) (end : ℕ) → AreReplacementsInOrder at rs end → at ≤ end
 order_le at [] end o = o
 order_le at (r ∷ rs) end o = let rest = order_le r.to rs end o.2 in omega (arith, o.0, o.1, rest)
 
-pub order_next : (at : ℕ) (rs : List Replacement) (end : ℕ) → AreInOrder at rs end → (at ≤ next_index (end + 1) rs) × (next_index (end + 1) rs ≤ end + 1)
+pub order_next : (at : ℕ) (rs : List Replacement) (end : ℕ) → AreReplacementsInOrder at rs end → (at ≤ next_index (end + 1) rs) × (next_index (end + 1) rs ≤ end + 1)
 order_next at [] end o = (omega (arith, o), omega arith)
 order_next at (r ∷ rs) end o = let rest = order_le r.to rs end o.2 in (o.0, omega (arith, o.1, rest))
 
@@ -40,7 +40,7 @@ first_change xs prev at r rs kept slice_written =
 abbrev pub IsCompared : List Pair → List ℕ → List EditEntry → List EditEntry → Prev → ℕ → List Replacing → Type 0
 IsCompared pairs last whole done prev at left =
     (done ++ changed_entries (length (text_of_parts (take at (parts_of pairs last)))) (pieces_from prev at (parts_of pairs last) (replacements pairs left)) ≡ whole)
-    × AreInOrder at (replacements pairs left) (2 * length pairs)
+    × AreReplacementsInOrder at (replacements pairs left) (2 * length pairs)
     × HaveBytes pairs left
 
 pub loop_step : (pairs : List Pair) (last : List ℕ) (whole done : List EditEntry) (e : EditEntry) (prev there : Prev) (at : ℕ) (one : Replacing) (rest : List Replacing)

@@ -1,3 +1,4 @@
+mod ApartLemmas
 mod InsertionLemmas
 pub mod CommentLemmas
 pub mod NonemptyLemmas

@@ -12,11 +12,11 @@ use Rattle.hcl_token.specs.declared.kind.Kind.{Kind}
 use Rattle.hcl_token.specs.declared.kind.Kind.TheVariants.{Mark, LineEnd, LineComment, InlineComment, Identifier, Number, DotIndex, Slash, OpenBrace, CloseBrace, QuoteOpen, QuoteClose, QuoteLit, HereOpen, HereClose, HereLit, InterpOpen, DirectiveOpen, SeqClose}
 use Rattle.hcl_token.specs.Tokens.{Pair, whole_text}
 use Rattle.hcl_scan.specs.Characters.{is_prefix_of, is_id_start, is_id_continue}
-use Rattle.hcl_scan.specs.Tokenization.{TokenizesFrom, IsTokenization, byte_order_mark, mark_prefix}
+use Rattle.hcl_scan.specs.Tokenization.{TokenizesFrom, IsTokenization, byte_order_mark, mark_prefix, MAX_TEXT}
 use Rattle.hcl_scan.specs.Lexeme.{is_heredoc, is_decimal, is_identifier, fixed_spelling, Spells, IsLexeme}
 use Rattle.hcl_scan.specs.Modes.{Mode, mode_of, marker, marker_of, clear_line_start, after_literal, is_in_sequence, is_braces, is_at_line_start, modes_after}
 use Rattle.hcl_scan.specs.Modes.Mode.{Expression, Sequence, Braces, Quoted, Heredoc}
-use Rattle.tf_rules.specs.Fixes.{ChangesSomething, ChangesEnd, AreInOrder as AreKeptInOrder}
+use Rattle.tf_rules.specs.Fixes.{ChangesSomething, ChangesEnd, AreInOrder}
 use Rattle.tf_rules.specs.declared.finding.Finding.{Finding}
 use Rattle.tf_rules.specs.declared.fix.Fix.{Fix}
 use Rattle.tf_rules.specs.declared.fix.Fix.TheVariants.{CommentMarker, Tokens}
@@ -198,7 +198,7 @@ nonempty_length (p ∷ pairs) last are =
     let b = length-append p.spelling (whole_text pairs last) in
     omega (arith, more, some, a, b)
 
-pub few_tokens : (text : List ℕ) (pairs : List Pair) (last : List ℕ) → IsTokenization text pairs last → length pairs ≤ 16777216
+pub few_tokens : (text : List ℕ) (pairs : List Pair) (last : List ℕ) → IsTokenization text pairs last → length pairs ≤ MAX_TEXT
 few_tokens text pairs last c =
     let more = nonempty_length pairs last (tokens_nonempty text pairs last c) in
     let whole = ap length c.tokenizes.text_is in
@@ -216,7 +216,7 @@ has_byte pairs i are lt =
     let same : spelling_at pairs i ≡ p.spelling = ap (λ o. unwrap_or (option_map (λ (q : Pair). q.spelling) o) []) found in
     (lt, omega (arith, some, ap length same))
 
--- ---- what goes
+-- ---- what is removed
 
 token_nonempty : (pairs : List Pair) (last : List ℕ) (i to : ℕ) → AreNonempty pairs → i < length pairs → 2 * i + 1 < to → 0 < length (text_of_parts (slice_range (parts_of pairs last) (2 * i + 1) to))
 token_nonempty pairs last i to are lt past =
@@ -261,7 +261,7 @@ removed_nonempty pairs last at n place (suc zero) to are e le lt within past =
     rw same (token_nonempty pairs last at to are (omega (arith, lt, within)) (omega (arith, lt, past)))
 removed_nonempty pairs last at n place (suc (suc skip)) to are e le lt within past = absurd (omega (arith, le))
 
--- what comes where something is written
+-- an insertion that is not Nothing adds text
 brings : (pairs : List Pair) (first : ℕ) (w : Insertion) (skip : ℕ) (tail : List TextPart) (n : ℕ) → skip ≤ 1 → (w ≡ Nothing → ⊥) → 0 < n + length (text_of_parts (inserted_parts skip (inserted pairs first w) tail))
 brings pairs first Nothing skip tail n le some = absurd (some refl)
 brings pairs first w zero tail n le some = omega arith
@@ -278,7 +278,7 @@ something : (first at past : ℕ) (w : Insertion) → ChangesEnd first w at past
 something first at past Nothing end = end.1
 something first at past w end = end
 
-kept_real : (pairs : List Pair) (last : List ℕ) (first past at place skip : ℕ) (w : Insertion) (kept : List (Option KeptTokens)) → AreNonempty pairs → past ≤ length pairs → AreKeptInOrder first past at w kept
+kept_real : (pairs : List Pair) (last : List ℕ) (first past at place skip : ℕ) (w : Insertion) (kept : List (Option KeptTokens)) → AreNonempty pairs → past ≤ length pairs → AreInOrder first past at w kept
     → place ≡ 2 * at + skip → skip ≤ 1 → AreReal (parts_of pairs last) (replacements_from pairs first place skip w kept past)
 kept_real pairs last first past at place skip w [] are le o e s =
     (real_one pairs last first at past place skip (2 * past) w [] are e s (something first at past w o) le (omega arith), tt)

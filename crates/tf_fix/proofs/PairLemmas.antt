@@ -17,7 +17,7 @@ use Rattle.tf_rules.specs.declared.fix.KeptTokens.{KeptTokens}
 use Rattle.tf_rules.specs.declared.rule.Rule.{Rule}
 use Rattle.tf_fix.specs.StepText.{is_empty, gap_at, with_gap, inserted_and_kept_pairs, fixed_pairs, fixed_pairs_from, settled_pair, settled_pairs, fix_step_text}
 use Rattle.tf_rules.specs.Findings.{AreValidFindings}
-use Rattle.tf_rules.specs.Fixes.{ChangesEnd, AreInOrder as AreKeptInOrder}
+use Rattle.tf_rules.specs.Fixes.{ChangesEnd, AreInOrder}
 use Rattle.tf_fix.specs.Inner.Nonempty.{HasValidFix}
 use Rattle.tf_rules.specs.declared.rule.Rule.TheVariants.{CommentSyntax}
 use Rattle.tf_fix.specs.FindingReplacements.{inserted, pairs_parts, inserted_parts, empty_gap, replacements_from, fix_replacements, finding_replacements, step_replacements, IsOfRule, AreOfRule}
@@ -111,7 +111,7 @@ kept_one pairs last gap first past k kept rs following some within rest =
     ∙ ap (λ t. pairs_parts (with_gap gap (slice_range pairs k.from k.to)) ++ t) rest
 
 -- what follows a range that is kept
-kept_body : (pairs : List Pair) (last : List ℕ) (first past at : ℕ) (w : Insertion) (kept : List (Option KeptTokens)) (rs : List Replacement) → AreKeptInOrder first past at w kept → past ≤ length pairs
+kept_body : (pairs : List Pair) (last : List ℕ) (first past at : ℕ) (w : Insertion) (kept : List (Option KeptTokens)) (rs : List Replacement) → AreInOrder first past at w kept → past ≤ length pairs
     → replaced_from (2 * at) (parts_of pairs last) (replacements_from pairs first (2 * at) 0 w kept past ++ rs) ≡ pairs_parts (inserted_and_kept_pairs pairs first w kept) ++ replaced_from (2 * past) (parts_of pairs last) rs
 kept_body pairs last first past at w [] rs o le =
     let xs = parts_of pairs last in
@@ -164,7 +164,7 @@ prefix_kept pairs gap first a b w rest following more (is_written p ps is) lt wi
     let leading : List Pair = record p { gap = gap } ∷ ps in
     rw is (append_assoc (pairs_parts leading) empty_gap following ∙ ap (λ t. pairs_parts leading ++ t) (here []) ∙ sym (three leading (with_gap [] (slice_range pairs a b)) rest more))
 
-start_body : (pairs : List Pair) (last gap : List ℕ) (first past : ℕ) (w : Insertion) (kept : List (Option KeptTokens)) (rs : List Replacement) → AreKeptInOrder first past first w kept → past ≤ length pairs
+start_body : (pairs : List Pair) (last gap : List ℕ) (first past : ℕ) (w : Insertion) (kept : List (Option KeptTokens)) (rs : List Replacement) → AreInOrder first past first w kept → past ≤ length pairs
     → Gap gap ∷ replaced_from (2 * first + 1) (parts_of pairs last) (replacements_from pairs first (2 * first + 1) 1 w kept past ++ rs)
     ≡ pairs_parts (with_gap gap (inserted_and_kept_pairs pairs first w kept)) ++ replaced_from (2 * past) (parts_of pairs last) rs
 start_body pairs last gap first past w [] rs o le =
@@ -182,7 +182,7 @@ start_body pairs last gap first past w (Some k ∷ kept) rs o le =
     ∙ prefix_kept pairs gap first k.from k.to w (inserted_and_kept_pairs pairs first k.after kept) following more (written_is pairs first w) o.1 (omega (arith, end, le))
     (λ g. kept_one pairs last g first past k kept rs _ o.1 (omega (arith, end, le)) (kept_body pairs last first past k.to k.after kept rs o.2 le))
 
--- one finding: what comes before it, its tokens, and what follows it
+-- one finding: what is before it, its tokens, and what follows it
 one_fixed : (pairs : List Pair) (last : List ℕ) (at first past : ℕ) (fix : Option Fix) (rs : List Replacement) → is_comment_fix fix ≡ false → at ≤ first → first < past → past ≤ length pairs → HasValidFix first past fix
     → replaced_from (2 * at) (parts_of pairs last) (fix_replacements pairs first past fix ++ rs)
     ≡ pairs_parts (slice_range pairs at first) ++ (pairs_parts (fixed_pairs pairs first past fix) ++ replaced_from (2 * past) (parts_of pairs last) rs)
@@ -250,6 +250,6 @@ pairs_settled prev (p ∷ ps) last =
 -- the text of a step, by pairs
 pub by_pairs : (rule : Rule) (tokenized : TokenizedText) (findings : List Finding) → is_comment_rule rule ≡ false → AreOfRule rule tokenized.pairs findings → AreValidFindings (length tokenized.pairs) findings
     → fix_step_text tokenized findings ≡ replaced_text (parts tokenized) (step_replacements tokenized.pairs findings)
-by_pairs rule tokenized findings other of sound =
-    let all = all_fixed rule tokenized.pairs tokenized.last 0 (selected findings) other (selected_of rule tokenized.pairs 0 findings of) (selected_are tokenized.pairs 0 findings (omega arith) sound) in
+by_pairs rule tokenized findings other of valid =
+    let all = all_fixed rule tokenized.pairs tokenized.last 0 (selected findings) other (selected_of rule tokenized.pairs 0 findings of) (selected_are tokenized.pairs 0 findings (omega arith) valid) in
     sym (ap (λ t. text_of_parts (settled None t)) all ∙ pairs_settled None (fixed_pairs_from 0 tokenized.pairs (selected findings)) tokenized.last)

@@ -152,7 +152,7 @@ none_after_whitespace prev (b ∷ gap) some = refl
 pub prev_after_whitespace : (prev : Prev) (xs : List TextPart) (gap : List ℕ) → (gap ≡ [] → ⊥) → prev_after prev (xs ++ Gap gap ∷ []) ≡ None
 prev_after_whitespace prev xs gap some = after-append prev xs (Gap gap ∷ []) ∙ none_after_whitespace (prev_after prev xs) gap some
 
--- ---- whether the neighbour joins with the front of a slice
+-- ---- whether the neighbour joins with the start of a slice
 
 glued_none : (prev : Prev) (k : ℕ) (gap : List ℕ) (rest : List TextPart) → k ≤ 1 → is_glued prev (take k (Gap gap ∷ rest)) ≡ false
 glued_none prev zero gap rest le = refl

@@ -13,10 +13,10 @@ use Rattle.tf_rules.specs.declared.fix.Insertion.TheVariants.{Nothing}
 use Rattle.tf_rules.specs.declared.fix.KeptTokens.{KeptTokens}
 use Rattle.tf_rules.specs.declared.rule.Rule.{Rule}
 use Rattle.tf_rules.specs.Findings.{is_fixable, IsFixValid, AreValidFindings}
-use Rattle.tf_rules.specs.Fixes.{AreInOrder as AreKeptInOrder}
+use Rattle.tf_rules.specs.Fixes.{AreInOrder}
 use Rattle.tf_fix.specs.Inner.Nonempty.{IsFixableWithin, HasValidFix}
 use Rattle.tf_fix.specs.FindingReplacements.{replacements_from, fix_replacements, finding_replacements, IsOfRule, AreOfRule}
-use Rattle.tf_fix.specs.Replacements.{Replacement, AreInOrder}
+use Rattle.tf_fix.specs.Replacements.{Replacement, AreReplacementsInOrder}
 use Rattle.tf_fix.specs.Selection.{selected_from}
 use Rattle.tf_fix.specs.Inner.Views.{HasByte, HaveBytes}
 use Rattle.tf_fix.specs.declared.splice.Replacement.{Replacement as Replacing}
@@ -58,15 +58,15 @@ not_true false e = refl
 
 selected_if : (pairs : List Pair) (past : ℕ) (f : Finding) (here : Bool) (xs ys : List Finding) → (is_fixable f.fix && not (nat_lt f.first past)) ≡ here
     → (is_fixable f.fix ≡ true → IsFixableWithin (length pairs) f) → (IsFixableWithin (length pairs) f → AreTaken f.past pairs xs) → AreTaken past pairs ys → AreTaken past pairs (if here then f ∷ xs else ys)
-selected_if pairs past f true xs ys test sound a b =
+selected_if pairs past f true xs ys test valid a b =
     let both = and_parts (is_fixable f.fix) (not (nat_lt f.first past)) test in
-    (ltb-false f.first past (not_true (nat_lt f.first past) both.1), sound both.0, a (sound both.0))
-selected_if pairs past f false xs ys test sound a b = b
+    (ltb-false f.first past (not_true (nat_lt f.first past) both.1), valid both.0, a (valid both.0))
+selected_if pairs past f false xs ys test valid a b = b
 
 pub selected_are : (pairs : List Pair) (past : ℕ) (findings : List Finding) → past ≤ length pairs → AreValidFindings (length pairs) findings → AreTaken past pairs (selected_from past findings)
-selected_are pairs past [] le sound = le
-selected_are pairs past (f ∷ fs) le sound =
-    selected_if pairs past f _ (selected_from f.past fs) (selected_from past fs) refl (λ fixable. (sound.0.1, is_fixable_within _ _ _ fixable sound.0.2, sound.0.0)) (λ fits. selected_are pairs f.past fs fits.0 sound.1) (selected_are pairs past fs le sound.1)
+selected_are pairs past [] le valid = le
+selected_are pairs past (f ∷ fs) le valid =
+    selected_if pairs past f _ (selected_from f.past fs) (selected_from past fs) refl (λ fixable. (valid.0.1, is_fixable_within _ _ _ fixable valid.0.2, valid.0.0)) (λ fits. selected_are pairs f.past fs fits.0 valid.1) (selected_are pairs past fs le valid.1)
 
 of_if : (rule : Rule) (pairs : List Pair) (f : Finding) (here : Bool) (xs ys : List Finding) → IsOfRule rule pairs f → AreOfRule rule pairs xs → AreOfRule rule pairs ys → AreOfRule rule pairs (if here then f ∷ xs else ys)
 of_if rule pairs f true xs ys of a b = (of, a)
@@ -78,17 +78,17 @@ selected_of rule pairs past (f ∷ fs) of = of_if rule pairs f _ (selected_from 
 
 -- ---- the replacements are in order
 
-join_order : (at mid end : ℕ) (rs ss : List Replacement) → AreInOrder at rs mid → AreInOrder mid ss end → AreInOrder at (rs ++ ss) end
+join_order : (at mid end : ℕ) (rs ss : List Replacement) → AreReplacementsInOrder at rs mid → AreReplacementsInOrder mid ss end → AreReplacementsInOrder at (rs ++ ss) end
 join_order at mid end [] [] o p = omega (arith, o, p)
 join_order at mid end [] (s ∷ ss) o p = (omega (arith, o, p.0), p.1, p.2)
 join_order at mid end (r ∷ rs) ss o p = (o.0, o.1, join_order r.to mid end rs ss o.2 p)
 
-later_order : (at from end : ℕ) (rs : List Replacement) → at ≤ from → AreInOrder from rs end → AreInOrder at rs end
+later_order : (at from end : ℕ) (rs : List Replacement) → at ≤ from → AreReplacementsInOrder from rs end → AreReplacementsInOrder at rs end
 later_order at from end [] le o = omega (arith, le, o)
 later_order at from end (r ∷ rs) le o = (omega (arith, le, o.0), o.1, o.2)
 
 -- what is kept after a place ends before the finding does
-pub kept_le : (first past at : ℕ) (written : Insertion) (kept : List (Option KeptTokens)) → AreKeptInOrder first past at written kept → at ≤ past
+pub kept_le : (first past at : ℕ) (written : Insertion) (kept : List (Option KeptTokens)) → AreInOrder first past at written kept → at ≤ past
 kept_le first past at Nothing [] o = omega (arith, o.1)
 kept_le first past at written [] o = o
 kept_le first past at written (None ∷ kept) o = kept_le first past at written kept o
@@ -96,12 +96,12 @@ kept_le first past at Nothing (Some k ∷ kept) o = let rest = kept_le first pas
 kept_le first past at written (Some k ∷ kept) o = let rest = kept_le first past k.to k.after kept o.2 in omega (arith, o.0, o.1, rest)
 
 -- a place before number at, or right before its token, is no later than the next that is kept
-pub next_le : (first past at : ℕ) (written : Insertion) (k : KeptTokens) (kept : List (Option KeptTokens)) → AreKeptInOrder first past at written (Some k ∷ kept) → at ≤ k.from
+pub next_le : (first past at : ℕ) (written : Insertion) (k : KeptTokens) (kept : List (Option KeptTokens)) → AreInOrder first past at written (Some k ∷ kept) → at ≤ k.from
 next_le first past at Nothing k kept o = omega (arith, o.0)
 next_le first past at written k kept o = o.0
 
-kept_order : (pairs : List Pair) (first past at place skip : ℕ) (written : Insertion) (kept : List (Option KeptTokens)) → AreKeptInOrder first past at written kept
-    → place ≤ 2 * at + 1 → place ≤ 2 * past → AreInOrder place (replacements_from pairs first place skip written kept past) (2 * past)
+kept_order : (pairs : List Pair) (first past at place skip : ℕ) (written : Insertion) (kept : List (Option KeptTokens)) → AreInOrder first past at written kept
+    → place ≤ 2 * at + 1 → place ≤ 2 * past → AreReplacementsInOrder place (replacements_from pairs first place skip written kept past) (2 * past)
 kept_order pairs first past at place skip written [] o prev le = (omega arith, le, omega arith)
 kept_order pairs first past at place skip written (None ∷ kept) o prev le = kept_order pairs first past at place skip written kept o prev le
 kept_order pairs first past at place skip written (Some k ∷ kept) o prev le =
@@ -115,13 +115,13 @@ kept_order pairs first past at place skip written (Some k ∷ kept) o prev le =
     )
 
 -- those of a finding are within its tokens
-fixed_order : (pairs : List Pair) (first past : ℕ) (fix : Option Fix) → first < past → HasValidFix first past fix → AreInOrder (2 * first) (fix_replacements pairs first past fix) (2 * past)
+fixed_order : (pairs : List Pair) (first past : ℕ) (fix : Option Fix) → first < past → HasValidFix first past fix → AreReplacementsInOrder (2 * first) (fix_replacements pairs first past fix) (2 * past)
 fixed_order pairs first past None some fits = absurd fits
 fixed_order pairs first past (Some CommentMarker) some fits = omega (arith, some)
 fixed_order pairs first past (Some (Tokens before kept)) some fits =
     later_order (2 * first) (2 * first + 1) (2 * past) _ (omega arith) (kept_order pairs first past first (2 * first + 1) 1 before kept fits (omega arith) (omega (arith, some)))
 
-pub selected_order : (pairs : List Pair) (at : ℕ) (fs : List Finding) → AreTaken at pairs fs → AreInOrder (2 * at) (flat_map (finding_replacements pairs) fs) (2 * length pairs)
+pub selected_order : (pairs : List Pair) (at : ℕ) (fs : List Finding) → AreTaken at pairs fs → AreReplacementsInOrder (2 * at) (flat_map (finding_replacements pairs) fs) (2 * length pairs)
 selected_order pairs at [] are = omega (arith, are)
 selected_order pairs at (f ∷ fs) are =
     later_order (2 * at) (2 * f.first) (2 * length pairs) _ (omega (arith, are.0))
@@ -129,8 +129,8 @@ selected_order pairs at (f ∷ fs) are =
     (fixed_order pairs f.first f.past f.fix are.1.2 are.1.1) (selected_order pairs f.past fs are.2))
 
 pub step_order : (pairs : List Pair) (findings : List Finding) → AreValidFindings (length pairs) findings
-    → AreInOrder 0 (flat_map (finding_replacements pairs) (selected_from 0 findings)) (2 * length pairs)
-step_order pairs findings sound = selected_order pairs 0 (selected_from 0 findings) (selected_are pairs 0 findings (omega arith) sound)
+    → AreReplacementsInOrder 0 (flat_map (finding_replacements pairs) (selected_from 0 findings)) (2 * length pairs)
+step_order pairs findings valid = selected_order pairs 0 (selected_from 0 findings) (selected_are pairs 0 findings (omega arith) valid)
 
 -- ---- how many are taken
 
@@ -139,4 +139,4 @@ count_selected pairs at [] are = omega (arith, are)
 count_selected pairs at (f ∷ fs) are = omega (arith, are.0, are.1.2, count_selected pairs f.past fs are.2)
 
 pub selected_few : (pairs : List Pair) (findings : List Finding) → AreValidFindings (length pairs) findings → length (selected_from 0 findings) ≤ length pairs
-selected_few pairs findings sound = omega (arith, count_selected pairs 0 (selected_from 0 findings) (selected_are pairs 0 findings (omega arith) sound))
+selected_few pairs findings valid = omega (arith, count_selected pairs 0 (selected_from 0 findings) (selected_are pairs 0 findings (omega arith) valid))

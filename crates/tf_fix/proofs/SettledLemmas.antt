@@ -9,7 +9,7 @@ use Rattle.hcl_scan.specs.Follows.{IsApart, AreApart}
 use Rattle.tf_fix.specs.Parts.{TextPart, parts_of, text_of_parts}
 use Rattle.tf_fix.specs.Parts.TextPart.{Gap, Token}
 use Rattle.tf_fix.specs.SettledSpaces.{Prev, prev_after, joins_prev, settled, is_glued, space}
-use Rattle.tf_fix.specs.Replacements.{Replacement, AreInOrder, replaced_from, replaced_text, stays_until, space_before, pieces_from, replaced_pieces}
+use Rattle.tf_fix.specs.Replacements.{Replacement, AreReplacementsInOrder, replaced_from, replaced_text, stays_until, space_before, pieces_from, replaced_pieces}
 
 pub written-append : (xs ys : List TextPart) → text_of_parts (xs ++ ys) ≡ text_of_parts xs ++ text_of_parts ys
 written-append [] ys = refl
@@ -90,7 +90,7 @@ stretch_settled prev (Token k s ∷ xs) a = stretch_if (joins_prev prev k s) k s
 
 -- ---- the pieces are the text before and after
 
-pub pieces_old : (prev : Prev) (at : ℕ) (xs : List TextPart) (rs : List Replacement) → AreInOrder at rs (length xs)
+pub pieces_old : (prev : Prev) (at : ℕ) (xs : List TextPart) (rs : List Replacement) → AreReplacementsInOrder at rs (length xs)
     → old_text (pieces_from prev at xs rs) ≡ text_of_parts (drop at xs)
 pieces_old prev at xs [] o = append-nil (text_of_parts (drop at xs))
 pieces_old prev at xs (r ∷ rs) o =

@@ -23,7 +23,7 @@ use Rattle.tf_rules.specs.Findings.{AreValidFindings}
 use Rattle.tf_fix.specs.FindingReplacements.{step_replacements, AreOfRule}
 use Rattle.tf_rules.specs.Table.{is_comment_rule}
 use Rattle.tf_fix.specs.Parts.{parts}
-use Rattle.tf_fix.specs.Replacements.{Replacement, AreInOrder, replaced_pieces}
+use Rattle.tf_fix.specs.Replacements.{Replacement, AreReplacementsInOrder, replaced_pieces}
 use Rattle.tf_fix.specs.Selection.{selected}
 use Rattle.tf_fix.proofs.CommentLemmas.{comment_pieces, pieces_changes, comments_before, comments_after, comments_edits}
 use Rattle.tf_fix.proofs.NonemptyLemmas.{tokens_nonempty, selected_real, real_changes}
@@ -39,7 +39,7 @@ PiecesAlwaysTransform = (ps : List Piece) → PiecesTransform ps
 abbrev pub PiecesAlwaysMake : Type 0
 PiecesAlwaysMake = (ps : List Piece) → ChangesAreNonempty ps → length (old_text ps) ≤ MAX_TEXT → PiecesMakeValidEdits ps
 
--- the text of a cut in pieces, of which these edits are those that change, and the new text
+-- a tokenized text in pieces, of which these edits are those that change, and the new text
 pub record InPieces (tokenized : TokenizedText) (new : List ℕ) (es : List EditEntry) : Type 0 where
   pub pieces : List Piece
   pub changes : ChangesAreNonempty pieces
@@ -47,7 +47,7 @@ pub record InPieces (tokenized : TokenizedText) (new : List ℕ) (es : List Edit
   pub new_is : new_text pieces ≡ new
   pub edits_are : changed_entries 0 pieces ≡ es
 
--- what edits are to be: those that turn the text of the cut into the new one
+-- what edits are to be: those that turn the tokenized text into the new one
 abbrev pub edits_of : TokenizedText → List EditEntry → EditList
 edits_of tokenized es = as_list (length tokenized.text) es
 
@@ -113,41 +113,41 @@ pub read_made : (text read : List ℕ) (es given : List EditEntry) (answer other
 read_made text read es given answer other called t e is =
     sym (ap (λ x. make_edits (length x) given) t ∙ ap (make_edits (length text)) e) ∙ (sym called ∙ is)
 
-wider : (at end more : ℕ) (rs : List Replacement) → end ≤ more → AreInOrder at rs end → AreInOrder at rs more
+wider : (at end more : ℕ) (rs : List Replacement) → end ≤ more → AreReplacementsInOrder at rs end → AreReplacementsInOrder at rs more
 wider at end more [] le o = omega (arith, le, o)
 wider at end more (r ∷ rs) le o = (o.0, o.1, wider r.to end more rs le o.2)
 
 -- where whole tokens and gaps are replaced
 replaced_step : (rule : Rule) (tokenized : TokenizedText) (findings : List Finding) → is_comment_rule rule ≡ false → IsTokenization tokenized.text tokenized.pairs tokenized.last → AreApart tokenized.pairs → AreOfRule rule tokenized.pairs findings → AreValidFindings (length tokenized.pairs) findings
     → InPieces tokenized (fix_step_text tokenized findings) (changed_entries 0 (replaced_pieces (parts tokenized) (step_replacements tokenized.pairs findings)))
-replaced_step rule tokenized findings other is apart of sound =
+replaced_step rule tokenized findings other is apart of valid =
     let rs = step_replacements tokenized.pairs findings in
     let all = parts_length tokenized.pairs tokenized.last in
     record {
       pieces = replaced_pieces (parts tokenized) rs;
-      changes = real_changes None 0 (parts tokenized) rs (selected_real tokenized.pairs tokenized.last 0 (selected findings) (tokens_nonempty tokenized.text tokenized.pairs tokenized.last is) (selected_are tokenized.pairs 0 findings (omega arith) sound));
-      old_is = pieces_old None 0 (parts tokenized) rs (wider 0 (2 * length tokenized.pairs) (length (parts tokenized)) rs (omega (arith, all)) (step_order tokenized.pairs findings sound)) ∙ parts_written tokenized.pairs tokenized.last;
-      new_is = replaced_is (parts tokenized) rs (apart_text tokenized.pairs tokenized.last apart) ∙ sym (by_pairs rule tokenized findings other of sound);
+      changes = real_changes None 0 (parts tokenized) rs (selected_real tokenized.pairs tokenized.last 0 (selected findings) (tokens_nonempty tokenized.text tokenized.pairs tokenized.last is) (selected_are tokenized.pairs 0 findings (omega arith) valid));
+      old_is = pieces_old None 0 (parts tokenized) rs (wider 0 (2 * length tokenized.pairs) (length (parts tokenized)) rs (omega (arith, all)) (step_order tokenized.pairs findings valid)) ∙ parts_written tokenized.pairs tokenized.last;
+      new_is = replaced_is (parts tokenized) rs (apart_text tokenized.pairs tokenized.last apart) ∙ sym (by_pairs rule tokenized findings other of valid);
       edits_are = refl;
     }
 
 -- where comments are fixed
 comment_step : (rule : Rule) (tokenized : TokenizedText) (findings : List Finding) → is_comment_rule rule ≡ true → AreApart tokenized.pairs → AreOfRule rule tokenized.pairs findings → AreValidFindings (length tokenized.pairs) findings
     → InPieces tokenized (fix_step_text tokenized findings) (map (comment_edit tokenized.pairs) (selected findings))
-comment_step rule tokenized findings comment apart of sound = record {
+comment_step rule tokenized findings comment apart of valid = record {
   pieces = comment_pieces 0 tokenized.pairs tokenized.last (selected findings);
   changes = pieces_changes 0 tokenized.pairs tokenized.last (selected findings);
-  old_is = comments_before rule tokenized findings comment of sound;
-  new_is = comments_after rule tokenized findings comment apart of sound;
-  edits_are = comments_edits rule tokenized findings comment of sound;
+  old_is = comments_before rule tokenized findings comment of valid;
+  new_is = comments_after rule tokenized findings comment apart of valid;
+  edits_are = comments_edits rule tokenized findings comment of valid;
 }
 
 step_if : (rule : Rule) (tokenized : TokenizedText) (findings : List Finding) (here : Bool) → is_comment_rule rule ≡ here → IsTokenization tokenized.text tokenized.pairs tokenized.last → AreApart tokenized.pairs → AreOfRule rule tokenized.pairs findings → AreValidFindings (length tokenized.pairs) findings
     → InPieces tokenized (fix_step_text tokenized findings) (if here then map (comment_edit tokenized.pairs) (selected findings) else changed_entries 0 (replaced_pieces (parts tokenized) (step_replacements tokenized.pairs findings)))
-step_if rule tokenized findings true e is apart of sound = comment_step rule tokenized findings e apart of sound
-step_if rule tokenized findings false e is apart of sound = replaced_step rule tokenized findings e is apart of sound
+step_if rule tokenized findings true e is apart of valid = comment_step rule tokenized findings e apart of valid
+step_if rule tokenized findings false e is apart of valid = replaced_step rule tokenized findings e is apart of valid
 
 -- the step of any rule
 pub step_pieces : (rule : Rule) (tokenized : TokenizedText) (findings : List Finding) → IsTokenization tokenized.text tokenized.pairs tokenized.last → AreApart tokenized.pairs → AreOfRule rule tokenized.pairs findings → AreValidFindings (length tokenized.pairs) findings
     → InPieces tokenized (fix_step_text tokenized findings) (fix_step_entries rule tokenized findings)
-step_pieces rule tokenized findings is apart of sound = step_if rule tokenized findings (is_comment_rule rule) refl is apart of sound
+step_pieces rule tokenized findings is apart of valid = step_if rule tokenized findings (is_comment_rule rule) refl is apart of valid

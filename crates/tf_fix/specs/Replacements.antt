@@ -12,9 +12,10 @@ pub record Replacement : Type 0 where
   pub inserted_parts : List TextPart
 
 -- each begins where the one before ends, or later, and all are within `end` parts
-abbrev pub AreInOrder : ℕ → List Replacement → ℕ → Type 0
-AreInOrder at [] end = at ≤ end
-AreInOrder at (r ∷ rs) end = (at ≤ r.from) × (r.from ≤ r.to) × AreInOrder r.to rs end
+abbrev pub AreReplacementsInOrder : ℕ → List Replacement → ℕ → Type 0
+AreReplacementsInOrder at [] end = at ≤ end
+AreReplacementsInOrder at (r ∷ rs) end =
+    (at ≤ r.from) × (r.from ≤ r.to) × AreReplacementsInOrder r.to rs end
 
 -- the parts from a place on, after the replacements
 abbrev pub replaced_from : ℕ → List TextPart → List Replacement → List TextPart
@@ -40,15 +41,18 @@ space_before prev parts = if is_glued prev parts then space else []
 abbrev pub added : Prev → List TextPart → List TextPart → List ℕ
 added prev come stay = text_of_parts (settled prev come) ++ space_before (prev_after prev come) stay
 
--- The text in pieces: kept, or replaced by what is added. The neighbor is the token before place
--- at.
+-- The text in pieces: kept, or replaced by what is added. `prev` is the token before place `at`,
+-- `before` that before what is inserted, and `after` that before what stays after it.
 abbrev pub pieces_from : Prev → ℕ → List TextPart → List Replacement → List Piece
 pieces_from prev at parts [] = Kept (text_of_parts (drop at parts)) ∷ []
 pieces_from prev at parts (r ∷ rs) =
-    Kept (text_of_parts (slice_range parts at r.from))
+    let kept = slice_range parts at r.from in
+    let before = prev_after prev kept in
+    let after = prev_after before r.inserted_parts in
+    Kept (text_of_parts kept)
     ∷ Changed (text_of_parts (slice_range parts r.from r.to))
-    (added (prev_after prev (slice_range parts at r.from)) r.inserted_parts (stays_until r.to parts rs))
-    ∷ pieces_from (prev_after (prev_after prev (slice_range parts at r.from)) r.inserted_parts) r.to parts rs
+    (added before r.inserted_parts (stays_until r.to parts rs))
+    ∷ pieces_from after r.to parts rs
 
 abbrev pub replaced_pieces : List TextPart → List Replacement → List Piece
 replaced_pieces parts rs = pieces_from None 0 parts rs

@@ -10,13 +10,13 @@ use hcl_scan::Scanned;
 #[derive(Clone, Copy)]
 pub enum Boundary {
     /// Right before the gap of this token, or before the last gap.
-    Gap(usize),
+    Gap(u32),
     /// Directly before this token, after its gap.
-    Token(usize),
+    Token(u32),
 }
 
 /// Returns whether token `i` is before the place.
-pub fn is_after(boundary: Boundary, i: usize) -> bool
+pub fn is_after(boundary: Boundary, i: u32) -> bool
     ensures { IsTrue result ↔ (2 * i + 2 ≤ boundary_index boundary) }
 {
     match boundary {
@@ -26,7 +26,7 @@ pub fn is_after(boundary: Boundary, i: usize) -> bool
 }
 
 /// Whether the place is the one before gap `i`.
-pub fn is_before_gap(boundary: Boundary, i: usize) -> bool
+pub fn is_before_gap(boundary: Boundary, i: u32) -> bool
     ensures { IsTrue result ↔ (boundary_index boundary ≡ 2 * i) }
 {
     match boundary {
@@ -36,7 +36,7 @@ pub fn is_before_gap(boundary: Boundary, i: usize) -> bool
 }
 
 /// Whether the place is the one before token `i`.
-pub fn is_before_token(boundary: Boundary, i: usize) -> bool
+pub fn is_before_token(boundary: Boundary, i: u32) -> bool
     ensures { IsTrue result ↔ (boundary_index boundary ≡ 2 * i + 1) }
 {
     match boundary {
@@ -55,13 +55,14 @@ pub fn offset(scanned: &Scanned<'_>, boundary: Boundary) -> usize
             if i == 0 {
                 0
             } else {
-                scanned.item(i - 1).stop as usize
+                scanned.item((i - 1) as usize).stop as usize
             }
         }
-        Boundary::Token(i) => scanned.item(i).start as usize,
+        Boundary::Token(i) => scanned.item(i as usize).start as usize,
     }
 }
 
+/// Returns the bytes of a text from one place to another.
 fn slice(text: &[u8], from: usize, to: usize) -> &[u8]
     requires ordered { from ≤ to }
     requires within { to ≤ length text.now }
@@ -74,7 +75,9 @@ fn slice(text: &[u8], from: usize, to: usize) -> &[u8]
 pub fn text_between<'t>(scanned: &Scanned<'t>, from: Boundary, to: Boundary) -> &'t [u8]
     requires order { boundary_index from ≤ boundary_index to }
     requires within { boundary_index to ≤ 2 * length scanned.now.pairs }
-    ensures { result.now ≡ text_of_parts (slice_range (parts scanned.now) (boundary_index from) (boundary_index to)) }
+    ensures { result.now
+        ≡ text_of_parts
+        (slice_range (parts scanned.now) (boundary_index from) (boundary_index to)) }
 {
     slice(scanned.text(), offset(scanned, from), offset(scanned, to))
 }

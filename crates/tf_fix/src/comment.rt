@@ -13,11 +13,12 @@ use std::alloc::{AllocError, Global};
 use tf_findings::is_found_by;
 use tf_rules::{Finding, Rule};
 
+/// Returns the edit that fixes a comment: its `//` becomes `#`.
 fn comment_edit(alloc: Global, scanned: &Scanned<'_>, one: Finding) -> Result<Edit, AllocError>
     requires { one.first < length scanned.now.pairs }
     ensures { IfOk result (λ edit. edit ≡ comment_edit scanned.now.pairs one) }
 {
-    let at = scanned.item(one.first()).start as usize;
+    let at = scanned.item(one.first() as usize).start as usize;
     Edit::new(alloc, at, b"//", b"#")
 }
 

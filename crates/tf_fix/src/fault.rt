@@ -3,6 +3,7 @@
 ghost use Rattle.std.specs.Prelude.{◌≡◌};
 ghost use Rattle.tf_fix.specs.declared.fault.LintFault.TheVariants.{Memory};
 
+use hcl_scan::MAX_TEXT;
 use std::alloc::{AllocError, AllocFailed};
 use thiserror::Error;
 
@@ -10,7 +11,7 @@ use thiserror::Error;
 #[derive(Clone, Copy, Debug, PartialEq, Eq, Error)]
 pub enum LintFault {
     /// The fixed text would have more than `MAX_TEXT` bytes.
-    #[error("the text has more than 16777216 bytes")]
+    #[error("the text has more than {} bytes", MAX_TEXT)]
     TooLong,
     /// Memory ran out.
     #[error("out of memory")]

@@ -31,7 +31,7 @@ pub fn added_text(
         Insertion::Nothing => {}
         Insertion::Index => {
             text.extend_from_slice(b"[")?;
-            text.extend_from_slice(&scanned.spelling(one.first)[1..])?;
+            text.extend_from_slice(&scanned.spelling(one.first as usize)[1..])?;
             text.extend_from_slice(b"]")?;
         }
         Insertion::Length => {
@@ -52,7 +52,8 @@ pub fn added_text(
 /// Returns the last token after the insertion.
 pub fn prev_after_insertion<'t>(prev: PrevToken<'t>, insertion: Insertion) -> PrevToken<'t>
     ensures { (pairs : _) (first : ℕ)
-        → prev_view result ≡ prev_after (prev_view prev.entry) (pairs_parts (inserted pairs first insertion)) }
+        → prev_view result
+        ≡ prev_after (prev_view prev.entry) (pairs_parts (inserted pairs first insertion)) }
 {
     match insertion {
         Insertion::Nothing => prev,

@@ -15,7 +15,7 @@ ghost use Rattle.tf_rules.specs.Table.{is_comment_rule};
 ghost use Rattle.tf_fix.specs.FindingReplacements.{step_replacements, AreOfRule};
 ghost use Rattle.tf_fix.specs.Parts.{parts};
 ghost use Rattle.tf_fix.specs.Replacements.{replaced_text};
-ghost use Rattle.tf_fix.specs.Selection.{selected};
+ghost use Rattle.tf_fix.specs.Selection.{selected, SelectedAreApart};
 
 /// The text by pairs is the text by parts: gaps and tokens of each finding go and others come, and
 /// then tokens that join get a space.
@@ -33,6 +33,12 @@ pub fn comment_fixes_need_no_space()
         → AreOfRule CommentSyntax cut.pairs findings → AreValidFindings (length cut.pairs) findings
         → fix_step_text cut findings
         ≡ whole_text (fixed_pairs_from 0 cut.pairs (selected findings)) cut.last }
+{}
+
+/// Of findings in order by their first tokens, as in a report, one step of a fix takes those that
+/// can be fixed and share no token with one that was taken before.
+pub fn selected_are_apart()
+    ensures { SelectedAreApart }
 {}
 
 /// One step of a fix takes no more findings than a text can have bytes.

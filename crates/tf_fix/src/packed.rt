@@ -1,7 +1,6 @@
 //! A replacement in few bytes.
 
-ghost use Rattle.std.specs.Prelude.{◌≡◌, ◌++◌, ◌∷◌, [], ◌≤◌, ◌⊎◌, ◌^◌, ◌<◌, IfOk, IfErr, OnOk};
-ghost use Rattle.tf_fix.specs.Inner.Views.{boundary_index};
+ghost use Rattle.std.specs.Prelude.{◌≡◌, ◌++◌, ◌∷◌, [], OnOk};
 ghost use Rattle.tf_fix.specs.Inner.Packed.{boundary_at};
 
 use crate::boundary::Boundary;
@@ -10,14 +9,17 @@ use std::alloc::AllocError;
 use std::marker::Model;
 use tf_rules::Insertion;
 
-/// A replacement in the list of all that one step makes, in 16 bytes: a place is how many gaps and
-/// tokens are before it.
+/// A replacement in the list of all that one step makes, in 16 bytes.
 #[derive(Drop)]
 pub struct PackedReplacement {
     from: u32,
     to: u32,
     first: u32,
     insertion: Insertion,
+    /// Whether it begins directly before a token, after its gap.
+    is_from_token: bool,
+    /// Whether it ends directly before a token, after its gap.
+    is_to_token: bool,
 }
 
 // A step has one or more for each finding that it fixes.
@@ -30,67 +32,49 @@ impl Model for PackedReplacement {
     ghost Value = { Replacement };
 
     ghost view = { λ p. record {
-      from = boundary_at p.from;
-      to = boundary_at p.to;
+      from = boundary_at p.is_from_token p.from;
+      to = boundary_at p.is_to_token p.to;
       first = p.first;
       insertion = p.insertion;
     } };
 }
 
-/// Returns how many gaps and tokens are before a place. A number that does not fit in 32 bits,
-/// which no list of tokens reaches, is an `AllocError`.
-fn pack_boundary(boundary: Boundary) -> Result<u32, AllocError>
-    ensures ok { IfOk result (λ n. boundary_at n ≡ boundary) }
-    ensures err { IfErr result (λ _. 2 ^ 32 ≤ boundary_index boundary) }
+/// Returns whether a place is directly before a token, after its gap, and the number of the token.
+fn pack_boundary(boundary: Boundary) -> (bool, u32)
+    ensures { boundary_at result.0 result.1 ≡ boundary }
 {
-    let half = (u32::MAX / 2) as usize;
     match boundary {
-        Boundary::Gap(i) if i <= half => Ok(2 * (i as u32)),
-        Boundary::Token(i) if i <= half => Ok(2 * (i as u32) + 1),
-        _ => Err(AllocError),
+        Boundary::Gap(i) => (false, i),
+        Boundary::Token(i) => (true, i),
     }
 }
 
-/// Returns the number of a token in 32 bits. A larger one is an `AllocError`.
-fn pack_number(number: usize) -> Result<u32, AllocError>
-    ensures ok { IfOk result (λ n. n ≡ number) }
-    ensures err { IfErr result (λ _. 2 ^ 32 ≤ number) }
+/// Returns the place directly before token `i`, or the place before its gap.
+fn unpack_boundary(is_token: bool, i: u32) -> Boundary
+    ensures { result ≡ boundary_at is_token i }
 {
-    if number <= u32::MAX as usize {
-        Ok(number as u32)
-    } else {
-        Err(AllocError)
-    }
-}
-
-fn unpack_boundary(place: u32) -> Boundary
-    ensures { result ≡ boundary_at place }
-{
-    let i = (place / 2) as usize;
-    if place % 2 == 0 {
-        Boundary::Gap(i)
-    } else {
+    if is_token {
         Boundary::Token(i)
+    } else {
+        Boundary::Gap(i)
     }
 }
 
 impl PackedReplacement {
-    /// Packs a replacement. A number that does not fit in 32 bits is an `AllocError`.
-    pub fn new(one: Replacement) -> Result<PackedReplacement, AllocError>
-        ensures ok { IfOk result (λ packed. packed ≡ one) }
-        ensures err { IfErr result
-            (λ _. (2 ^ 32 ≤ boundary_index one.from) ⊎ (2 ^ 32 ≤ boundary_index one.to)
-            ⊎ (2 ^ 32 ≤ one.first)) }
+    /// Packs a replacement.
+    pub fn new(one: Replacement) -> PackedReplacement
+        ensures { result ≡ one }
     {
-        let from = pack_boundary(one.from)?;
-        let to = pack_boundary(one.to)?;
-        let first = pack_number(one.first)?;
-        Ok(PackedReplacement {
+        let (is_from_token, from) = pack_boundary(one.from);
+        let (is_to_token, to) = pack_boundary(one.to);
+        PackedReplacement {
             from,
             to,
-            first,
+            first: one.first,
             insertion: one.insertion,
-        })
+            is_from_token,
+            is_to_token,
+        }
     }
 
     /// The replacement.
@@ -98,9 +82,9 @@ impl PackedReplacement {
         ensures { result ≡ self.now }
     {
         Replacement {
-            from: unpack_boundary(self.from),
-            to: unpack_boundary(self.to),
-            first: self.first as usize,
+            from: unpack_boundary(self.is_from_token, self.from),
+            to: unpack_boundary(self.is_to_token, self.to),
+            first: self.first,
             insertion: self.insertion,
         }
     }
@@ -110,7 +94,6 @@ impl PackedReplacement {
 pub fn push_packed(all: &mut Vec<PackedReplacement>, one: Replacement) -> Result<(), AllocError>
     ensures { OnOk result (all.new.items ≡ all.old.items ++ one ∷ []) }
 {
-    let packed = PackedReplacement::new(one)?;
-    all.push(packed)?;
+    all.push(PackedReplacement::new(one))?;
     Ok(())
 }

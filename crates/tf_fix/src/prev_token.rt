@@ -18,13 +18,14 @@ pub enum PrevToken<'t> {
     Token { kind: Kind, spelling: &'t [u8] },
 }
 
-fn token_at<'t>(scanned: &Scanned<'t>, i: usize) -> PrevToken<'t>
+/// Returns token `i`, as the one right before a place.
+fn token_at<'t>(scanned: &Scanned<'t>, i: u32) -> PrevToken<'t>
     requires { i < length scanned.now.pairs }
     ensures { Some (prev_view result) ≡ option_map prev_at (slice_get scanned.now.pairs i) }
 {
     PrevToken::Token {
-        kind: scanned.kind(i),
-        spelling: scanned.spelling(i),
+        kind: scanned.kind(i as usize),
+        spelling: scanned.spelling(i as usize),
     }
 }
 
@@ -46,7 +47,7 @@ fn prev_before_gap<'t>(
     scanned: &Scanned<'t>,
     prev: PrevToken<'t>,
     from: Boundary,
-    i: usize,
+    i: u32,
 ) -> PrevToken<'t>
     requires order { boundary_index from ≤ 2 * i }
     requires within { i ≤ length scanned.now.pairs }
@@ -79,7 +80,7 @@ pub fn prev_before<'t>(
         Boundary::Token(i) => {
             if is_before_token(from, i) {
                 prev
-            } else if scanned.gap(i).is_empty() {
+            } else if scanned.gap(i as usize).is_empty() {
                 prev_before_gap(scanned, prev, from, i)
             } else {
                 PrevToken::Nothing
@@ -99,8 +100,8 @@ pub fn is_glued(scanned: &Scanned<'_>, prev: PrevToken<'_>, from: Boundary, to: 
     match from {
         Boundary::Gap(i) => {
             if is_after(to, i) {
-                if scanned.gap(i).is_empty() {
-                    joins_prev(prev, scanned.kind(i), scanned.spelling(i))
+                if scanned.gap(i as usize).is_empty() {
+                    joins_prev(prev, scanned.kind(i as usize), scanned.spelling(i as usize))
                 } else {
                     false
                 }
@@ -110,7 +111,7 @@ pub fn is_glued(scanned: &Scanned<'_>, prev: PrevToken<'_>, from: Boundary, to: 
         }
         Boundary::Token(i) => {
             if is_after(to, i) {
-                joins_prev(prev, scanned.kind(i), scanned.spelling(i))
+                joins_prev(prev, scanned.kind(i as usize), scanned.spelling(i as usize))
             } else {
                 false
             }

@@ -23,17 +23,18 @@ use tf_rules::{Finding, Fix, Insertion, KeptTokens, Rule};
 fn push_kept_replacements(
     all: &mut Vec<PackedReplacement>,
     scanned: &Scanned<'_>,
-    first: usize,
+    first: u32,
     from: Boundary,
     written: Insertion,
     kept: &[Option<KeptTokens>],
-    past: usize,
+    past: u32,
 ) -> Result<(), AllocError>
     requires byte { HasByte scanned.now.pairs first }
     ensures items { IfOk result
         (λ _. replacements scanned.now.pairs all.new.items
         ≡ replacements scanned.now.pairs all.old.items
-        ++ replacements_from scanned.now.pairs first (boundary_index from) (skip_of from) written kept.now past) }
+        ++ replacements_from scanned.now.pairs first
+        (boundary_index from) (skip_of from) written kept.now past) }
     ensures bytes { IfOk result
         (λ _. HaveBytes scanned.now.pairs all.old.items
         → HaveBytes scanned.now.pairs all.new.items) }

@@ -19,18 +19,20 @@ use crate::comment::comment_edits;
 use crate::fault::LintFault;
 use crate::replacement_list::selected_replacements;
 use crate::splice::replacement_edits;
-use edit_record::lists::laws::{pieces_make_valid_edits, pieces_transform};
+use edit_record::laws::{pieces_make_valid_edits, pieces_transform};
 use edit_record::lists::{Edit, Edits};
 use hcl_scan::Scanned;
 use std::alloc::Global;
 use tf_rules::{Finding, Rule};
 
+/// Whether the rule is about comments: its edits are inside of tokens.
 fn is_comment_rule(rule: Rule) -> bool
     ensures { result ≡ is_comment_rule rule }
 {
     matches!(rule, Rule::CommentSyntax)
 }
 
+/// Returns the edits of the step, in order: inside of comments, or of whole tokens and gaps.
 fn fix_step_entries(
     alloc: Global,
     scanned: &Scanned<'_>,

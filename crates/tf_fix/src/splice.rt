@@ -4,7 +4,7 @@ ghost use Rattle.std.specs.Prelude.{◌≡◌, ◌≤◌, ◌+◌, ◌*◌, leng
 ghost use Rattle.edit_record.specs.Lists.Pieces.{changed_entries};
 ghost use Rattle.tf_fix.specs.Parts.{parts, text_of_parts};
 ghost use Rattle.tf_fix.specs.FindingReplacements.{pairs_parts, inserted};
-ghost use Rattle.tf_fix.specs.Replacements.{AreInOrder, added, replaced_pieces};
+ghost use Rattle.tf_fix.specs.Replacements.{AreReplacementsInOrder, added, replaced_pieces};
 ghost use Rattle.tf_fix.specs.Inner.Views.{boundary_index, next_index, prev_view, replacement_parts, HasByte, replacements, HaveBytes};
 
 use crate::boundary::{Boundary, offset, text_between};
@@ -22,7 +22,7 @@ use tf_rules::Insertion;
 pub struct Replacement {
     pub from: Boundary,
     pub to: Boundary,
-    pub first: usize,
+    pub first: u32,
     pub insertion: Insertion,
 }
 
@@ -33,7 +33,7 @@ fn next_boundary(scanned: &Scanned<'_>, rest: &[PackedReplacement]) -> Boundary
 {
     match rest.first() {
         Some(next) => next.unpack().from,
-        None => Boundary::Token(scanned.len()),
+        None => Boundary::Token(scanned.count()),
     }
 }
 
@@ -62,6 +62,7 @@ fn settled_text(
     Ok(text)
 }
 
+/// Returns the edit of a replacement after `prev`, if the parts from its end up to `end` follow it.
 #[tactic(auto, using(crate::proofs::InsertionLemmas::insertion_added))]
 fn replacement_edit(
     alloc: Global,
@@ -97,7 +98,7 @@ pub fn replacement_edits(
     scanned: &Scanned<'_>,
     all: &[PackedReplacement],
 ) -> Result<Vec<Edit>, AllocError>
-    requires order { AreInOrder 0 (replacements scanned.now.pairs all.now)
+    requires order { AreReplacementsInOrder 0 (replacements scanned.now.pairs all.now)
         (2 * length scanned.now.pairs) }
     requires bytes { HaveBytes scanned.now.pairs all.now }
     ensures { IfOk result

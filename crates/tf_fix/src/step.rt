@@ -54,10 +54,8 @@ pub fn fix_step(
 {
     let only = RuleSet::only(rule);
     let found = findings(alloc, scanned, tree, only)?;
-    match fix_step_of_findings(alloc, scanned, only, &found, rule) {
-        Ok(StepEdits { count: _, edits }) => Ok(edits),
-        Err(fault) => Err(fault),
-    }
+    let step = fix_step_of_findings(alloc, scanned, only, &found, rule)?;
+    Ok(step.edits)
 }
 
 /// Returns the edits of one rule's fix of a text, and how many findings they fix. `found` is what

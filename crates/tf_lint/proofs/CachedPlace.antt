@@ -10,15 +10,15 @@ use Rattle.tf_lint.specs.Issues.{reports}
 use Rattle.tf_lint.specs.Reports.{Report, report, report_of}
 use Rattle.tf_lint.specs.declared.issue.Issue.{Issue}
 
--- each of sound findings begins at a token of the text
+-- each of valid findings begins at a token of the text
 pub begins_inside : (count : ℕ) (found : List Finding) (i : ℕ) (d : Finding) → AreValidFindings count found → i < length found → (get_or found i d).first < count
-begins_inside count [] i d sound below = absurd (omega (arith, below))
-begins_inside count (f ∷ fs) zero d sound below = omega (arith, sound.0.0, sound.0.1)
-begins_inside count (f ∷ fs) (suc i) d sound below = begins_inside count fs i d sound.1 (omega (arith, below))
+begins_inside count [] i d valid below = absurd (omega (arith, below))
+begins_inside count (f ∷ fs) zero d valid below = omega (arith, valid.0.0, valid.0.1)
+begins_inside count (f ∷ fs) (suc i) d valid below = begins_inside count fs i d valid.1 (omega (arith, below))
 
 -- the same where the places are of these tokens
 pub begins_there : (pairs places : List Pair) (found : List Finding) (i : ℕ) (d : Finding) → places ≡ pairs → AreValidFindings (length pairs) found → i < length found → (get_or found i d).first < length places
-begins_there pairs places found i d same sound below = omega (arith, begins_inside (length pairs) found i d sound below, ap length same)
+begins_there pairs places found i d same valid below = omega (arith, begins_inside (length pairs) found i d valid below, ap length same)
 
 pub place_there : (pairs places : List Pair) (i : ℕ) (place : Place) → places ≡ pairs → place ≡ place_of places i → place ≡ place_of pairs i
 place_there pairs places i place same is = is ∙ ap (λ (ps : List Pair). place_of ps i) same

@@ -37,14 +37,14 @@ not_parsed text pairs last (parse.Syntax at) tokenized only deeper = (pairs, las
 not_parsed text pairs last (parse.TooDeep at) tokenized only deeper = (pairs, last, tokenized, only)
 not_parsed text pairs last parse.Memory tokenized only deeper = (tokenized.short, tokenized.utf8)
 
--- a text with a fault does not parse
+-- a text with a parse error does not parse
 pub not_both : TokensAreUnique → (text : List ℕ) (fault : ParseFault) (t : Tree) → IsParseFault text fault → Parses text t → ⊥
 not_both unique_tokens text (parse.Syntax at) t h p =
     h.3 MAX_NESTING t (subst (λ (ps : List Pair). IsFile (tokens_of ps) MAX_NESTING t) (unique_tokens text p.pairs h.0 p.last h.1 p.tokenization h.2).0 p.derived)
 not_both unique_tokens text (parse.TooDeep at) t h p = h.3 t p
 not_both unique_tokens text parse.Memory t h p = h
 
--- what is not read, but for want of memory, does not parse
+-- what is refused, but not since memory ran out, does not parse
 pub unread : TokensAreUnique → NoTokensWithFault → (text : List ℕ) (fault : FixFault) → IsReadFault text fault → (fault ≡ Memory) ⊎ DoesNotParse text
 unread unique_tokens no_cut text (Scan fault) h = inr (λ t p. no_cut text fault p.pairs p.last h p.tokenization)
 unread unique_tokens no_cut text (Parse fault) h = inr (λ t p. not_both unique_tokens text fault t h p)
@@ -61,7 +61,7 @@ parses_of text p reads = record {
   derived = reads.2;
 }
 
--- one text has one cut
+-- a text has one tokenization
 pub same_scanned : TokensAreUnique → (text : List ℕ) (a b : Parsed) → IsParseOf text a → IsParseOf text b → a.scanned ≡ b.scanned
 same_scanned unique_tokens text a b p q =
     let h = unique_tokens text a.scanned.pairs b.scanned.pairs a.scanned.last b.scanned.last

@@ -4,12 +4,11 @@ use Rattle.std.specs.Prelude.{IfOk, IfErr}
 use Rattle.std.specs.Result.{IsErr, IsErrAnd}
 use Rattle.hcl_grammar.specs.Nodes as node
 use Rattle.hcl_grammar.specs.Tokens.{Token}
-use Rattle.hcl_grammar.specs.declared.fault.TokenFault.{TokenFault}
 use Rattle.hcl_grammar.specs.declared.tree.Member.{Member}
 use Rattle.hcl_tree.proofs.Passing.{file_tree}
 
 -- what `?` hands on
-pub residual : {T : Type 0} (r : Result T TokenFault) (f : TokenFault) (P : TokenFault → Type 0) → IsErr r × IsErrAnd r (λ e. e ≡ f) → P f → IfErr r P
+pub residual : {T E : Type 0} (r : Result T E) (f : E) (P : E → Type 0) → IsErr r × IsErrAnd r (λ e. e ≡ f) → P f → IfErr r P
 residual (Ok x) f P told p = tt
 residual (Err e) f P told p = subst P (sym told.1) p
 

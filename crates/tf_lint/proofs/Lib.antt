@@ -6,7 +6,9 @@ mod FileLemmas
 mod LineLists
 mod LineWords
 mod CachedPlace
+mod EditLengths
 pub mod OneFixLemmas
+mod RunsInOrder
 pub mod RunLemmas
 pub mod LintLemmas
 pub mod StepLemmas

@@ -36,12 +36,12 @@ use Rattle.tf_lint.specs.declared.linted_text.LintedText.{LintedText}
 pub read_whole : (text : List ℕ) (s : LintedText) → s.scanned.text ≡ text → IsTokenization text s.scanned.pairs s.scanned.last
     → (t : Tree) × IsFile (tokens_of s.scanned.pairs) MAX_NESTING t × AreFindings s.rules s.scanned.pairs t.body.members s.found.items
     → AreLintedMembers s.rules s.scanned.pairs s.members.items → AreValidFindings (length s.scanned.pairs) s.found.items → (p : Parsed) × IsParseOf text p × IsLintOf p s
-read_whole text s same tokenized read seen sound =
+read_whole text s same tokenized read seen valid =
     let p : Parsed = record { scanned = s.scanned; tree = read.0 } in
     let own = subst (λ (t : List ℕ). IsTokenization t s.scanned.pairs s.scanned.last) (sym same) tokenized in
-    (p, (same, own, read.1), record { same = refl; reads = (refl, own, read.1); findings_are = read.2; sound = sound; members_linted = seen })
+    (p, (same, own, read.1), record { same = refl; reads = (refl, own, read.1); findings_are = read.2; valid = valid; members_linted = seen })
 
--- a text that is not cut
+-- a text that is not tokenized
 is_fault : (text : List ℕ) (why : ScanFault) → IsFault text why → IsReadFault text (fault_of_scan why)
 is_fault text scan.Memory (inl long) = absurd (cc long.0)
 is_fault text scan.Memory (inr (inl narrow)) = absurd (cc narrow.1)
@@ -63,9 +63,9 @@ pub is_found : (p : Parsed) (s : LintedText) (found : List Finding) → found �
 is_found p s found is h = (h.same, h.reads, subst (λ fs. RulesFind s.rules p fs) (sym is) h.findings_are)
 
 pub valid_of : (p : Parsed) (s : LintedText) → IsLintOf p s → AreValidFindings (length s.scanned.pairs) s.found.items
-valid_of p s h = subst (λ (t : TokenizedText). AreValidFindings (length t.pairs) s.found.items) h.same h.sound
+valid_of p s h = subst (λ (t : TokenizedText). AreValidFindings (length t.pairs) s.found.items) h.same h.valid
 
--- why a step is refused, as a fault of a fix
+-- why a step is refused, as a `FixFault`
 pub cannot : (rule : Rule) (p : Parsed) (fault : LintFault) → (fault ≡ lint.Memory) ⊎ ((fault ≡ lint.TooLong) × IsTooLong rule p)
     → (fault_of_lint fault ≡ Memory) ⊎ ((fault_of_lint fault ≡ TooLong) × CannotStep rule p (fault_of_lint fault))
 cannot rule p fault (inl memory) = rw memory (inl refl)

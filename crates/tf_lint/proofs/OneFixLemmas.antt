@@ -17,8 +17,10 @@ use Rattle.tf_fix.specs.declared.parsed.Parsed.{Parsed}
 use Rattle.tf_rules.specs.SingleRule.{only}
 use Rattle.tf_fix.specs.ParsedTexts.{IsParseOf}
 use Rattle.tf_fix.specs.OneStep.{step_text_of}
-use Rattle.tf_lint.specs.Steps.{IsRemainingCount, Steps, prepend_step, StepBreaks, FoundThen, StepThen, RunSteps, fix_order, IsSquashOfAll, Rewrite, Fixes, Breaks, FixIsUnique}
+use Rattle.tf_lint.specs.Steps.{IsRemainingCount, Steps, prepend_step, StepBreaks, RunSteps, fix_order, IsSquashOfAll, Rewrite, Fixes, Breaks, FixIsUnique}
+use Rattle.tf_lint.specs.Inner.FirstChange.{FoundThen, StepThen, RunsInOrder}
 use Rattle.tf_lint.proofs.DoesNotParse.{TokensAreUnique, parses_of, same_scanned}
+use Rattle.tf_lint.proofs.RunsInOrder.{from_steps}
 
 -- what is made, by its parts
 one_made : (a b : Rewrite) → a.text ≡ b.text → a.edits ≡ b.edits → a.fixed ≡ b.fixed → a.left ≡ b.left → a ≡ b
@@ -95,14 +97,14 @@ module _ (unique_tokens : TokensAreUnique) (one_parse : OneParse) (one_found : F
   choose true rule p Others ih a b v w = same_then rule p Others ih a b v w
   choose false rule p Others ih a b v w = ih p a b v w
 
-  same_steps : (rules : RuleSet) (order : List Rule) (p : Parsed) (a b : Result Steps FixFault) → RunSteps rules order p a → RunSteps rules order p b → a ≡ b
+  same_steps : (rules : RuleSet) (order : List Rule) (p : Parsed) (a b : Result Steps FixFault) → RunsInOrder rules order p a → RunsInOrder rules order p b → a ≡ b
   same_steps rules [] p a b v w = v ∙ sym w
-  same_steps rules (rule ∷ others) p a b v w = choose (has_rule rules rule) rule p (RunSteps rules others) (same_steps rules others) a b v w
+  same_steps rules (rule ∷ others) p a b v w = choose (has_rule rules rule) rule p (RunsInOrder rules others) (same_steps rules others) a b v w
 
   same_runs : (rules : RuleSet) (text : List ℕ) (c d : Parsed) (a b : Result Steps FixFault) → IsParseOf text c → IsParseOf text d → RunSteps rules fix_order c a → RunSteps rules fix_order d b → a ≡ b
   same_runs rules text c d a b p q runs other =
       let same = same_read text d c q p in
-      same_steps rules fix_order c a b runs (subst (λ (x : Parsed). RunSteps rules fix_order x b) same other)
+      same_steps rules fix_order c a b (from_steps runs) (from_steps (subst (λ (x : Parsed). RunSteps rules fix_order x b) same other))
 
   one_list : (len : ℕ) (lists : List EditList) (e f : EditList) → IsSquashOfAll len lists e → IsSquashOfAll len lists f → e ≡ f
   one_list len [] e f p q = p ∙ sym q

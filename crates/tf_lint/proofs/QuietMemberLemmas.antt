@@ -12,7 +12,7 @@ use Rattle.tf_quiet.specs.QuietMembers.{QuietMembersHaveNoFindings}
 use Rattle.tf_quiet.specs.QuietTokens.{AreQuiet}
 
 pub quiet_member : QuietMembersHaveNoFindings → (pairs : List Pair) (from past : ℕ) → IsSkippedMember pairs from past
-    → AreQuiet pairs from past → kind_of pairs (past - 1) ≡ Some LineEnd → HasNoBlockFindings pairs from → past < 2 ^ 64 → IsQuietMember pairs from past
+    → AreQuiet pairs from past → kind_of pairs (past - 1) ≡ Some LineEnd → HasNoBlockFindings pairs from → past < 2 ^ 32 → IsQuietMember pairs from past
 quiet_member law pairs from past s run line nothing fits =
     let member_is_derived = member_derives (tokens_of pairs) MAX_NESTING from s.member past s.answer in
     record {

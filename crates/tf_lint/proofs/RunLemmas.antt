@@ -21,8 +21,9 @@ use Rattle.tf_lint.specs.declared.steps.FirstChange.TheVariants.{NoChange, Chang
 use Rattle.tf_fix.specs.ParsedTexts.{IsParseOf}
 use Rattle.tf_lint.specs.ParseFaults.{DoesNotParse, IsUtf8WithinLimit, IsReadFault}
 use Rattle.tf_fix.specs.OneStep.{RulesFind, step_text_of}
-use Rattle.tf_lint.specs.Steps.{texts_differ, Steps, FoundThen, StepThen, RunSteps, Rewrite, Fixes, Refuses}
-use Rattle.tf_lint.specs.Inner.FirstChange.{has_step, RunFixable, IsChange, IsStep, IsFirstChange, FixesFrom, RefusesFrom}
+use Rattle.tf_lint.specs.Steps.{texts_differ, Steps, RunSteps, Rewrite, Fixes, Refuses}
+use Rattle.tf_lint.specs.Inner.FirstChange.{FoundThen, StepThen, RunsInOrder, has_step, RunFixable, IsChange, IsStep, IsFirstChange, FixesFrom, RefusesFrom}
+use Rattle.tf_lint.proofs.RunsInOrder.{to_steps}
 
 pub split_first : {X : Type 0} (xs : List X) (d : X) → 1 ≤ length xs → xs ≡ slice_index_or xs 0 d ∷ take (length xs - 1) (drop 1 xs)
 split_first [] d some = absurd (omega (arith, some))
@@ -45,7 +46,7 @@ pub residual : {T : Type 0} (r : Result T FixFault) (f : FixFault) (P : FixFault
 residual (Ok x) f P told p = tt
 residual (Err e) f P told p = subst P (sym told.1) p
 
--- ---- one rule more in front
+-- ---- one rule more at the start of the order
 
 same_text : (t u : List ℕ) → t ≡ u → texts_differ t u ≡ false
 same_text t u e = rw ((bytes_eq-Decides t u).1 e) refl
@@ -167,18 +168,21 @@ steps_continue rule p found A B go (Err fault) (inr (short, next, reads, others)
 
 -- b whether a fix has a step for the rule, d whether the set has the rule
 at_rule : (rules : RuleSet) (rule : Rule) (order : List Rule) (p : Parsed) (answer : Result Steps FixFault) (b d : Bool) → has_rule rules rule ≡ d
-    → ((c : Parsed) (r : Result Steps FixFault) → RunFixable rules order c r → RunSteps rules (filter has_fix order) c r)
+    → ((c : Parsed) (r : Result Steps FixFault) → RunFixable rules order c r → RunsInOrder rules (filter has_fix order) c r)
     → MatchBool (b && d) (StepThen rule p (RunFixable rules order) answer) (RunFixable rules order p answer)
-    → RunSteps rules (cond b (rule ∷ filter has_fix order) (filter has_fix order)) p answer
+    → RunsInOrder rules (cond b (rule ∷ filter has_fix order) (filter has_fix order)) p answer
 at_rule rules rule order p answer true true has go h =
-    rw has (h.0, h.1, steps_continue rule p h.0 (RunFixable rules order) (RunSteps rules (filter has_fix order)) go answer h.2)
+    rw has (h.0, h.1, steps_continue rule p h.0 (RunFixable rules order) (RunsInOrder rules (filter has_fix order)) go answer h.2)
 at_rule rules rule order p answer true false has go h = rw has (go p answer h)
 at_rule rules rule order p answer false d has go h = go p answer h
 
 -- the steps that a list of rules has are those of its rules that are fixed
+fixed_rules : (rules : RuleSet) (order : List Rule) (p : Parsed) (answer : Result Steps FixFault) → RunFixable rules order p answer → RunsInOrder rules (filter has_fix order) p answer
+fixed_rules rules [] p answer h = h
+fixed_rules rules (rule ∷ order) p answer h = at_rule rules rule order p answer (has_fix rule) (has_rule rules rule) refl (fixed_rules rules order) h
+
 run_is : (rules : RuleSet) (order : List Rule) (p : Parsed) (answer : Result Steps FixFault) → RunFixable rules order p answer → RunSteps rules (filter has_fix order) p answer
-run_is rules [] p answer h = h
-run_is rules (rule ∷ order) p answer h = at_rule rules rule order p answer (has_fix rule) (has_rule rules rule) refl (run_is rules order) h
+run_is rules order p answer h = to_steps rules (filter has_fix order) p answer (fixed_rules rules order p answer h)
 
 pub none_changed : (rules : RuleSet) (text : List ℕ) (p : Parsed) (fixed : ℕ) (found : List Finding) → IsParseOf text p → RulesFind rules p found → IsFirstChange rules all_rules p 0 (NoChange fixed)
     → Fixes rules text (record { text = text; edits = record { old_len = length text; entries = [] }; fixed = fixed; left = length found })

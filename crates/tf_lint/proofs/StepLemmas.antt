@@ -15,7 +15,7 @@ use Rattle.tf_lint.specs.Steps.{texts_differ}
 abbrev pub LengthsAreKept : Type 0
 LengthsAreKept = (e : EditList) (t u : List ℕ) → Transforms e t u → LengthsMatch e t u
 
--- where some text goes by both lists, squash refuses for want of memory alone
+-- if both lists apply to some text, one after the other, squash fails only if memory runs out
 pub never_unmet : LengthsAreKept → (a b : EditList) (unmet : Unmet) → AreComposable a b → IsSquashResult a b (Err unmet) → unmet ≡ Memory
 never_unmet lengths a b LengthsDiffer (t, u, v, first, second) other = absurd (other (sym (lengths a t u first).1 ∙ (lengths b u v second).0))
 never_unmet lengths a b (Contradicts edit) can said = absurd (said.1.none can)

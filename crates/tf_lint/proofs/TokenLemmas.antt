@@ -10,7 +10,7 @@ use Rattle.tf_reuse.proofs.Window.{get_drop}
 abbrev pub token_of : Pair → Token
 token_of p = (p.kind, p.spelling)
 
--- fronts that are the same, and one more that is
+-- prefixes that are the same, and one more token that is
 prefix_more : (xs ys : List Token) (k : ℕ) → take k xs ≡ take k ys → slice_get xs k ≡ slice_get ys k → take (suc k) xs ≡ take (suc k) ys
 prefix_more [] [] k a b = refl
 prefix_more [] (y ∷ ys) zero a b = absurd (cc)

@@ -1,6 +1,5 @@
 -- What is found in the members of a text's body.
-use Rattle.std.specs.Prelude.{◌≡◌, ℕ, true, List, [], ◌∷◌, slice_get, length, Option, Some, None, Ok}
-use Rattle.hcl_grammar.specs.Pure.BodyParser.{deeper_members, member_of}
+use Rattle.std.specs.Prelude.{◌≡◌, ℕ, List, [], ◌∷◌, slice_get, length, Some}
 use Rattle.tf_reuse.specs.OneMember.{IsOneMember}
 use Rattle.hcl_grammar.specs.declared.tree.Member.{Member}
 use Rattle.hcl_grammar.specs.declared.bounds.TheConstants.{MAX_NESTING}
@@ -24,10 +23,3 @@ pub record IsLintedMember (rules : RuleSet) (pairs : List Pair) (x : LintedMembe
 -- each of these is
 abbrev pub AreLintedMembers : RuleSet → List Pair → List LintedMember → Type 0
 AreLintedMembers rules pairs xs = (i : ℕ) (x : LintedMember) → slice_get xs i ≡ Some x → IsLintedMember rules pairs x
-
--- the member, or none, that the parser reads from one place up to another, with what is found in it
-abbrev pub IsNextMember : RuleSet → List Pair → ℕ → Option LintedMember → ℕ → Type 0
-IsNextMember rules pairs from None past =
-    member_of (tokens_of pairs) MAX_NESTING (deeper_members (tokens_of pairs) MAX_NESTING)
-    from ≡ Ok (None, past)
-IsNextMember rules pairs from (Some x) past = (x.from ≡ from) × (x.past ≡ past) × IsLintedMember rules pairs x

@@ -14,7 +14,7 @@ pub record IsLintOf (p : Parsed) (linted : LintedText) : Type 0 where
   pub same : p.scanned ≡ linted.scanned
   pub reads : IsParseOf p.scanned.text p
   pub findings_are : RulesFind linted.rules p linted.found.items
-  pub sound : AreValidFindings (length p.scanned.pairs) linted.found.items
+  pub valid : AreValidFindings (length p.scanned.pairs) linted.found.items
   -- and so they found in each attribute and block of its body
   pub members_linted : AreLintedMembers linted.rules linted.scanned.pairs linted.members.items
 

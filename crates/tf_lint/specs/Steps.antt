@@ -1,6 +1,6 @@
 -- What a fix makes of a text: the steps of its rules one after another, each over the text that the
 -- one before left.
-use Rattle.std.specs.Prelude.{◌≡◌, ◌≤◌, ◌<◌, ◌+◌, ◌⊎◌, ℕ, Bool, List, [], ◌∷◌, length, Result, Ok, Err, filter, not, if◌then◌else◌, MatchBool}
+use Rattle.std.specs.Prelude.{◌≡◌, ◌≤◌, ◌<◌, ◌+◌, ◌⊎◌, ℕ, Bool, true, false, List, [], ◌∷◌, length, Result, Ok, Err, filter, not, if◌then◌else◌}
 use Rattle.std.specs.Str.{bytes_eq}
 use Rattle.hcl_scan.specs.Tokenization.{MAX_TEXT}
 use Rattle.edit_record.specs.Lists.Pieces.{EditList, as_list}
@@ -71,31 +71,25 @@ abbrev pub CannotStep : Rule → Parsed → FixFault → Type 0
 CannotStep rule p fault =
     (found : List Finding) × RulesFind (only rule) p found × StepBreaks rule p found fault
 
--- the step of a rule that found this, and then the others over its text; the first that can't be
--- done ends all
-abbrev pub FoundThen : Rule → Parsed → List Finding → (Parsed → Result Steps FixFault → Type 0)
-    → Result Steps FixFault → Type 0
-FoundThen rule p found Others (Ok steps) =
-    (length (step_text_of p found) ≤ MAX_TEXT) × (next : Parsed) × (more : Steps)
-    × IsParseOf (step_text_of p found) next
-    × Others next (Ok more) × (steps ≡ prepend_step rule p found more)
-FoundThen rule p found Others (Err fault) =
-    StepBreaks rule p found fault
-    ⊎ ((length (step_text_of p found) ≤ MAX_TEXT) × (next : Parsed) × IsParseOf (step_text_of p found) next
-    × Others next (Err fault))
-
--- the step of the rule, over what it alone finds, and then the others
-abbrev pub StepThen : Rule → Parsed → (Parsed → Result Steps FixFault → Type 0)
-    → Result Steps FixFault → Type 0
-StepThen rule p Others answer =
-    (found : List Finding) × RulesFind (only rule) p found × FoundThen rule p found Others answer
-
--- the steps of these rules, as far as they are in the set
-abbrev pub RunSteps : RuleSet → List Rule → Parsed → Result Steps FixFault → Type 0
-RunSteps rules [] p answer = answer ≡ Ok (no_steps p.scanned.text)
-RunSteps rules (rule ∷ others) p answer =
-    MatchBool (has_rule rules rule) (StepThen rule p (RunSteps rules others) answer)
-    (RunSteps rules others p answer)
+-- The steps of these rules, as far as they are in the set, one after another: each is over what its
+-- rule alone finds in the text that the one before left. The first that can't be done ends all.
+pub data RunSteps (rules : RuleSet) : List Rule → Parsed → Result Steps FixFault → Type 0 where
+  none_left : {p : Parsed} → RunSteps rules [] p (Ok (no_steps p.scanned.text))
+  not_in_set : {rule : Rule} {others : List Rule} {p : Parsed} {answer : Result Steps FixFault}
+      → has_rule rules rule ≡ false → RunSteps rules others p answer
+      → RunSteps rules (rule ∷ others) p answer
+  breaks : {rule : Rule} {others : List Rule} {p : Parsed} {fault : FixFault} (found : List Finding)
+      → has_rule rules rule ≡ true → RulesFind (only rule) p found
+      → StepBreaks rule p found fault → RunSteps rules (rule ∷ others) p (Err fault)
+  stepped : {rule : Rule} {others : List Rule} {p next : Parsed} {more : Steps} (found : List Finding)
+      → has_rule rules rule ≡ true → RulesFind (only rule) p found
+      → length (step_text_of p found) ≤ MAX_TEXT → IsParseOf (step_text_of p found) next
+      → RunSteps rules others next (Ok more)
+      → RunSteps rules (rule ∷ others) p (Ok (prepend_step rule p found more))
+  breaks_later : {rule : Rule} {others : List Rule} {p next : Parsed} {fault : FixFault}
+      (found : List Finding) → has_rule rules rule ≡ true → RulesFind (only rule) p found
+      → length (step_text_of p found) ≤ MAX_TEXT → IsParseOf (step_text_of p found) next
+      → RunSteps rules others next (Err fault) → RunSteps rules (rule ∷ others) p (Err fault)
 
 -- ---- the whole fix
 
@@ -134,7 +128,8 @@ Breaks rules text fault = (p : Parsed) × IsParseOf text p × RunSteps rules fix
 abbrev pub Refuses : RuleSet → List ℕ → FixFault → Type 0
 Refuses rules text fault = IsReadFault text fault ⊎ Breaks rules text fault
 
--- a fix makes one text of a text, or can't be done for one reason
+-- A text has at most one fix by these rules, at most one error of a step that can't be done, and
+-- never both. That it has one of them is not said.
 pub record FixIsUnique (rules : RuleSet) (text : List ℕ) : Type 0 where
   pub made : (a b : Rewrite) → Fixes rules text a → Fixes rules text b → a ≡ b
   pub broken : (f g : FixFault) → Breaks rules text f → Breaks rules text g → f ≡ g

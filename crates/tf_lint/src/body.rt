@@ -14,11 +14,11 @@ ghost use Rattle.tf_lint.specs.LintedMembers.{IsLintedMember, AreLintedMembers};
 ghost use Rattle.tf_rules.specs.declared.rule_set.RuleSet.{RuleSet};
 
 use crate::member::{LintedMember, next_member};
+use crate::search::Search;
 use hcl_grammar::fault::TokenFault;
-use hcl_scan::Scanned;
 use hcl_tree::reading::Reader;
 use std::alloc::{AllocError, Global};
-use tf_rules::{Finding, RuleSet};
+use tf_rules::Finding;
 
 /// What was read of a body.
 #[derive(Drop)]
@@ -94,49 +94,34 @@ fn add_member(
     }
 }
 
-/// Reads the members of a body and returns what the rules find in them. `old_members` are members
-/// of another text that was read with the same rules: their findings are reused as long as their
-/// tokens are in this one. Without `keep_members` each member is freed as soon as it was linted.
+/// Reads the members of a body and returns what the rules find in them.
 pub fn lint_body(
     alloc: Global,
-    scanned: &Scanned<'_>,
-    rules: RuleSet,
-    old: &Scanned<'_>,
-    old_members: &[LintedMember],
-    keep_members: bool,
-    at: &mut usize,
+    search: &Search<'_, '_, '_>,
+    at: &mut u32,
 ) -> Result<BodyFindings, TokenFault>
-    requires { AreLintedMembers rules old.now.pairs old_members.now }
+    requires { AreLintedMembers search.now.rules search.now.old.now.pairs search.now.old_members.now }
     ensures members_linted { IfOk result
-        (λ found. IsBodyRead rules scanned.now.pairs
-        (spec.members (tokens_of scanned.now.pairs) MAX_NESTING at.old) at.new found) }
+        (λ found. IsBodyRead search.now.rules search.now.scanned.now.pairs
+        (spec.members (tokens_of search.now.scanned.now.pairs) MAX_NESTING at.old) at.new found) }
     ensures fault { IfErr result
         (λ e. e ≢ fault.Memory
-        → spec.members (tokens_of scanned.now.pairs) MAX_NESTING at.old ≡ Err e) }
+        → spec.members (tokens_of search.now.scanned.now.pairs) MAX_NESTING at.old ≡ Err e) }
 {
-    let reader = Reader::new(alloc, scanned);
+    let reader = Reader::new(alloc, search.scanned);
     let mut found = BodyFindings {
         members: Vec::new(alloc),
         node_findings: Vec::new(alloc),
         block_findings: Vec::new(alloc),
     };
-    for _turn in 0..scanned.len() {
+    for _turn in 0..search.scanned.len() {
         if reader.eat_newline(at) {
             continue;
         }
-        let Some(x) = next_member(
-            alloc,
-            scanned,
-            rules,
-            old,
-            old_members,
-            found.members.len(),
-            at,
-        )?
-        else {
+        let Some(x) = next_member(alloc, search, found.members.len(), at)? else {
             return Ok(found);
         };
-        add_member(&mut found, x, keep_members)?;
+        add_member(&mut found, x, search.keep_members)?;
     }
     Ok(found)
 }

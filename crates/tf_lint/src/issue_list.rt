@@ -4,7 +4,7 @@ ghost use Rattle.std.specs.Prelude.{◌≡◌, ◌++◌, [], ◌∷◌, ◌<◌,
 ghost use Rattle.hcl_token.specs.Place.{place_of};
 ghost use Rattle.tf_rules.specs.Findings.{AreValidFindings};
 ghost use Rattle.tf_lint.specs.Issues.{reports, AreIssues};
-ghost use Rattle.tf_lint.specs.Reports.{report_of, lines_of};
+ghost use Rattle.tf_lint.specs.Reports.{report_of, report_lines};
 ghost use Rattle.tf_fix.specs.declared.fault.LintFault.TheVariants.{Memory};
 
 use crate::issue::Issue;
@@ -53,7 +53,7 @@ pub fn issues_of(
     let mut issues = Vec::with_capacity(alloc, found.len())?;
     let mut places = scanned.places();
     for finding in found {
-        let place = places.of(finding.first());
+        let place = places.of(finding.first() as usize);
         let issue = Issue::of(alloc, scanned, finding, place)?;
         issues.push(issue)?;
     }
@@ -78,7 +78,7 @@ fn with_line_capacity(alloc: Global, name: &str, count: usize) -> Result<String,
 
 /// The place of token `first`, where `place` is that of token `last`: several findings may begin at
 /// one token.
-fn next_place(places: &mut Places<'_>, last: usize, place: Place, first: usize) -> Place
+fn next_place(places: &mut Places<'_>, last: u32, place: Place, first: u32) -> Place
     requires place { place ≡ place_of places.old last }
     requires within { first < length places.old }
     ensures place { result ≡ place_of places.old first }
@@ -87,7 +87,7 @@ fn next_place(places: &mut Places<'_>, last: usize, place: Place, first: usize) 
     if first == last {
         return place;
     }
-    places.of(first)
+    places.of(first as usize)
 }
 
 /// A report on the file of this name: the line of the issue of each of these findings in a text, in
@@ -101,7 +101,7 @@ pub fn lines_of_findings(
     requires { AreValidFindings (length scanned.now.pairs) found.now }
     ensures lines { IfOk result
         (λ lines. string_bytes lines
-        ≡ lines_of name.now (map (report_of scanned.now.pairs) found.now)) }
+        ≡ report_lines name.now (map (report_of scanned.now.pairs) found.now)) }
     ensures allocates { IfErr result (λ _. 0 < length found.now) }
 {
     if found.is_empty() {
@@ -110,7 +110,7 @@ pub fn lines_of_findings(
     let mut lines = with_line_capacity(alloc, name, found.len())?;
     let mut places = scanned.places();
     let mut last = found[0].first();
-    let mut place = places.of(last);
+    let mut place = places.of(last as usize);
     for finding in found {
         let first = finding.first();
         place = next_place(&mut places, last, place, first);
@@ -124,7 +124,7 @@ pub fn lines_of_findings(
 /// each followed by LF.
 pub fn lines_of_issues(alloc: Global, name: &str, found: &[Issue]) -> Result<String, AllocError>
     ensures lines { IfOk result
-        (λ lines. string_bytes lines ≡ lines_of name.now (reports found.now)) }
+        (λ lines. string_bytes lines ≡ report_lines name.now (reports found.now)) }
     ensures allocates { IfErr result (λ _. 0 < length found.now) }
 {
     if found.is_empty() {

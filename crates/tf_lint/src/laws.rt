@@ -6,12 +6,13 @@ ghost use Rattle.tf_rules.specs.declared.rule.Rule.TheVariants.{CommentSyntax, D
 ghost use Rattle.tf_rules.specs.declared.rule_set.RuleSet.{RuleSet};
 ghost use Rattle.tf_lint.specs.Steps.{FixIsUnique, fix_order};
 
-use edit_record::squashes::laws::squash_all_is_unique;
+use edit_record::laws::squash_all_is_unique;
 use hcl_scan::laws::one_tokenization;
 use hcl_text_laws::laws::one_parse;
 use tf_findings::laws::findings_are_unique;
 
-/// A fix makes one text of a text, or can't be done for one reason.
+/// A text has at most one fix by these rules, at most one error of a step that can't be done, and
+/// never both.
 pub fn fix_is_unique()
     ensures { (rules : RuleSet) (text : List ℕ) → FixIsUnique rules text }
 {

@@ -9,12 +9,14 @@ ghost use Rattle.hcl_scan.specs.Follows.{tokens_of};
 ghost use Rattle.tf_rules.specs.Preorder as node;
 ghost use Rattle.tf_findings.specs.TreeFindings.{AreTreeFindings};
 ghost use Rattle.tf_reuse.specs.MembersKeep.{SameTokens};
-ghost use Rattle.tf_lint.specs.LintedMembers.{IsLintedMember, AreLintedMembers, IsNextMember};
+ghost use Rattle.tf_lint.specs.Inner.BodyFindings.{IsNextMember};
+ghost use Rattle.tf_lint.specs.LintedMembers.{IsLintedMember, AreLintedMembers};
 ghost use Rattle.tf_rules.specs.Findings.{valid_findings};
 ghost use Rattle.tf_rules.specs.declared.rule_set.RuleSet.{RuleSet};
 ghost use Rattle.tf_rules.specs.TopLevelFindings.{top_level_member_findings};
 
 use crate::quiet_member::skip_quiet_member;
+use crate::search::Search;
 use crate::tokens::same_tokens;
 use hcl_grammar::fault::TokenFault;
 use hcl_grammar::tree::Member;
@@ -31,16 +33,16 @@ use tf_rules::{Finding, RuleSet};
 pub struct LintedMember {
     /// The number of the token that it was read from, at or before its first token: the tokens
     /// between are skipped.
-    pub from: usize,
+    pub from: u32,
     /// One more than the number of its last token.
-    pub past: usize,
+    pub past: u32,
     /// What is found at its nodes.
     pub node_findings: Vec<Finding>,
     /// What is found at it, if it is a block.
     pub block_findings: Vec<Finding>,
 }
 
-/// The least capacity of a vector that has grown by `push`.
+/// The least capacity of a vector that `push` has allocated.
 const MIN_GROWN_CAPACITY: usize = 4;
 
 /// Returns the same findings, without spare capacity if they are few: most members have one or two,
@@ -61,8 +63,8 @@ fn lint_member(
     alloc: Global,
     scanned: &Scanned<'_>,
     rules: RuleSet,
-    from: usize,
-    past: usize,
+    from: u32,
+    past: u32,
     x: &Member,
 ) -> Result<LintedMember, AllocError>
     ensures place { IfOk result (λ linted. (linted.from ≡ from) × (linted.past ≡ past)) }
@@ -71,7 +73,8 @@ fn lint_member(
         (node.member x.now ∷ []) linted.node_findings.items) }
     ensures at_block { IfOk result
         (λ linted. linted.block_findings.items
-        ≡ valid_findings (length scanned.now.pairs) (top_level_member_findings rules scanned.now.pairs x.now)) }
+        ≡ valid_findings (length scanned.now.pairs)
+        (top_level_member_findings rules scanned.now.pairs x.now)) }
 {
     let mut node_findings = Vec::new(alloc);
     tf_findings::add_node_findings(scanned, rules, x, &mut node_findings)?;
@@ -88,7 +91,7 @@ fn lint_member(
 }
 
 /// A member that was skipped between two places, in which no rule finds anything.
-fn quiet_member(alloc: Global, from: usize, past: usize) -> LintedMember
+fn quiet_member(alloc: Global, from: u32, past: u32) -> LintedMember
     ensures from { result.from ≡ from }
     ensures past { result.past ≡ past }
     ensures nodes { result.node_findings.items ≡ [] }
@@ -108,7 +111,7 @@ fn lint_next_member(
     alloc: Global,
     scanned: &Scanned<'_>,
     rules: RuleSet,
-    at: &mut usize,
+    at: &mut u32,
 ) -> Result<Option<LintedMember>, TokenFault>
     ensures next { IfOk result (λ x. IsNextMember rules scanned.now.pairs at.old x at.new) }
     ensures fault { let ts = tokens_of scanned.now.pairs in
@@ -133,7 +136,7 @@ fn is_unchanged(
     old: &Scanned<'_>,
     scanned: &Scanned<'_>,
     old_member: &LintedMember,
-    at: usize,
+    at: u32,
 ) -> bool
     ensures same { result ≡ true
         → SameTokens (tokens_of old.now.pairs) (tokens_of scanned.now.pairs) old_member.now.from at
@@ -142,9 +145,10 @@ fn is_unchanged(
         → old_member.now.from + (old_member.now.past - old_member.now.from) ≡ old_member.now.past }
     ensures more { result ≡ true
         → tokens.next_kind (tokens_of old.now.pairs) false old_member.now.past ≢ None }
-    ensures fits { result ≡ true → at + (old_member.now.past - old_member.now.from) < 2 ^ 64 }
+    ensures fits { result ≡ true → at + (old_member.now.past - old_member.now.from) < 2 ^ 32 }
 {
-    let _all = scanned.len();
+    // for the proof: the number of tokens fits 32 bits
+    let _all = scanned.count();
     if old_member.past < old_member.from {
         return false;
     }
@@ -167,7 +171,7 @@ fn reuse_member(
     old: &Scanned<'_>,
     scanned: &Scanned<'_>,
     old_member: &LintedMember,
-    at: usize,
+    at: u32,
 ) -> Result<Option<LintedMember>, AllocError>
     ensures { (rules : RuleSet) → IsLintedMember rules old.now.pairs old_member.now
         → IfOk result (λ o. IfSome o (λ x. (x.from ≡ at) × IsLintedMember rules scanned.now.pairs x)) }
@@ -190,41 +194,45 @@ fn reuse_member(
 /// new one from number `at` on.
 fn reuse_member_at(
     alloc: Global,
-    old: &Scanned<'_>,
-    scanned: &Scanned<'_>,
-    old_members: &[LintedMember],
+    search: &Search<'_, '_, '_>,
     index: usize,
-    at: usize,
+    at: u32,
 ) -> Result<Option<LintedMember>, AllocError>
-    ensures { (rules : RuleSet) → AreLintedMembers rules old.now.pairs old_members.now
-        → IfOk result (λ o. IfSome o (λ x. (x.from ≡ at) × IsLintedMember rules scanned.now.pairs x)) }
+    ensures { (rules : RuleSet)
+        → AreLintedMembers rules search.now.old.now.pairs search.now.old_members.now
+        → IfOk result (λ o. IfSome o (λ x. (x.from ≡ at)
+        × IsLintedMember rules search.now.scanned.now.pairs x)) }
 {
-    if index >= old_members.len() {
+    if index >= search.old_members.len() {
         return Ok(None);
     }
-    reuse_member(alloc, old, scanned, &old_members[index], at)
+    reuse_member(
+        alloc,
+        search.old,
+        search.scanned,
+        &search.old_members[index],
+        at,
+    )
 }
 
 /// Returns the next member, if there is one: that of the old text with this index, if its tokens
 /// are here, else as it is read.
 pub fn next_member(
     alloc: Global,
-    scanned: &Scanned<'_>,
-    rules: RuleSet,
-    old: &Scanned<'_>,
-    old_members: &[LintedMember],
+    search: &Search<'_, '_, '_>,
     index: usize,
-    at: &mut usize,
+    at: &mut u32,
 ) -> Result<Option<LintedMember>, TokenFault>
-    requires { AreLintedMembers rules old.now.pairs old_members.now }
-    ensures next { IfOk result (λ x. IsNextMember rules scanned.now.pairs at.old x at.new) }
-    ensures fault { let ts = tokens_of scanned.now.pairs in
+    requires { AreLintedMembers search.now.rules search.now.old.now.pairs search.now.old_members.now }
+    ensures next { IfOk result
+        (λ x. IsNextMember search.now.rules search.now.scanned.now.pairs at.old x at.new) }
+    ensures fault { let ts = tokens_of search.now.scanned.now.pairs in
         IfErr result (λ e. e ≢ fault.Memory
         → spec.member_of ts MAX_NESTING (spec.deeper_members ts MAX_NESTING) at.old
         ≡ Err e) }
 {
-    let Some(x) = reuse_member_at(alloc, old, scanned, old_members, index, *at)? else {
-        return lint_next_member(alloc, scanned, rules, at);
+    let Some(x) = reuse_member_at(alloc, search, index, *at)? else {
+        return lint_next_member(alloc, search.scanned, search.rules, at);
     };
     *at = x.past;
     Ok(Some(x))

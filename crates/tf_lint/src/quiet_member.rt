@@ -81,8 +81,24 @@ fn body_start(scanned: &Scanned<'_>, from: usize, stop: usize) -> usize
 }
 
 /// Returns whether an attribute or block seems to begin at this token.
-fn is_name(scanned: &Scanned<'_>, n: usize) -> bool {
+fn is_name(scanned: &Scanned<'_>, n: usize) -> bool
+    ensures { result ≡ true → n < length scanned.now.pairs }
+{
     n < scanned.len() && matches!(scanned.kind(n), Kind::Identifier)
+}
+
+/// Returns the number of the token after the attribute or block that begins with this token; none
+/// if the parser finds an error in it.
+fn member_end(alloc: Global, scanned: &Scanned<'_>, n: usize) -> Option<usize>
+    requires { n < length scanned.now.pairs }
+{
+    // for the proof: the number of tokens fits 32 bits
+    let _all = scanned.count();
+    let mut at = n as u32;
+    match skip_member(alloc, scanned, &mut at) {
+        Ok(_is_there) => Some(at as usize),
+        Err(_fault) => None,
+    }
 }
 
 /// Returns whether the parser finds an error in the first lines of the long block that begins with
@@ -94,10 +110,13 @@ fn begins_with_error(alloc: Global, scanned: &Scanned<'_>, from: usize) -> bool 
         let Ok(end) = quiet_line_end_within(scanned, at, stop) else {
             return false;
         };
-        if !is_name(scanned, at) {
+        if is_name(scanned, at) {
+            match member_end(alloc, scanned, at) {
+                Some(past) => at = past,
+                None => return true,
+            }
+        } else {
             at = end;
-        } else if skip_member(alloc, scanned, &mut at).is_err() {
-            return true;
         }
     }
     false
@@ -133,7 +152,6 @@ fn is_quiet_between(scanned: &Scanned<'_>, from: usize, past: usize) -> bool
     ensures quiet { result ≡ true → AreQuiet scanned.now.pairs from past }
     ensures line { result ≡ true → kind_of scanned.now.pairs (past - 1) ≡ Some LineEnd }
     ensures nothing { result ≡ true → HasNoBlockFindings scanned.now.pairs from }
-    ensures fits { result ≡ true → past < 2 ^ 64 }
 {
     if past > scanned.len() {
         return false;
@@ -147,23 +165,18 @@ fn is_quiet_between(scanned: &Scanned<'_>, from: usize, past: usize) -> bool
 /// Returns whether a member between these places ends where a first look says, or its tokens show
 /// that no rule finds anything in it.
 #[inline(always)]
-fn is_quiet_up_to(
-    scanned: &Scanned<'_>,
-    from: usize,
-    past: usize,
-    first: Result<usize, Stop>,
-) -> bool
+fn is_quiet_up_to(scanned: &Scanned<'_>, from: usize, past: u32, first: Result<usize, Stop>) -> bool
     requires quiet { IfOk first (λ to. AreQuiet scanned.now.pairs from to) }
     requires line { IfOk first (λ to. kind_of scanned.now.pairs (to - 1) ≡ Some LineEnd) }
     requires nothing { IfOk first (λ to. HasNoBlockFindings scanned.now.pairs from) }
     ensures quiet { result ≡ true → AreQuiet scanned.now.pairs from past }
     ensures line { result ≡ true → kind_of scanned.now.pairs (past - 1) ≡ Some LineEnd }
     ensures nothing { result ≡ true → HasNoBlockFindings scanned.now.pairs from }
-    ensures fits { result ≡ true → past < 2 ^ 64 }
+    ensures fits { result ≡ true → past < 2 ^ 32 }
 {
     match first {
-        Ok(end) => past == end,
-        Err(_stop) => is_quiet_between(scanned, from, past),
+        Ok(end) => past as usize == end,
+        Err(_stop) => is_quiet_between(scanned, from, past as usize),
     }
 }
 
@@ -173,11 +186,7 @@ fn is_quiet_up_to(
 ///
 /// That of the parser at the member, if it has one.
 #[inline(always)]
-fn skip_some_member(
-    alloc: Global,
-    scanned: &Scanned<'_>,
-    at: &mut usize,
-) -> Result<bool, TokenFault>
+fn skip_some_member(alloc: Global, scanned: &Scanned<'_>, at: &mut u32) -> Result<bool, TokenFault>
     ensures member { result ≡ Ok true → IsSkippedMember scanned.now.pairs at.old at.new }
     ensures fault { IfErr result (λ e. IsMemberFault scanned.now.pairs at.old e) }
 {
@@ -195,7 +204,7 @@ fn skip_some_member(
 pub fn skip_quiet_member(
     alloc: Global,
     scanned: &Scanned<'_>,
-    at: &mut usize,
+    at: &mut u32,
 ) -> Result<bool, TokenFault>
     ensures passed { result ≡ Ok true → IsQuietMember scanned.now.pairs at.old at.new }
     ensures stays { result ≡ Ok false → at.new ≡ at.old }
@@ -203,15 +212,15 @@ pub fn skip_quiet_member(
 {
     quiet_members_have_no_findings();
     let from = *at;
-    let first = first_look(scanned, from);
-    if is_given_up(alloc, scanned, from, first) {
+    let first = first_look(scanned, from as usize);
+    if is_given_up(alloc, scanned, from as usize, first) {
         return Ok(false);
     }
     let mut past = from;
     if !skip_some_member(alloc, scanned, &mut past)? {
         return Ok(false);
     }
-    if !is_quiet_up_to(scanned, from, past, first) {
+    if !is_quiet_up_to(scanned, from as usize, past, first) {
         return Ok(false);
     }
     *at = past;

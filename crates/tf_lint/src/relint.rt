@@ -1,6 +1,6 @@
 //! A text with what the rules find in it.
 
-ghost use Rattle.std.specs.Prelude.{◌≡◌, ◌≢◌, ◌⊎◌, ℕ, List, Ok, Err, IfOk, IfErr};
+ghost use Rattle.std.specs.Prelude.{◌≡◌, ◌≢◌, ◌⊎◌, ◌<◌, ◌^◌, ℕ, List, length, Ok, Err, IfOk, IfErr};
 ghost use Rattle.tf_fix.specs.ParsedTexts.{IsParseOf};
 ghost use Rattle.tf_lint.specs.ParseFaults.{DoesNotParse, IsReadFault};
 ghost use Rattle.hcl_scan.specs.Tokenization.{IsTokenization};
@@ -12,11 +12,12 @@ ghost use Rattle.tf_fix.specs.declared.parsed.Parsed.{Parsed};
 use crate::fault::FixFault;
 use crate::linted_text::{LintedText, PreviousText};
 use crate::member::LintedMember;
+use crate::search::Search;
 use crate::text_findings::{TextFindings, lint_tokens};
-use edit_record::lists::Edits;
+use edit_record::lists::{Edit, Edits};
 use hcl_rescan::{ReplacedRange, rescan};
 use hcl_scan::laws::{no_tokenization_with_fault, one_tokenization};
-use hcl_scan::{Scanned, Token, scan};
+use hcl_scan::{Scanned, Span, scan};
 use hcl_text_laws::laws::parsed_tokens_are_apart;
 use std::alloc::{AllocError, Global};
 use tf_rules::{Finding, Rule, RuleSet};
@@ -53,14 +54,14 @@ fn lint_scanned<'t>(
     ensures fault { (text : List ℕ) → scanned.entry.text ≡ text
         → IfErr result (λ fault. IsReadFault text fault) }
 {
-    let TextFindings { members, found } = lint_tokens(
-        alloc,
-        &scanned,
+    let search = Search {
+        scanned: &scanned,
         rules,
-        &scanned,
-        &[],
+        old: &scanned,
+        old_members: &[],
         keep_members,
-    )?;
+    };
+    let TextFindings { members, found } = lint_tokens(alloc, &search)?;
     Ok(LintedText {
         scanned,
         rules,
@@ -69,21 +70,25 @@ fn lint_scanned<'t>(
     })
 }
 
-/// A number of bytes of a text, in 32 bits, which hold each.
-fn to_u32_saturating(number: usize) -> u32 {
-    u32::try_from(number).unwrap_or(u32::MAX)
+/// Returns what an edit replaces.
+fn replaced_range(edit: &Edit) -> ReplacedRange
+    requires at { edit.now.at < 2 ^ 32 }
+    requires removed { length edit.now.removed < 2 ^ 32 }
+    requires added { length edit.now.added < 2 ^ 32 }
+{
+    ReplacedRange {
+        at: edit.at() as u32,
+        removed: edit.removed().len() as u32,
+        added: edit.added().len() as u32,
+    }
 }
 
 /// The pieces of a text that edits replace, for `rescan`.
 pub fn replaced_ranges(alloc: Global, edits: &Edits) -> Result<Vec<ReplacedRange>, AllocError> {
-    let edits = edits.edits();
-    let mut pieces = Vec::with_capacity(alloc, edits.len())?;
-    for edit in edits {
-        pieces.push(ReplacedRange {
-            at: to_u32_saturating(edit.at()),
-            removed: to_u32_saturating(edit.removed().len()),
-            added: to_u32_saturating(edit.added().len()),
-        })?;
+    let all = edits.edits();
+    let mut pieces = Vec::with_capacity(alloc, all.len())?;
+    for edit in all {
+        pieces.push(replaced_range(edit))?;
     }
     Ok(pieces)
 }
@@ -95,17 +100,24 @@ fn relint_scanned<'t>(
     scanned: Scanned<'t>,
     rules: RuleSet,
     old: &Scanned<'_>,
-    members: &[LintedMember],
+    old_members: &[LintedMember],
 ) -> Result<LintedText<'t>, FixFault>
     requires tokenization { IsTokenization scanned.text scanned.pairs scanned.last }
-    requires members_linted { AreLintedMembers rules old.now.pairs members.now }
+    requires members_linted { AreLintedMembers rules old.now.pairs old_members.now }
     ensures linted { (text : List ℕ) → scanned.entry.text ≡ text
         → IfOk result (λ linted. (p : Parsed) × IsParseOf text p × IsLintOf p linted) }
     ensures rules { IfOk result (λ linted. linted.rules ≡ rules) }
     ensures fault { (text : List ℕ) → scanned.entry.text ≡ text
         → IfErr result (λ fault. IsReadFault text fault) }
 {
-    let TextFindings { members, found } = lint_tokens(alloc, &scanned, rules, old, members, true)?;
+    let search = Search {
+        scanned: &scanned,
+        rules,
+        old,
+        old_members,
+        keep_members: true,
+    };
+    let TextFindings { members, found } = lint_tokens(alloc, &search)?;
     Ok(LintedText {
         scanned,
         rules,
@@ -114,32 +126,49 @@ fn relint_scanned<'t>(
     })
 }
 
+/// What the text that a step makes is linted from: the text before it, and the memory for the new
+/// tokens.
+#[derive(Drop)]
+pub struct RelintSource<'o> {
+    /// The text before the step.
+    pub old_text: &'o [u8],
+    /// What is kept of that text.
+    pub previous: PreviousText,
+    /// The new tokens are stored in it.
+    pub token_buffer: Vec<Span>,
+    /// The ranges that the step replaced.
+    pub replaced: Vec<ReplacedRange>,
+}
+
 /// A text that was searched, and the memory of the tokens of the one before it, as far as there
 /// still is any.
 #[derive(Drop)]
 pub struct RelintedText<'t> {
     pub linted: LintedText<'t>,
-    pub token_buffer: Vec<Token>,
+    pub token_buffer: Vec<Span>,
 }
 
-/// Lints the text that an edit made from `old_text`, reusing the old tokens and findings. The new
-/// tokens are stored in `token_buffer`. Of the old text only its token buffer is kept; if it has no
-/// members to reuse, its tokens are freed before the new text is parsed.
+/// Lints the text that an edit made from the source's, reusing the old tokens and findings. Of the
+/// old text only its token buffer is kept; if it has no members to reuse, its tokens are freed
+/// before the new text is parsed.
 fn relint_text<'t>(
     alloc: Global,
     text: &'t [u8],
-    old_text: &[u8],
-    previous: PreviousText,
-    token_buffer: Vec<Token>,
-    replaced: Vec<ReplacedRange>,
+    source: RelintSource<'_>,
 ) -> Result<RelintedText<'t>, FixFault>
-    requires { (p : Parsed) × (p.scanned.text ≡ old_text.now) × IsPreviousOf p previous }
+    requires { (p : Parsed) × (p.scanned.text ≡ source.old_text.now) × IsPreviousOf p source.previous }
     ensures linted { IfOk result
         (λ made. (p : Parsed) × IsParseOf text.now p × IsLintOf p made.linted) }
-    ensures rules { IfOk result (λ made. made.linted.rules ≡ previous.rules) }
+    ensures rules { IfOk result (λ made. made.linted.rules ≡ source.entry.previous.rules) }
     ensures fault { IfErr result (λ fault. IsReadFault text.now fault) }
 {
     parsed_tokens_are_apart();
+    let RelintSource {
+        old_text,
+        previous,
+        token_buffer,
+        replaced,
+    } = source;
     let PreviousText {
         tokens,
         rules,
@@ -171,11 +200,11 @@ fn relint_text<'t>(
 /// leave smaller freed blocks.
 fn token_buffer_for(
     alloc: Global,
-    token_buffer: Vec<Token>,
+    token_buffer: Vec<Span>,
     text: &[u8],
     count: usize,
     replaced: &[ReplacedRange],
-) -> Result<Vec<Token>, AllocError> {
+) -> Result<Vec<Span>, AllocError> {
     let mut most = count;
     for piece in replaced {
         most = most.saturating_add(piece.added as usize);
@@ -216,28 +245,37 @@ fn name_broken_step(
     }
 }
 
-/// Lints the text that the step of this rule made of one that was linted.
+/// Lints the text that the step of this rule made of the source's, which was linted.
 pub fn relint_step<'t>(
     alloc: Global,
     text: &'t [u8],
-    old_text: &[u8],
-    previous: PreviousText,
-    token_buffer: Vec<Token>,
-    replaced: Vec<ReplacedRange>,
+    source: RelintSource<'_>,
     rule: Rule,
 ) -> Result<RelintedText<'t>, FixFault>
-    requires { (p : Parsed) × (p.scanned.text ≡ old_text.now) × IsPreviousOf p previous }
+    requires { (p : Parsed) × (p.scanned.text ≡ source.old_text.now) × IsPreviousOf p source.previous }
     ensures linted { IfOk result
         (λ made. (p : Parsed) × IsParseOf text.now p × IsLintOf p made.linted) }
-    ensures rules { IfOk result (λ made. made.linted.rules ≡ previous.rules) }
+    ensures rules { IfOk result (λ made. made.linted.rules ≡ source.entry.previous.rules) }
     ensures fault { IfErr result
         (λ fault. (fault ≡ FixFault.Memory)
         ⊎ ((fault ≡ FixFault.FixBroken rule) × DoesNotParse text.now)) }
 {
     no_tokenization_with_fault();
     one_tokenization();
+    let RelintSource {
+        old_text,
+        previous,
+        token_buffer,
+        replaced,
+    } = source;
     let token_buffer = token_buffer_for(alloc, token_buffer, text, previous.count, &replaced)?;
-    let relinted = relint_text(alloc, text, old_text, previous, token_buffer, replaced);
+    let source = RelintSource {
+        old_text,
+        previous,
+        token_buffer,
+        replaced,
+    };
+    let relinted = relint_text(alloc, text, source);
     name_broken_step(relinted, rule)
 }
 

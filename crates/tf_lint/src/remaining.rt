@@ -1,22 +1,18 @@
 //! What a fix leaves.
 
 ghost use Rattle.std.specs.Prelude.{◌≡◌, ◌<◌, List, IfOk, IfErr, string_bytes};
-ghost use Rattle.tf_fix.specs.declared.fault.LintFault.TheVariants.{Memory};
-ghost use Rattle.tf_lint.specs.Issues.{reports};
 ghost use Rattle.tf_lint.specs.Remaining.{remaining_count, IsRemaining};
-ghost use Rattle.tf_lint.specs.Reports.{Report, lines_of};
+ghost use Rattle.tf_lint.specs.Reports.{Report, report_lines};
 ghost use Rattle.tf_lint.specs.Steps.{IsReport};
 ghost use Rattle.tf_rules.specs.declared.rule_set.RuleSet.{RuleSet};
 
-use crate::issue::Issue;
-use crate::issue_list::{issues_of, lines_of_findings};
+use crate::issue_list::lines_of_findings;
 use hcl_scan::{Scanned, TokenList};
 use std::alloc::{AllocError, Global};
-use tf_fix::LintFault;
 use tf_rules::Finding;
 
-/// What the rules of a fix still find in the new text. Lines and issues are made of it only when
-/// they are needed.
+/// What the rules of a fix still find in the new text. The lines of a report are made of it only
+/// when they are needed.
 #[derive(Drop)]
 pub struct Remaining {
     pub(crate) tokens: TokenList,
@@ -38,23 +34,10 @@ impl Remaining {
         requires { (rules : RuleSet) × IsRemaining rules text.now self }
         ensures lines { (rules : RuleSet) → IsRemaining rules text.now self
             → IfOk result (λ lines. (reported : List Report) × IsReport rules text.now reported
-            × (string_bytes lines ≡ lines_of name.now reported)) }
+            × (string_bytes lines ≡ report_lines name.now reported)) }
         ensures allocates { IfErr result (λ _. 0 < remaining_count self) }
     {
         let scanned = Scanned::attach(text, self.tokens);
         lines_of_findings(alloc, name, &scanned, &self.found)
-    }
-
-    /// Returns the issues that are left, in the order of a report. The text is the new one. The
-    /// only error is `Memory`; if nothing is left, nothing is allocated.
-    pub fn issues(self, alloc: Global, text: &[u8]) -> Result<Vec<Issue>, LintFault>
-        requires { (rules : RuleSet) × IsRemaining rules text.now self }
-        ensures issues { (rules : RuleSet) → IsRemaining rules text.now self
-            → IfOk result (λ issues. IsReport rules text.now (reports issues.items)) }
-        ensures fault { IfErr result (λ fault. fault ≡ Memory) }
-        ensures allocates { IfErr result (λ _. 0 < remaining_count self) }
-    {
-        let scanned = Scanned::attach(text, self.tokens);
-        issues_of(alloc, &scanned, &self.found)
     }
 }

@@ -5,7 +5,7 @@
 ghost use Rattle.std.specs.Prelude.{◌≡◌, ◌∷◌, [], ◌++◌, None, OnOk, string_bytes};
 ghost use Rattle.hcl_token.specs.Place.{place_of};
 ghost use Rattle.tf_lint.specs.Inner.LineParts.{place_words, severity_words, line_prefix, line_suffix, line_opening, line_closing};
-ghost use Rattle.tf_lint.specs.Reports.{line_of, report_of};
+ghost use Rattle.tf_lint.specs.Reports.{report_line, report_of};
 
 use crate::message::{add_name, kind_word};
 use hcl_scan::Scanned;
@@ -76,6 +76,7 @@ fn plain_opening(rule: Rule) -> &'static str
         Rule::EmptyListEquality =>
             ": Warning - Comparison with an empty list, check the length instead",
         Rule::DeprecatedLookup => ": Warning - lookup with two arguments, use square brackets",
+        // for the proof: it is never written, since naming always says what it names
         Rule::NamingConvention => ": Notice -  name \"",
         Rule::TypedVariables => ": Warning - variable \"",
         Rule::DocumentedVariables => ": Notice - variable \"",
@@ -124,7 +125,7 @@ pub fn add_line(
     requires { place ≡ place_of scanned.now.pairs finding.now.first }
     ensures { OnOk result
         (string_bytes lines.new ≡ string_bytes lines.old
-        ++ line_of name.now (report_of scanned.now.pairs finding.now) ++ 10 ∷ []) }
+        ++ report_line name.now (report_of scanned.now.pairs finding.now) ++ 10 ∷ []) }
 {
     let rule = finding.rule();
     let message = finding.message();

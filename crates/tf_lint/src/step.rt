@@ -13,7 +13,7 @@ ghost use Rattle.tf_lint.specs.declared.fault.FixFault.{FixFault};
 
 use crate::fault::FixFault;
 use crate::linted_text::LintedText;
-use edit_record::lists::laws::apply_is_exact;
+use edit_record::laws::apply_is_exact;
 use edit_record::lists::{Change as _, Edits};
 use std::alloc::Global;
 use tf_fix::{StepEdits, fix_step_of_findings};

@@ -17,15 +17,13 @@ ghost use Rattle.tf_fix.specs.declared.parsed.Parsed.{Parsed};
 
 use crate::fault::FixFault;
 use crate::linted_text::{LintedText, PreviousText};
-use crate::relint::{into_previous, lint_text, relint_step, replaced_ranges};
+use crate::relint::{RelintSource, into_previous, lint_text, relint_step, replaced_ranges};
 use crate::remaining::Remaining;
 use crate::step::{NewText, StepResult, apply_step};
+use edit_record::laws::{composable_lists_squash, edits_are_valid, transformed_lengths_match};
 use edit_record::lists::Edits;
-use edit_record::lists::laws::transformed_lengths_match;
-use edit_record::squashes::laws::{composable_lists_squash, edits_are_valid};
 use edit_record::squashes::{Unmet, squash};
-use hcl_rescan::ReplacedRange;
-use hcl_scan::Token;
+use hcl_scan::Span;
 use std::alloc::Global;
 use tf_rules::{Finding, Rule, RuleSet};
 
@@ -165,31 +163,30 @@ struct FixState<'o> {
     /// What was found in it.
     found: Vec<Finding>,
     /// The memory of the tokens of the text before.
-    token_buffer: Vec<Token>,
+    token_buffer: Vec<Span>,
     found_change: FirstChange<'o>,
 }
 
-/// Lints `text`, which the step of rule `by` made from `old_text`, and finds the first of the rules
-/// `order` that changes it. The new tokens are stored in `token_buffer`.
+/// Lints `text`, which the step of rule `by` made from the source's, and finds the first of the
+/// rules `order` that changes it.
 fn next_state<'o>(
     alloc: Global,
-    old_text: &[u8],
-    previous: PreviousText,
-    token_buffer: Vec<Token>,
+    source: RelintSource<'_>,
     text: Vec<u8>,
-    replaced: Vec<ReplacedRange>,
     order: &'o [Rule],
     by: Rule,
     count: usize,
 ) -> Result<FixState<'o>, FixFault>
-    requires linted { (p : Parsed) × (p.scanned.text ≡ old_text.now) × IsPreviousOf p previous }
+    requires linted { (p : Parsed) × (p.scanned.text ≡ source.old_text.now)
+        × IsPreviousOf p source.previous }
     requires count_within_limit { count + max_fixes order.now ≤ MAX_TEXT * 16 }
     ensures advanced { IfOk result (λ state. (p : Parsed) × IsFixState order.now count p state) }
     ensures text { IfOk result (λ state. state.text ≡ text) }
-    ensures rules { IfOk result (λ state. state.previous.rules ≡ previous.rules) }
-    ensures fault { IfErr result (λ fault. RefusesFrom previous.rules order.now text.items by fault) }
+    ensures rules { IfOk result (λ state. state.previous.rules ≡ source.entry.previous.rules) }
+    ensures fault { IfErr result
+        (λ fault. RefusesFrom source.entry.previous.rules order.now text.items by fault) }
 {
-    let made = relint_step(alloc, &text, old_text, previous, token_buffer, replaced, by)?;
+    let made = relint_step(alloc, &text, source, by)?;
     let token_buffer = made.token_buffer;
     let found_change = find_first_change(alloc, &made.linted, order, count)?;
     let (previous, found) = into_previous(made.linted);
@@ -265,17 +262,13 @@ fn run_steps(
             let composed = compose(alloc, edits, &more)?;
             let replaced = replaced_ranges(alloc, &more)?;
             drop(more);
-            let next = next_state(
-                alloc,
-                &text,
+            let source = RelintSource {
+                old_text: &text,
                 previous,
                 token_buffer,
-                new,
                 replaced,
-                rest,
-                by,
-                fixed,
-            )?;
+            };
+            let next = next_state(alloc, source, new, rest, by, fixed)?;
             drop(text);
             run_steps(alloc, next, composed)
         }
@@ -331,18 +324,13 @@ fn run_all_steps(
             let replaced = replaced_ranges(alloc, &edits)?;
             edits_are_valid(&edits);
             let edits = first_edits(edits, keep_edits);
-            let token_buffer = Vec::new(alloc);
-            let first = next_state(
-                alloc,
-                text,
+            let source = RelintSource {
+                old_text: text,
                 previous,
-                token_buffer,
-                new,
+                token_buffer: Vec::new(alloc),
                 replaced,
-                rest,
-                by,
-                fixed,
-            )?;
+            };
+            let first = next_state(alloc, source, new, rest, by, fixed)?;
             let ended = run_steps(alloc, first, edits)?;
             Ok(FixOutcome::Edited(ended))
         }
@@ -353,7 +341,7 @@ fn run_all_steps(
 /// each over the text that the one before left.
 ///
 /// A text is read once for each rule that changes it, and once more. `FixBroken` where what a rule
-/// makes does not parse; `TooLong` where it would have more than 16,777,216 bytes.
+/// makes does not parse; `TooLong` where it would have more than `MAX_TEXT` bytes.
 pub fn fix_text(alloc: Global, text: &[u8], rules: RuleSet) -> Result<FixResult, FixFault>
     ensures made { IfOk result (λ fixed. Fixes rules text.now (rewrite_of text.now fixed)) }
     ensures transforms { IfOk result

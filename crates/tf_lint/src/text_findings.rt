@@ -3,13 +3,14 @@
 ghost use Rattle.std.specs.Prelude.{◌≡◌, ◌≢◌, ◌++◌, ℕ, true, List, length, IfOk, IfErr, Ok, Err};
 ghost use Rattle.hcl_grammar.specs.Bodies.{IsFile};
 ghost use Rattle.hcl_grammar.specs.Pure.BodyParser as spec;
+ghost use Rattle.hcl_grammar.specs.declared.fault.TokenFault.{TokenFault};
 ghost use Rattle.hcl_grammar.specs.declared.fault.TokenFault.TheVariants as fault;
 ghost use Rattle.hcl_grammar.specs.declared.tree.Member.{Member};
 ghost use Rattle.hcl_grammar.specs.declared.tree.Tree.{Tree};
 ghost use Rattle.hcl_grammar.specs.declared.bounds.TheConstants.{MAX_NESTING};
 ghost use Rattle.hcl_text_laws.specs.Parses.{Parses};
 ghost use Rattle.hcl_scan.specs.Follows.{tokens_of};
-ghost use Rattle.hcl_text_laws.specs.Faults.{IsMemory, IsMemoryOrDeep};
+ghost use Rattle.hcl_text_laws.specs.Faults.{IsMemory, IsMemoryOrDeep, to_parse_fault};
 ghost use Rattle.hcl_text_laws.specs.declared.fault.ParseFault.TheVariants.{Memory};
 ghost use Rattle.tf_findings.specs.Findings.{AreNodeAndBlockFindings, AreFindings};
 ghost use Rattle.tf_lint.specs.Inner.BodyFindings.{AreBodyFindings};
@@ -18,6 +19,7 @@ ghost use Rattle.tf_rules.specs.Findings.{AreValidFindings};
 
 use crate::body::{BodyFindings, append_findings, lint_body};
 use crate::member::LintedMember;
+use crate::search::Search;
 use hcl_grammar::fault::TokenFault;
 use hcl_scan::Scanned;
 use hcl_text_laws::to_parse_fault;
@@ -40,28 +42,39 @@ pub struct TextFindings {
 /// The members of a text's body, up to its end.
 fn lint_file(
     alloc: Global,
-    scanned: &Scanned<'_>,
-    rules: RuleSet,
-    old: &Scanned<'_>,
-    old_members: &[LintedMember],
-    keep_members: bool,
-    at: &mut usize,
+    search: &Search<'_, '_, '_>,
+    at: &mut u32,
 ) -> Result<BodyFindings, TokenFault>
-    requires { AreLintedMembers rules old.now.pairs old_members.now }
+    requires { AreLintedMembers search.now.rules search.now.old.now.pairs search.now.old_members.now }
     ensures found { IfOk result
         (λ found. (t : Tree)
-        × (spec.file (tokens_of scanned.now.pairs) MAX_NESTING at.old ≡ Ok (t, at.new))
-        × AreBodyFindings rules scanned.now.pairs t.body.members found) }
+        × (spec.file (tokens_of search.now.scanned.now.pairs) MAX_NESTING at.old ≡ Ok (t, at.new))
+        × AreBodyFindings search.now.rules search.now.scanned.now.pairs t.body.members found) }
     ensures fault { IfErr result
         (λ e. e ≢ fault.Memory
-        → spec.file (tokens_of scanned.now.pairs) MAX_NESTING at.old ≡ Err e) }
+        → spec.file (tokens_of search.now.scanned.now.pairs) MAX_NESTING at.old ≡ Err e) }
 {
-    let reader = Reader::new(alloc, scanned);
+    let reader = Reader::new(alloc, search.scanned);
     let _is_mark = reader.eat(Kind::Mark, at);
-    let members = lint_body(alloc, scanned, rules, old, old_members, keep_members, at)?;
+    let members = lint_body(alloc, search, at)?;
     let _is_comment = reader.eat(Kind::LineComment, at);
     reader.expect_end(at)?;
     Ok(members)
+}
+
+/// Returns what was read of a text, with an error at its byte.
+fn to_parse_result(
+    scanned: &Scanned<'_>,
+    read: Result<BodyFindings, TokenFault>,
+) -> Result<BodyFindings, ParseFault>
+    ensures ok { IfOk result (λ found. read ≡ Ok found) }
+    ensures fault { IfErr result (λ f. (why : TokenFault)
+        × (read ≡ Err why) × (f ≡ to_parse_fault scanned.now why)) }
+{
+    match read {
+        Ok(found) => Ok(found),
+        Err(fault) => Err(to_parse_fault(scanned, fault)),
+    }
 }
 
 /// What was found at the nodes and at the blocks, with the comments, in the order of a report.
@@ -115,45 +128,31 @@ fn finish_body(
 /// it in its tree; or why it does not parse, as `hcl_tree::parse` says it.
 ///
 /// The text is read once, from left to right. Of its tree no more is kept at a time than one
-/// attribute or block of its body. `old_members` are the members of another text that was read with
-/// the same rules; there may be none. If the tokens of the next of them are here too, its findings
-/// are reused, with their numbers moved, and it is not read again. The members are kept for a next
-/// text, or freed, and then their findings are not copied.
-pub fn lint_tokens(
-    alloc: Global,
-    scanned: &Scanned<'_>,
-    rules: RuleSet,
-    old: &Scanned<'_>,
-    old_members: &[LintedMember],
-    keep_members: bool,
-) -> Result<TextFindings, ParseFault>
-    requires { AreLintedMembers rules old.now.pairs old_members.now }
+/// attribute or block of its body. If the tokens of the next of the old members are here too, its
+/// findings are reused, with their numbers moved, and it is not read again. The members are kept for
+/// a next text, or freed, and then their findings are not copied.
+pub fn lint_tokens(alloc: Global, search: &Search<'_, '_, '_>) -> Result<TextFindings, ParseFault>
+    requires { AreLintedMembers search.now.rules search.now.old.now.pairs search.now.old_members.now }
     // The text parses, and this is what the rules find in its tree.
     ensures found { IfOk result
-        (λ linted. (t : Tree) × IsFile (tokens_of scanned.now.pairs) MAX_NESTING t
-        × AreFindings rules scanned.now.pairs t.body.members linted.found.items) }
-    ensures members { IfOk result (λ linted. AreLintedMembers rules scanned.now.pairs linted.members.items) }
-    ensures valid { IfOk result (λ linted. AreValidFindings (length scanned.now.pairs) linted.found.items) }
+        (λ linted. (t : Tree) × IsFile (tokens_of search.now.scanned.now.pairs) MAX_NESTING t
+        × AreFindings search.now.rules search.now.scanned.now.pairs t.body.members linted.found.items) }
+    ensures members { IfOk result
+        (λ linted. AreLintedMembers search.now.rules search.now.scanned.now.pairs linted.members.items) }
+    ensures valid { IfOk result
+        (λ linted. AreValidFindings (length search.now.scanned.now.pairs) linted.found.items) }
     // A text that parses is not refused, unless memory runs out.
-    ensures only { (t : Tree) → Parses scanned.now.text t → IfErr result IsMemory }
+    ensures only { (t : Tree) → Parses search.now.scanned.now.text t → IfErr result IsMemory }
     // If the tokens follow the grammar with more constructs nested, the error is TooDeep.
-    ensures too_deep { (d : ℕ) (t : Tree) → IsFile (tokens_of scanned.now.pairs) d t
+    ensures too_deep { (d : ℕ) (t : Tree) → IsFile (tokens_of search.now.scanned.now.pairs) d t
         → IfErr result IsMemoryOrDeep }
 {
     hcl_grammar_laws::laws::file_parser_is_exact();
     hcl_scan::laws::one_tokenization();
-    let _count = scanned.len();
+    // for the proof: the tokens are those that the text has
+    let _count = search.scanned.len();
     let mut at = 0;
-    match lint_file(
-        alloc,
-        scanned,
-        rules,
-        old,
-        old_members,
-        keep_members,
-        &mut at,
-    ) {
-        Ok(read) => finish_body(alloc, scanned, rules, read),
-        Err(fault) => Err(to_parse_fault(scanned, fault)),
-    }
+    let outcome = lint_file(alloc, search, &mut at);
+    let read = to_parse_result(search.scanned, outcome)?;
+    finish_body(alloc, search.scanned, search.rules, read)
 }

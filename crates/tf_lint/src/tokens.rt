@@ -52,8 +52,9 @@ fn same_each(old: &Scanned<'_>, new: &Scanned<'_>, from: usize, to: usize, count
     ensures other { result ≡ false
         → ¬ (SameTokens (tokens_of old.now.pairs) (tokens_of new.now.pairs) from to count) }
 {
-    let _all = old.len();
-    let _all = new.len();
+    // for the proof: the numbers of tokens fit 32 bits
+    let _all = old.count();
+    let _all = new.count();
     for k in 0..count {
         if !same_token(old, new, from + k, to + k) {
             return false;
@@ -64,23 +65,18 @@ fn same_each(old: &Scanned<'_>, new: &Scanned<'_>, from: usize, to: usize, count
 
 /// Returns whether the `count` tokens of the old text from number `from` on are those of the new
 /// one from number `to` on.
-pub fn same_tokens(
-    old: &Scanned<'_>,
-    new: &Scanned<'_>,
-    from: usize,
-    to: usize,
-    count: usize,
-) -> bool
+pub fn same_tokens(old: &Scanned<'_>, new: &Scanned<'_>, from: u32, to: u32, count: u32) -> bool
     ensures same { result ≡ true
         → SameTokens (tokens_of old.now.pairs) (tokens_of new.now.pairs) from to count }
     ensures other { result ≡ false
         → ¬ (SameTokens (tokens_of old.now.pairs) (tokens_of new.now.pairs) from to count) }
 {
-    if count > old.len() || from > old.len() - count {
+    if count > old.count() || from > old.count() - count {
         return false;
     }
-    if count > new.len() || to > new.len() - count {
+    if count > new.count() || to > new.count() - count {
         return false;
     }
-    same_stretch(old, new, from, to, count) || same_each(old, new, from, to, count)
+    same_stretch(old, new, from as usize, to as usize, count as usize)
+        || same_each(old, new, from as usize, to as usize, count as usize)
 }

@@ -1,5 +1,5 @@
 -- What a fix of an input comes to, from what its calls answer.
-use Rattle.std.proofs.Common.{◌≡◌, ℕ, List, [], Result, Ok, Err, OnOk, IfOk, IfErr, refl, subst, inl, inr}
+use Rattle.std.proofs.Common.{◌≡◌, ◌<◌, ℕ, zero, suc, List, [], Result, Ok, Err, OnOk, IfOk, IfErr, refl, sym, subst, inl, inr, arith}
 use Rattle.edit_record.specs.Lists.Journal.{JournalEntry}
 use Rattle.tf_rules.specs.declared.rule_set.RuleSet.{RuleSet}
 use Rattle.tf_stream.specs.Streams.{Source, Target, WritesBytes, Untouched}
@@ -62,3 +62,11 @@ not_write name rules source target left_out text d left new out (Err fault) take
       made.1,
       subst (λ (s : List ℕ). WriteBothFault fault target s left_out left) is not,
     ))
+
+-- what a count says of a file
+pub outcome_is : (file_outcome : FileOutcome) (count : ℕ) → (count ≡ 0 → file_outcome ≡ FileOutcome.Nothing)
+    → (0 < count → file_outcome ≡ FileOutcome.Issue) → IsOutcomeOf file_outcome count
+outcome_is file_outcome zero none some = subst (λ (m : FileOutcome). IsOutcomeOf m zero) (sym (none refl)) refl
+outcome_is file_outcome (suc n) none some =
+    let more : 0 < suc n = omega arith in
+    subst (λ (m : FileOutcome). IsOutcomeOf m (suc n)) (sym (some more)) more

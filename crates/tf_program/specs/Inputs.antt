@@ -2,14 +2,14 @@
 use Rattle.std.specs.Prelude.{◌≡◌, ◌<◌, ◌⊎◌, ℕ, true, false, List, []}
 use Rattle.edit_record.specs.Lists.Journal.{JournalEntry}
 use Rattle.tf_rules.specs.declared.rule_set.RuleSet.{RuleSet}
-use Rattle.tf_lint.specs.Reports.{Report, lines_of}
+use Rattle.tf_lint.specs.Reports.{Report, report_lines}
 use Rattle.tf_lint.specs.Steps.{IsReport}
 use Rattle.tf_stream.specs.Streams.{Source, Target, WritesBytes, Untouched}
 use Rattle.tf_session.specs.declared.command.Command.TheVariants.{Fmt, Fix}
 use Rattle.tf_session.specs.declared.command.Done.{Done}
 use Rattle.tf_session.specs.declared.command.Fault.{Fault}
 use Rattle.tf_session.specs.declared.fault.RunFault.{RunFault}
-use Rattle.tf_session.specs.declared.fault.Part.{Part}
+use Rattle.tf_session.specs.declared.fault.SessionPart.{SessionPart}
 use Rattle.tf_session.specs.Faults.{run_fault_of}
 use Rattle.tf_session.specs.LintStream as lines
 use Rattle.tf_session.specs.Records.{DoesStep, RefusesStep}
@@ -51,7 +51,7 @@ abbrev pub FixesText : List ℕ → RuleSet → List ℕ → List JournalEntry �
     → List JournalEntry → Type 0
 FixesText name rules t js d left u ks =
     DoesStep (Fix rules) t js d u ks
-    × (reported : List Report) × IsReport rules u reported × (left ≡ lines_of name reported)
+    × (reported : List Report) × IsReport rules u reported × (left ≡ report_lines name reported)
 
 -- The fix refuses text and records; or it succeeds, and memory runs out for those lines.
 abbrev pub NotFixed : RuleSet → List ℕ → List JournalEntry → RunFault → Type 0
@@ -64,8 +64,8 @@ NotFixed rules t js fault =
 -- written, and the write of the lines failed.
 abbrev pub WriteBothFault : RunFault → Target → List ℕ → Target → List ℕ → Type 0
 WriteBothFault fault target text left_out left =
-    (IsWriteFault Part.Text fault target text × Untouched left_out)
-    ⊎ (WritesBytes target text × IsWriteFault Part.Text fault left_out left)
+    (IsWriteFault SessionPart.Text fault target text × Untouched left_out)
+    ⊎ (WritesBytes target text × IsWriteFault SessionPart.Text fault left_out left)
 
 -- The reader returned the whole text; one writer received the text that a fix makes of it, the
 -- other the lines of the issues that are left.

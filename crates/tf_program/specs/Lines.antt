@@ -13,14 +13,14 @@ abbrev pub edit_unit : ℕ → List ℕ
 edit_unit count = if count == 1 then codes "edit" else codes "edits"
 
 -- NUMBER COMMAND COUNT edits
-abbrev pub line_of : ℕ → Word → ℕ → List ℕ
-line_of number word count =
+abbrev pub record_line : ℕ → Word → ℕ → List ℕ
+record_line number word count =
     decimal number ++ (codes " "
     ++ (command_name word ++
     (codes " " ++ (decimal count ++ (codes " " ++ (edit_unit count ++ codes "\n"))))))
 
 -- a line for each record, of which the first has this number
-abbrev pub lines_of : ℕ → List JournalEntry → List ℕ
-lines_of number [] = []
-lines_of number (r ∷ rs) =
-    line_of number r.word (length r.edits.entries) ++ lines_of (number + 1) rs
+abbrev pub record_lines : ℕ → List JournalEntry → List ℕ
+record_lines number [] = []
+record_lines number (r ∷ rs) =
+    record_line number r.word (length r.edits.entries) ++ record_lines (number + 1) rs

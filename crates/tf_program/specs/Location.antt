@@ -31,6 +31,13 @@ IsLocation text at location =
     (location.line ≡ 1 + count_by is_lf (text_before text at))
     × (location.column ≡ 1 + columns (last_line (text_before text at)))
 
+-- the location of an error, if it is at a byte
+abbrev pub IsLocationOf : List ℕ → Option ℕ → Option Location → Type 0
+IsLocationOf text None None = Unit {0}
+IsLocationOf text None (Some location) = ⊥
+IsLocationOf text (Some at) None = ⊥
+IsLocationOf text (Some at) (Some location) = IsLocation text at location
+
 -- ---- the byte of an error
 
 abbrev pub byte_of_scan_fault : ScanFault → Option ℕ

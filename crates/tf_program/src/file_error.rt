@@ -1,8 +1,12 @@
 //! Why the work on a file failed, and the lines that say so.
 
+ghost use Rattle.std.specs.Prelude.{◌≡◌};
+ghost use Rattle.tf_program.specs.Location.{byte_of, IsLocationOf};
+
 use crate::location::{Location, byte_of, location_of};
 use std::alloc::{AllocError, Global};
 use std::io::Write;
+use tf_files::FileFault;
 use tf_session::RunFault;
 
 /// An error of a file.
@@ -14,6 +18,10 @@ pub struct FileError {
 }
 
 impl From<RunFault> for FileError {
+    ghost use Rattle.std.specs.Prelude.{None};
+
+    ghost from_gives = { λ given error. error ≡ record { fault = given; location = None } };
+
     fn from(fault: RunFault) -> FileError {
         FileError {
             fault,
@@ -24,12 +32,23 @@ impl From<RunFault> for FileError {
 
 impl FileError {
     /// Returns the error of the file with this text, with its location if it is at a byte.
-    pub fn located(fault: RunFault, text: &[u8]) -> FileError {
-        let location = match byte_of(&fault) {
-            Some(at) => Some(location_of(text, at)),
-            None => None,
-        };
+    pub fn located(fault: RunFault, text: &[u8]) -> FileError
+        ensures fault { result.fault ≡ fault }
+        ensures location { IsLocationOf text.now (byte_of fault) result.location }
+    {
+        let location = location_in(&fault, text);
         FileError { fault, location }
+    }
+
+    /// Returns the error of a command that did nothing to a file, located if `locate` says so.
+    pub fn of_refused(refused: &FileFault, locate: bool) -> FileError
+        ensures { result.fault ≡ refused.now.fault }
+    {
+        if locate {
+            FileError::located(refused.fault, &refused.text)
+        } else {
+            FileError::from(refused.fault)
+        }
     }
 
     /// Writes the lines of the error of a file at once, so that lines of programs that run side by
@@ -60,6 +79,15 @@ impl FileError {
             }
             None => format!(in alloc; "tfk: {name}: {fault}\n"),
         }
+    }
+}
+
+fn location_in(fault: &RunFault, text: &[u8]) -> Option<Location>
+    ensures { IsLocationOf text.now (byte_of fault.now) result }
+{
+    match byte_of(fault) {
+        Some(at) => Some(location_of(text, at)),
+        None => None,
     }
 }
 

@@ -1,14 +1,18 @@
 //! The lines of a journal's records.
 
 ghost use Rattle.std.specs.Prelude.{◌≡◌, IfOk, string_bytes};
-ghost use Rattle.tf_program.specs.Lines.{lines_of, line_of, command_name, edit_unit};
+ghost use Rattle.tf_program.specs.Lines.{record_lines, record_line, command_name, edit_unit};
 
 use edit_record::{Record, Word};
 use std::alloc::{AllocError, Global};
 
 /// Returns a line for each record, the oldest first, which has the number 1: `1 fix 3 edits`.
+///
+/// # Errors
+///
+/// Out of memory.
 pub fn record_lines(alloc: Global, records: &[Record]) -> Result<String, AllocError>
-    ensures { IfOk result (λ lines. string_bytes lines ≡ lines_of 1 records.now) }
+    ensures { IfOk result (λ lines. string_bytes lines ≡ record_lines 1 records.now) }
 {
     let mut lines = String::new(alloc);
     for (before, record) in records.iter().enumerate() {
@@ -20,7 +24,7 @@ pub fn record_lines(alloc: Global, records: &[Record]) -> Result<String, AllocEr
 }
 
 fn record_line(alloc: Global, number: usize, word: Word, edits: usize) -> Result<String, AllocError>
-    ensures { IfOk result (λ line. string_bytes line ≡ line_of number word edits) }
+    ensures { IfOk result (λ line. string_bytes line ≡ record_line number word edits) }
 {
     let word = command_name(word);
     let unit = edit_unit(edits);

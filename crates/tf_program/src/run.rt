@@ -1,5 +1,8 @@
 //! The work that the arguments ask for.
 
+ghost use Rattle.std.specs.Prelude.{◌≡◌, ◌≤◌};
+ghost use Rattle.tf_program.specs.Work.{IsStatusOf, command_of, file_command};
+
 use crate::batch::Batch;
 use crate::files::{STANDARD_INPUT, run_read_only};
 use std::alloc::Global;
@@ -42,7 +45,9 @@ fn run_command_line<R: Files, I: Read, O: Write, F: Write>(
     }
 }
 
-fn exit_with<O: Write, F: Write>(stop: &Exit, output: &mut O, faults: &mut F) -> u8 {
+fn exit_with<O: Write, F: Write>(stop: &Exit, output: &mut O, faults: &mut F) -> u8
+    ensures { IsStatusOf stop.now result }
+{
     match stop {
         Exit::Help(text) => print_help(output, faults, text.as_str()),
         Exit::UsageError(text) => exit_with_fault(faults, text.as_str()),
@@ -51,12 +56,16 @@ fn exit_with<O: Write, F: Write>(stop: &Exit, output: &mut O, faults: &mut F) ->
 }
 
 /// If standard error takes nothing, the exit status still reports the error.
-fn exit_with_fault<F: Write>(faults: &mut F, text: &str) -> u8 {
+fn exit_with_fault<F: Write>(faults: &mut F, text: &str) -> u8
+    ensures { result ≡ 1 }
+{
     let _ = put_text(text.as_bytes(), &mut Told::new(faults));
     1
 }
 
-fn print_help<O: Write, F: Write>(output: &mut O, faults: &mut F, text: &str) -> u8 {
+fn print_help<O: Write, F: Write>(output: &mut O, faults: &mut F, text: &str) -> u8
+    ensures { result ≤ 1 }
+{
     match write_help(output, text) {
         Ok(()) => 0,
         Err(_) => exit_with_fault(faults, "tfk: cannot write the help\n"),
@@ -83,11 +92,9 @@ fn run_task<R: Files, I: Read, O: Write, F: Write>(
 ) -> RunOutcome {
     let mut batch = Batch::new(alloc, task);
     for name in &task.files {
-        match command_of(task.action) {
-            Some(command) if *name != STANDARD_INPUT => {
-                batch.change(rt, command, name, output, faults)
-            }
-            _ => {
+        match file_command(task.action, name) {
+            Some(command) => batch.change(rt, command, name, output, faults),
+            None => {
                 let met = run_read_only(rt, alloc, task, name, input, output, faults);
                 batch.note(name, met, faults);
             }
@@ -97,8 +104,21 @@ fn run_task<R: Files, I: Read, O: Write, F: Write>(
     batch.outcome
 }
 
+/// Returns the command that the action does to the file of this name, if it changes files.
+fn file_command(action: Action, name: &str) -> Option<Command>
+    ensures { result ≡ file_command action name.now }
+{
+    if name == STANDARD_INPUT {
+        None
+    } else {
+        command_of(action)
+    }
+}
+
 /// Returns the command of an action that changes files.
-fn command_of(action: Action) -> Option<Command> {
+fn command_of(action: Action) -> Option<Command>
+    ensures { result ≡ command_of action }
+{
     match action {
         Action::Format => Some(Command::Fmt),
         Action::Fix(rules) => Some(Command::Fix(rules)),

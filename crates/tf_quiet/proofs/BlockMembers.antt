@@ -158,11 +158,11 @@ module _ (pairs : List Pair) where
     named = λ h. rw (named_by a.name (name h)) (s.named h);
   }
     where
-      type_by : (b : Bool) → bytes_eq (token_text pairs a.name) (codes "type") ≡ b → (b || more_typed) ≡ true → has_attribute pairs (codes "type") false (a ∷ xs) ≡ true
+      type_by : (b : Bool) → bytes_eq (token_text pairs a.name) (codes "type") ≡ b → (b || more_typed) ≡ true → has_attribute pairs (codes "type") (a ∷ xs) ≡ true
       type_by true e h = or_left (is_attribute pairs (codes "type") false a) _ (is_named a (codes "type") e)
       type_by false e h = or_right (is_attribute pairs (codes "type") false a) _ (s.has_type h)
 
-      description_by : (b : Bool) → bytes_eq (token_text pairs a.name) (codes "description") ≡ b → (b || more_described) ≡ true → has_attribute pairs (codes "description") false (a ∷ xs) ≡ true
+      description_by : (b : Bool) → bytes_eq (token_text pairs a.name) (codes "description") ≡ b → (b || more_described) ≡ true → has_attribute pairs (codes "description") (a ∷ xs) ≡ true
       description_by true e h = or_left (is_attribute pairs (codes "description") false a) _ (is_named a (codes "description") e)
       description_by false e h = or_right (is_attribute pairs (codes "description") false a) _ (s.has_description h)
 

@@ -10,7 +10,8 @@ use Rattle.tf_quiet.proofs.OpenBrackets.{at_token, is_later}
 use Rattle.tf_quiet.proofs.TokensThere.{kind_at_is}
 use Rattle.tf_quiet.specs.Inner.TokenClasses.{class_of}
 use Rattle.tf_quiet.specs.declared.tokens.Class.TheVariants as class
-use Rattle.tf_quiet.specs.LineEnds.{outer, depth_after, is_line_end, line_end_by, line_end_in, line_end_from}
+use Rattle.hcl_token.specs.Kinds.{is_line_end}
+use Rattle.tf_quiet.specs.LineEnds.{outer, depth_after, line_end_by, line_end_in, line_end_from}
 use Rattle.tf_quiet.specs.QuietTokens.{is_no_equality, is_quiet_token, is_quiet_at}
 use Rattle.tf_rules.specs.Rules.Lookup.{is_lookup_token}
 

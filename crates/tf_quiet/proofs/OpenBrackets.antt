@@ -23,7 +23,8 @@ use Rattle.hcl_grammar.specs.Operators.{unary_operator, binary_operator}
 use Rattle.hcl_grammar.specs.Tokens.{Token, is_skipped, next_index, next_token, next_kind, after_next}
 use Rattle.hcl_grammar_laws.proofs.Steps.{word_at}
 use Rattle.tf_quiet.proofs.QuietTokens.{is_next_token, dropped}
-use Rattle.tf_quiet.specs.LineEnds.{depth_after, is_line_end, line_end_by, line_end_in, line_end_from}
+use Rattle.hcl_token.specs.Kinds.{is_line_end}
+use Rattle.tf_quiet.specs.LineEnds.{depth_after, line_end_by, line_end_in, line_end_from}
 
 -- ---- kinds
 

@@ -23,7 +23,7 @@ use Rattle.tf_quiet.specs.QuietBlocks.{HasNoBlockFindings}
 use Rattle.tf_quiet.specs.QuietHeads.{is_snake_label}
 use Rattle.tf_reuse.specs.OneMember as alone
 use Rattle.tf_reuse.specs.OneMember.{IsOneMember}
-use Rattle.tf_rules.specs.Attributes.{attributes, member_attributes, has_attribute}
+use Rattle.tf_rules.specs.Attributes.{attributes, member_attributes, has_attribute, has_empty_attribute}
 use Rattle.tf_rules.specs.RuleSets.{has_rule}
 use Rattle.tf_rules.specs.Rules.Missing.{is_undocumented, missing_finding}
 use Rattle.tf_rules.specs.Spelling.{token_text}
@@ -58,16 +58,16 @@ documented false b h e = absurd (cc)
 -- ---- a block, by its word
 
 module _ (rules : RuleSet) (pairs : List Pair) (b : Block) where
-  missing_complete : (word : List ℕ) (o : Option Label) → (bytes_eq word (codes "variable") ≡ true → has_attribute pairs (codes "type") false (attributes b) ≡ true)
+  missing_complete : (word : List ℕ) (o : Option Label) → (bytes_eq word (codes "variable") ≡ true → has_attribute pairs (codes "type") (attributes b) ≡ true)
       → is_undocumented pairs (attributes b) ≡ false → Nothing (missing rules pairs b word o)
   missing_complete word None t d = none
   missing_complete word (Some l) t d =
-      append (none_without (has_rule rules TypedVariables) (bytes_eq word (codes "variable")) (has_attribute pairs (codes "type") false (attributes b)) (missing_finding TypedVariables b l.name) t)
+      append (none_without (has_rule rules TypedVariables) (bytes_eq word (codes "variable")) (has_attribute pairs (codes "type") (attributes b)) (missing_finding TypedVariables b l.name) t)
       (append (none_of_two (has_rule rules DocumentedVariables) (bytes_eq word (codes "variable")) (is_undocumented pairs (attributes b)) (missing_finding DocumentedVariables b l.name) d)
       (none_of_two (has_rule rules DocumentedOutputs) (bytes_eq word (codes "output")) (is_undocumented pairs (attributes b)) (missing_finding DocumentedOutputs b l.name) d))
 
   undocumented_not : {typed : Bool} → AreSeen pairs false typed true (attributes b) → is_undocumented pairs (attributes b) ≡ false
-  undocumented_not s = documented (has_attribute pairs (codes "description") false (attributes b)) (has_attribute pairs (codes "description") true (attributes b)) (s.has_description refl) s.none_empty
+  undocumented_not s = documented (has_attribute pairs (codes "description") (attributes b)) (has_empty_attribute pairs (codes "description") (attributes b)) (s.has_description refl) s.none_empty
 
   variable_nothing : {j : ℕ} (n : ℕ) → IsLabels (tokens_of pairs) b.labels n j → is_snake_label pairs n ≡ true → AreSeen pairs false true true (attributes b) → Nothing (found rules pairs b (codes "variable"))
   variable_nothing n ls h s =

@@ -116,7 +116,7 @@ module _ (pairs : List Pair) where
 module _ (rules : RuleSet) (pairs : List Pair) (b : Block) where
   -- what is found at it, if this is its word
   abbrev pub untyped : List ℕ → Label → List Finding
-  untyped word l = if has_rule rules TypedVariables && (bytes_eq word (codes "variable") && not (has_attribute pairs (codes "type") false (attributes b))) then missing_finding TypedVariables b l.name else []
+  untyped word l = if has_rule rules TypedVariables && (bytes_eq word (codes "variable") && not (has_attribute pairs (codes "type") (attributes b))) then missing_finding TypedVariables b l.name else []
 
   abbrev pub undocumented : List ℕ → Rule → List ℕ → Label → List Finding
   undocumented word rule kind l = if has_rule rules rule && (bytes_eq word kind && is_undocumented pairs (attributes b)) then missing_finding rule b l.name else []
@@ -134,7 +134,7 @@ module _ (rules : RuleSet) (pairs : List Pair) (b : Block) where
   pub none_missing : (word : List ℕ) (o : Option Label) → bytes_eq word (codes "variable") ≡ false → bytes_eq word (codes "output") ≡ false → Nothing (missing word o)
   none_missing word None v o = none
   none_missing word (Some l) v o =
-      append (never (has_rule rules TypedVariables) (bytes_eq word (codes "variable")) (not (has_attribute pairs (codes "type") false (attributes b))) (missing_finding TypedVariables b l.name) v none)
+      append (never (has_rule rules TypedVariables) (bytes_eq word (codes "variable")) (not (has_attribute pairs (codes "type") (attributes b))) (missing_finding TypedVariables b l.name) v none)
       (append (never (has_rule rules DocumentedVariables) (bytes_eq word (codes "variable")) (is_undocumented pairs (attributes b)) (missing_finding DocumentedVariables b l.name) v none)
       (never (has_rule rules DocumentedOutputs) (bytes_eq word (codes "output")) (is_undocumented pairs (attributes b)) (missing_finding DocumentedOutputs b l.name) o none))
 

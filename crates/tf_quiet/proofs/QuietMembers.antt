@@ -83,7 +83,7 @@ length_of_range pairs from count l =
     let ts = tokens_of pairs in
     ap length (tokens_of_range from count pairs) ∙ length-take-le count (drop from ts) (rw (length-drop from ts) (omega (arith, l)))
 
-range_same_tokens : (pairs : List Pair) (from count : ℕ) → from + count ≤ length (tokens_of pairs) → count < 2 ^ 64 → SameTokens (tokens_of pairs) (tokens_of (pairs_of_range pairs from count)) from 0 count
+range_same_tokens : (pairs : List Pair) (from count : ℕ) → from + count ≤ length (tokens_of pairs) → count < 2 ^ 32 → SameTokens (tokens_of pairs) (tokens_of (pairs_of_range pairs from count)) from 0 count
 range_same_tokens pairs from count l fits =
     let ts = tokens_of pairs in
     let is = tokens_of_range from count pairs in

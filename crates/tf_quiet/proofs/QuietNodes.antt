@@ -36,7 +36,7 @@ use Rattle.tf_rules.specs.Rules.Equality.{is_equality, is_empty_list, is_empty_l
 use Rattle.tf_rules.specs.Rules.Index.{index_findings}
 use Rattle.tf_rules.specs.Rules.Interpolation.{sole_interpolation, sole_part, part_interpolation, interpolation_findings}
 use Rattle.tf_rules.specs.Rules.Lookup.{is_lookup, is_lookup_token, lookup_findings}
-use Rattle.tf_rules.specs.TreeLayers.{ExprKindLayer, TailLayer}
+use Rattle.hcl_grammar.specs.TreeLayers.{ExprKindLayer, TailLayer}
 use Rattle.tf_rules_laws.proofs.Grammar.{Each, Seen, an_expr, a_term, a_tail, Closed, all_visited, inside_in_preorder, members}
 use Rattle.tf_quiet.proofs.Nothing.{Nothing, none, choose, unless_not, append, mapped, each_implies}
 use Rattle.tf_quiet.proofs.QuietTokens.{AllQuiet, not_index, not_lookup, no_list_after, no_equality_after, Passes, not_one}

@@ -233,7 +233,7 @@ module _ (ts : List Token) (quiet : AllQuiet ts) where
 
   -- ---- a walk through an interpolation
 
-  -- a walk that comes to the one place comes to the other
+  -- a walk that reaches the one place reaches the other
   pub record Passes (i j : ℕ) : Type 0 where
     pub on : quiet.walk i ≡ true → quiet.walk j ≡ true
 

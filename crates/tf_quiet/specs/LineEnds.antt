@@ -1,5 +1,5 @@
 -- Where a line ends that is not in brackets.
-use Rattle.std.specs.Prelude.{ℕ, Bool, true, false, zero, suc, List, [], ◌∷◌, drop, Option, Some, None}
+use Rattle.std.specs.Prelude.{ℕ, zero, suc, List, [], ◌∷◌, drop, Option, Some, None}
 use Rattle.hcl_grammar.specs.Tokens.{Token}
 use Rattle.hcl_token.specs.declared.kind.Kind.{Kind}
 use Rattle.hcl_token.specs.declared.kind.Kind.TheVariants as k
@@ -20,10 +20,6 @@ depth_after k.CloseBracket depth = outer depth
 depth_after k.CloseBrace depth = outer depth
 depth_after k.SeqClose depth = outer depth
 depth_after _ depth = depth
-
-abbrev pub is_line_end : Kind → Bool
-is_line_end k.LineEnd = true
-is_line_end _ = false
 
 -- at a token: the one answer at a line end outside of brackets, otherwise the other
 abbrev pub line_end_by : Kind → ℕ → Option ℕ → Option ℕ → Option ℕ

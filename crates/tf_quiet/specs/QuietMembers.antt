@@ -17,6 +17,6 @@ abbrev pub QuietMembersHaveNoFindings : Type 0
 QuietMembersHaveNoFindings = (rules : RuleSet) (pairs : List Pair) (depth from to : ℕ) (x : Member)
     → IsOneMember (tokens_of pairs) depth x from to
     → kind_of pairs (to - 1) ≡ Some LineEnd
-    → to < 2 ^ 64
+    → to < 2 ^ 32
     → AreQuiet pairs from to
     → AreTreeFindings rules pairs (member x ∷ []) []

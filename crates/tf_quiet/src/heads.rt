@@ -12,7 +12,7 @@ use hcl_scan::Scanned;
 use hcl_token::Kind;
 use tf_rules::is_snake_case;
 
-/// Returns whether a token is there, of this kind.
+/// Returns whether there is a token `n`, of this kind.
 #[tactic(auto, unfolding(hcl_grammar::specs::Tokens::same_kind))]
 pub fn is_kind(scanned: &Scanned<'_>, n: usize, kind: Kind) -> bool
     ensures { result ≡ is_kind (kind_of scanned.now.pairs n) kind }
@@ -20,7 +20,7 @@ pub fn is_kind(scanned: &Scanned<'_>, n: usize, kind: Kind) -> bool
     n < scanned.len() && scanned.kind(n) == kind
 }
 
-/// The spelling of a token; nothing where there is no such token.
+/// Returns the spelling of a token; nothing where there is no such token.
 pub fn token_text<'t>(scanned: &Scanned<'t>, n: usize) -> &'t [u8]
     ensures { result.now ≡ token_text scanned.now.pairs n }
 {
@@ -30,14 +30,14 @@ pub fn token_text<'t>(scanned: &Scanned<'t>, n: usize) -> &'t [u8]
     scanned.spelling(n)
 }
 
-/// Returns whether a name is spelled so.
+/// Returns whether a spelling is the expected one.
 pub fn is_spelled(spelling: &[u8], expected: &[u8]) -> bool
     ensures { result ≡ bytes_eq spelling.now expected.now }
 {
     spelling == expected
 }
 
-/// Returns whether a quoted label is there.
+/// Returns whether a quoted label begins at token `n`.
 fn is_text_label(scanned: &Scanned<'_>, n: usize) -> bool
     requires { n + 2 < 2 ^ 64 }
     ensures { result ≡ is_text_label scanned.now.pairs n }
@@ -47,7 +47,7 @@ fn is_text_label(scanned: &Scanned<'_>, n: usize) -> bool
         && is_kind(scanned, n + 2, Kind::QuoteClose)
 }
 
-/// Returns whether a quoted label in snake_case is there.
+/// Returns whether a quoted label in snake_case begins at token `n`.
 pub fn is_snake_label(scanned: &Scanned<'_>, n: usize) -> bool
     requires { n + 1 < 2 ^ 64 }
     ensures { result ≡ is_snake_label scanned.now.pairs n }

@@ -142,6 +142,7 @@ fn depth_after_quiet(
     ensures depth { IfOk result (λ d. d ≡ depth_after kind depth) }
     ensures other { IfErr result (λ _. is_quiet_at scanned.now.pairs n ≡ false) }
 {
+    // for the proof: the number of tokens fits a usize
     let _count = scanned.len();
     match kind {
         Kind::DotIndex => Err(Stop::NotQuiet),

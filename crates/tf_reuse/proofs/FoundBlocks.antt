@@ -1,7 +1,7 @@
 -- What the rules on blocks find in a member whose tokens are elsewhere too: the same, its numbers
 -- moved.
 use Rattle.std.proofs.Common.{◌≡◌, ℕ, zero, suc, ◌+◌, ◌<◌, Bool, true, false, not, ◌&&◌, ◌||◌, List, [], ◌∷◌, map, length, slice_get, Option, Some, None, unwrap_or, codes, refl, sym, ap, ap₂, ◌∙◌, subst, arith}
-use Rattle.std.specs.List.{flat_map}
+use Rattle.std.specs.List.{flat_map, list_any}
 use Rattle.std.specs.Option.{option_map}
 use Rattle.std.specs.Str.{bytes_eq}
 use Rattle.hcl_grammar.specs.declared.tree.Attribute.{Attribute}
@@ -34,8 +34,8 @@ use Rattle.tf_rules.specs.declared.rule.Rule.TheVariants.{NamingConvention, Type
 use Rattle.tf_rules.specs.declared.rule_set.RuleSet.{RuleSet}
 use Rattle.tf_rules.specs.Findings.{valid_findings}
 use Rattle.tf_rules.specs.RuleSets.{has_rule}
-use Rattle.tf_rules.specs.Attributes.{attributes, layer_attributes, member_attributes, has_no_parts, is_empty_string_primary, is_empty_string_kind, is_empty_string, has_attribute}
-use Rattle.tf_rules.specs.TreeLayers.{ExprKindLayer, PrimaryLayer}
+use Rattle.tf_rules.specs.Attributes.{attributes, layer_attributes, member_attributes, has_no_parts, is_empty_string_primary, is_empty_string_kind, is_empty_string, is_attribute, has_attribute}
+use Rattle.hcl_grammar.specs.TreeLayers.{ExprKindLayer, PrimaryLayer}
 use Rattle.tf_rules.specs.Rules.Missing.{is_undocumented, missing_finding, untyped_findings, undocumented_findings, missing_findings}
 use Rattle.tf_rules.specs.Rules.Naming.{naming_finding, declared_name, label_findings, declared_findings, local_findings, naming_findings}
 use Rattle.tf_rules.specs.SnakeCase.{is_snake_case}
@@ -141,7 +141,7 @@ module _ (old new : List Pair) {from to count : ℕ} (w : SameTokens (tokens_of 
   content_attributes (moves_as.on_line (moves_as.one {i} {i'} {j} {j'} {e} {e'} h g l x)) =
       rw (opens.open_line (Some (node.attribute i j e)), opens.open_line (Some (node.attribute i' j' e'))) (attribute_moves h g l x none)
 
-  has_moves : (name : List ℕ) (empty : Bool) {xs xs' : List Attribute} → SameAttributes xs xs' → has_attribute new name empty xs' ≡ has_attribute old name empty xs
+  has_moves : (name : List ℕ) (empty : Bool) {xs xs' : List Attribute} → SameAttributes xs xs' → list_any (is_attribute new name empty) xs' ≡ list_any (is_attribute old name empty) xs
   has_moves name empty none = refl
   has_moves name empty (more h e r) = rw (word_moves h, e, has_moves name empty r) refl
 
@@ -203,8 +203,8 @@ module _ (old new : List Pair) {from to count : ℕ} (w : SameTokens (tokens_of 
   untyped_moves : (rules : RuleSet) (b b' : Block) → SameBlock b b' → (l l' : Label) → MovedNumber (Here w) (Same w) l.name l'.name
       → Moves old new from to (untyped_findings rules old b l) (untyped_findings rules new b' l')
   untyped_moves rules b b' s l l' n =
-      let e : (has_rule rules TypedVariables && (bytes_eq (token_text new b'.block_type) (codes "variable") && not (has_attribute new (codes "type") false (attributes b'))))
-      ≡ (has_rule rules TypedVariables && (bytes_eq (token_text old b.block_type) (codes "variable") && not (has_attribute old (codes "type") false (attributes b)))) =
+      let e : (has_rule rules TypedVariables && (bytes_eq (token_text new b'.block_type) (codes "variable") && not (has_attribute new (codes "type") (attributes b'))))
+      ≡ (has_rule rules TypedVariables && (bytes_eq (token_text old b.block_type) (codes "variable") && not (has_attribute old (codes "type") (attributes b)))) =
       ap₂ (λ a b. has_rule rules TypedVariables && (bytes_eq a (codes "variable") && not b)) (word_moves s.name) (has_moves (codes "type") false s.inside) in
       either e (missing_moves TypedVariables b b' s n) moves.none
 

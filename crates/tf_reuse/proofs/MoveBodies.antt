@@ -24,7 +24,7 @@ use Rattle.tf_reuse.proofs.RenumberedNodes.{MovedExpr, MovedLabels, MovedOnLine,
 use Rattle.tf_reuse.proofs.RenumberedNodes as moved
 use Rattle.tf_reuse.proofs.Window.{Here, Same, NextIsWithin, starts, starts_here, afters, nexts, some_next, next_within_end, next_within, earlier, firsts}
 
--- one member in front of others
+-- one member before others
 pub member_first : {ts : List Token} {d : ℕ} {x : Member} {ms : List Member} {i n l : ℕ} → IsOneMember ts d x i n → IsMembers ts d ms n l → IsMembers ts d (x ∷ ms) i l
 member_first (alone.attribute p q x el) r = attribute p q x el r
 member_first (alone.block p ls br nl bs cl el) r = block p ls br nl bs cl el r
@@ -61,7 +61,7 @@ module _ {old new : List Token} {from to count : ℕ} (w : SameTokens old new fr
   unfolding after_next next_index
   advances i = omega arith
 
-  -- what comes next is one of the tokens, if what comes after it is
+  -- the next token is one of the tokens, if the one after it is
   back : (i : ℕ) → NextIsWithin w false (after_next old false i) → NextIsWithin w false i
   back i c = earlier w false i (after_next old false i) (omega (arith, advances i)) c
 

@@ -21,7 +21,7 @@ use Rattle.tf_reuse.proofs.MoveLines.{passed, not_before, less, begins_sep, begi
 use Rattle.tf_reuse.proofs.Window.{Here, Same, NextIsWithin, starts, starts_here, afters, next_within_end, next_within, before, earlier, earlier_than, firsts}
 use Rattle.tf_reuse.specs.MembersKeep.{SameTokens}
 
--- the first token of these is not past the last
+-- the first token of these ends no later than they do
 module _ {ts : List Token} where
   pub begins_term : {d : ℕ} {m : Bool} {x : Term} {i j : ℕ} → IsTerm ts d m x i j → after_next ts m i ≤ j
   begins_term (number p) = omega arith
@@ -68,7 +68,7 @@ module _ {old new : List Token} {from to count : ℕ} (w : SameTokens old new fr
   moved_tailed h g b v moved.no_tails = moved.moved_expr h g b (moved.plain v)
   moved_tailed h g b v (moved.tails x xs) = moved.moved_expr h g b (moved.tailed v (moved.tails x xs))
 
-  -- something comes before the end of a list in brackets or in braces, whatever is dropped
+  -- there is a token before the end of a list in brackets or in braces, whatever is dropped
   items_next_within : {d : ℕ} {es : List Expr} {i j : ℕ} → IsItems old d es i j → j ≤ from + count → NextIsWithin w true i
   items_next_within (no_items {i} p) b = next_within w true i b
   items_next_within (last_item {i} {j} e p) b = earlier w true i j (span_expr e).forth (next_within w true j b)
@@ -314,7 +314,7 @@ module _ {old new : List Token} {from to count : ℕ} (w : SameTokens old new fr
         let (xs1, l', hl, xs', vs) = move_elems xs hn b in
         (_, l', hl, elems x' s' xs', v _ _ vs)
 
-    -- an element, in front of others
+    -- an element, before others
     pub move_elem : {d : ℕ} {x : Elem} {i i' j : ℕ} → IsElem old d x i j → Here w i i' → NextIsWithin w false j
         → (x' : Elem) × (j' : ℕ) × Here w j j' × IsElem new d x' i' j' × ((xs xs' : List Elem) → moved.MovedElems (Here w) (Same w) xs xs' → moved.MovedElems (Here w) (Same w) (x ∷ xs) (x' ∷ xs'))
     move_elem (by_equals {j} {l} x p y) h c =

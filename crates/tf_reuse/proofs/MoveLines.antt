@@ -17,12 +17,12 @@ module _ (ts : List Token) where
   unfolding next_index
   not_before m i = omega arith
 
-  -- a token that is not past place l
+  -- a token whose end (exclusive) is at most place l
   pub less : (m : Bool) (i l : ℕ) → after_next ts m i ≤ l → next_index ts m i < l
   unfolding after_next
   less m i l h = omega (arith, h)
 
--- the first token of these is not past the last
+-- the first token of these ends no later than they do
 pub begins_line : {ts : List Token} {i j : ℕ} → IsNewline ts i j → after_next ts false i ≤ j
 begins_line (line_end p) = omega arith
 begins_line {ts} (comment {i} p q) = omega (arith, passed ts false (after_next ts false i))

@@ -1,4 +1,4 @@
--- What is asked of tokens and of their numbers is the same wherever the tokens are.
+-- What is computed from tokens and their numbers is the same wherever the tokens are.
 use Rattle.std.proofs.Common.{◌≡◌, ℕ, suc, ◌+◌, ◌-◌, ◌<◌, ◌≤◌, Bool, true, false, ◌==◌, nat_lt, nat_le, List, [], ◌∷◌, take, drop, Option, Some, None, refl, sym, ap, ◌∙◌, arith, zero, ◌⊎◌, inl, inr}
 use Rattle.std.proofs.lemmas.List.{drop-drop, take-take}
 use Rattle.std.proofs.lemmas.List.{drop-map, take-map, drop-take}

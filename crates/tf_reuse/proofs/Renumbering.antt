@@ -1,4 +1,4 @@
--- Findings with other numbers: those of the one list that are sound in the one text are those of the other that are sound in the other, moved.
+-- Findings with other numbers: those of the one list that are valid in the one text are those of the other that are valid in the other, moved.
 use Rattle.std.proofs.Common.{◌≡◌, ℕ, nat_lt, nat_le, Bool, true, false, ◌&&◌, List, [], ◌∷◌, ◌++◌, map, length, Option, Some, None, refl, sym, ap, ap₂, ◌∙◌, arith, if◌then◌else◌}
 use Rattle.std.proofs.lemmas.List.{length-map, map-append}
 use Rattle.std.proofs.lemmas.List.Elements.{filter-append}
@@ -113,7 +113,7 @@ module _ (old new : List Pair) {from to count : ℕ} (w : SameTokens (tokens_of 
   fitting_moved f p no_fix = refl
   fitting_moved f p (tokens x r) = order_moved x f p f r
 
-  -- a finding whose tokens are these is sound in both texts, or in neither
+  -- a finding whose tokens are these is valid in both texts, or in neither
   place_moved : {i i' j j' : ℕ} {b b' : Bool} → Here w i i' → Here w j j' → b' ≡ b
       → (nat_lt i' j' && (nat_le j' (length new) && b')) ≡ (nat_lt i j && (nat_le j (length old) && b))
   place_moved {j} {j'} h g e =

@@ -9,7 +9,7 @@ use Rattle.hcl_grammar.specs.Tokens.{Token, is_skipped, next_index, next_token, 
 use Rattle.hcl_grammar_laws.proofs.Neat.{kept_at}
 use Rattle.tf_reuse.specs.MembersKeep.{SameTokens}
 
--- lists with the same n elements in front: an answer of prefix_len below n is that of both
+-- lists with the same first n elements: a result of prefix_len below n is that of both
 leading : (p : Token → Bool) (n : ℕ) (xs ys : List Token) → take n xs ≡ take n ys → prefix_len p xs < n → prefix_len p ys ≡ prefix_len p xs
 leading p zero xs ys e l = absurd (omega arith)
 leading p (suc n) [] [] e l = refl

@@ -18,7 +18,7 @@ use Rattle.tf_rules.specs.TopLevelFindings.{top_level_member_findings}
 pub record SameTokens (old new : List Token) (from to count : ℕ) : Type 0 where
   pub in_old : from + count ≤ length old
   pub in_new : to + count ≤ length new
-  pub fits : to + count < 2 ^ 64
+  pub fits : to + count < 2 ^ 32
   pub same : take count (drop from old) ≡ take count (drop to new)
 
 -- The grammar derives a member from these tokens, if it does so elsewhere, with more tokens after

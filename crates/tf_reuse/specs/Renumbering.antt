@@ -9,9 +9,9 @@ use Rattle.tf_rules.specs.declared.fix.KeptTokens.{KeptTokens}
 use Rattle.tf_rules.specs.Fixes.{kept}
 
 -- the number of a token, if the tokens from number `from` on were moved to number `to`; at most the
--- greatest usize
+-- greatest u32
 abbrev pub renumber : ℕ → ℕ → ℕ → ℕ
-renumber from to n = min (to + (n - from)) (2 ^ 64 - 1)
+renumber from to n = min (to + (n - from)) (2 ^ 32 - 1)
 
 -- the same in tokens that a fix keeps
 abbrev pub renumber_kept : ℕ → ℕ → KeptTokens → KeptTokens

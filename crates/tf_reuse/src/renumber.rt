@@ -9,14 +9,14 @@ use std::alloc::{AllocError, Global};
 use tf_rules::{Finding, Fix, KeptTokens, Message};
 
 /// Returns the number of a token, if the tokens from number `from` on were moved to number `to`.
-fn renumber(number: usize, from: usize, to: usize) -> usize
+fn renumber(number: u32, from: u32, to: u32) -> u32
     ensures { result ≡ spec.renumber from to number }
 {
     to.saturating_add(number.saturating_sub(from))
 }
 
 /// Tokens that a fix keeps, with such numbers.
-fn renumber_kept(kept: Option<KeptTokens>, from: usize, to: usize) -> Option<KeptTokens>
+fn renumber_kept(kept: Option<KeptTokens>, from: u32, to: u32) -> Option<KeptTokens>
     ensures { result ≡ option_map (spec.renumber_kept from to) kept }
 {
     match kept {
@@ -30,7 +30,7 @@ fn renumber_kept(kept: Option<KeptTokens>, from: usize, to: usize) -> Option<Kep
 }
 
 /// What a fix does.
-fn renumber_fix(fix: Fix, from: usize, to: usize) -> Fix
+fn renumber_fix(fix: Fix, from: u32, to: u32) -> Fix
     ensures { result ≡ spec.renumber_fix from to fix }
 {
     match fix {
@@ -47,7 +47,7 @@ fn renumber_fix(fix: Fix, from: usize, to: usize) -> Fix
 }
 
 /// The fix, where there is one.
-fn renumber_optional_fix(fix: Option<Fix>, from: usize, to: usize) -> Option<Fix>
+fn renumber_optional_fix(fix: Option<Fix>, from: u32, to: u32) -> Option<Fix>
     ensures { result ≡ option_map (spec.renumber_fix from to) fix }
 {
     match fix {
@@ -57,7 +57,7 @@ fn renumber_optional_fix(fix: Option<Fix>, from: usize, to: usize) -> Option<Fix
 }
 
 /// What a message names.
-fn renumber_message(message: Message, from: usize, to: usize) -> Message
+fn renumber_message(message: Message, from: u32, to: u32) -> Message
     ensures { result ≡ spec.renumber_message from to message }
 {
     let name = match message.name {
@@ -71,8 +71,8 @@ fn renumber_message(message: Message, from: usize, to: usize) -> Message
 }
 
 /// A finding with such numbers.
-fn renumber_finding(finding: &Finding, from: usize, to: usize) -> Result<Finding, AllocError>
-    ensures { IfOk result (λ f. f ≡ spec.renumber_finding from to finding.now) }
+fn renumber_finding(finding: &Finding, from: u32, to: u32) -> Finding
+    ensures { result ≡ spec.renumber_finding from to finding.now }
 {
     let first = renumber(finding.first(), from, to);
     let past = renumber(finding.past(), from, to);
@@ -85,14 +85,14 @@ fn renumber_finding(finding: &Finding, from: usize, to: usize) -> Result<Finding
 pub fn renumber_findings(
     alloc: Global,
     findings: &[Finding],
-    from: usize,
-    to: usize,
+    from: u32,
+    to: u32,
 ) -> Result<Vec<Finding>, AllocError>
     ensures { IfOk result (λ found. found.items ≡ map (renumber_finding from to) findings.now) }
 {
     let mut all = Vec::with_capacity(alloc, findings.len())?;
     for finding in findings {
-        all.push(renumber_finding(finding, from, to)?)?;
+        all.push(renumber_finding(finding, from, to))?;
     }
     Ok(all)
 }

@@ -11,10 +11,10 @@ use Rattle.tf_rules.specs.declared.rule.Rule.{Rule}
 use Rattle.tf_rules.specs.Findings.{is_fixable, finding_at}
 use Rattle.tf_rules.specs.Fixes.{when, is_comment_fix}
 use Rattle.tf_rules.specs.Table.{is_comment_rule, has_fix}
-use Rattle.tf_rules.specs.FoundBy.{IsFoundBy}
+use Rattle.tf_rules.specs.FoundBy.{MatchesRule}
 
 abbrev pub AreFrom : List Pair → Rule → List Finding → Type 0
-AreFrom pairs rule fs = AllByRecursion (IsFoundBy pairs rule) fs
+AreFrom pairs rule fs = AllByRecursion (MatchesRule pairs rule) fs
 
 -- each comes from the rule; a record, so that a list is found from it
 pub record From (pairs : List Pair) (rule : Rule) (fs : List Finding) : Type 0 where

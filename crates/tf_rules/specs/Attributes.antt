@@ -14,7 +14,7 @@ use Rattle.hcl_grammar.specs.declared.tree.Member.{Member, out-Member}
 use Rattle.hcl_grammar.specs.declared.tree.Part.{Part}
 use Rattle.hcl_grammar.specs.declared.tree.Primary.{out-Primary}
 use Rattle.hcl_token.specs.Tokens.{Pair}
-use Rattle.tf_rules.specs.TreeLayers.{ExprKindLayer, PrimaryLayer, ContentLayer, MemberLayer}
+use Rattle.hcl_grammar.specs.TreeLayers.{ExprKindLayer, PrimaryLayer, ContentLayer, MemberLayer}
 use Rattle.tf_rules.specs.Spelling.{token_text}
 
 abbrev pub layer_attribute : MemberLayer → List Attribute
@@ -54,9 +54,13 @@ is_empty_string e = is_empty_string_kind (out-ExprKind e.kind)
 
 -- an attribute of this name; if must_be_empty, one whose value is `""`
 abbrev pub is_attribute : List Pair → List ℕ → Bool → Attribute → Bool
-is_attribute pairs name empty a =
-    bytes_eq (token_text pairs a.name) name && (not empty || is_empty_string a.value)
+is_attribute pairs name must_be_empty a =
+    bytes_eq (token_text pairs a.name) name && (not must_be_empty || is_empty_string a.value)
 
--- whether one of the attributes is such
-abbrev pub has_attribute : List Pair → List ℕ → Bool → List Attribute → Bool
-has_attribute pairs name empty = list_any (is_attribute pairs name empty)
+-- whether one of the attributes has this name
+abbrev pub has_attribute : List Pair → List ℕ → List Attribute → Bool
+has_attribute pairs name = list_any (is_attribute pairs name false)
+
+-- whether one of the attributes has this name and the value `""`
+abbrev pub has_empty_attribute : List Pair → List ℕ → List Attribute → Bool
+has_empty_attribute pairs name = list_any (is_attribute pairs name true)

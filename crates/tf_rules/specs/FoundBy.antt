@@ -12,8 +12,8 @@ use Rattle.tf_rules.specs.Rules.CommentSyntax.{is_slash_comment}
 abbrev pub IsSlashCommentAt : List Pair → ℕ → Type 0
 IsSlashCommentAt pairs i = (p : Pair) × (slice_get pairs i ≡ Some p) × (is_slash_comment p ≡ true)
 
--- this rule found it
-pub record IsFoundBy (pairs : List Pair) (rule : Rule) (f : Finding) : Type 0 where
+-- the finding is of this rule, and is as its findings are
+pub record MatchesRule (pairs : List Pair) (rule : Rule) (f : Finding) : Type 0 where
   pub rule_is : f.rule ≡ rule
   -- the rule on comments writes in comments, and no other does
   pub inside : is_comment_fix f.fix ≡ is_comment_rule rule

@@ -3,12 +3,10 @@ pub mod Fixes
 pub mod FindingModel
 pub mod Inner
 pub mod SingleRule
-pub mod Representable
 pub mod RuleSets
 pub mod Table
 pub mod Arguments
 pub mod Attributes
-pub mod TreeLayers
 pub mod NodeFindings
 pub mod Preorder
 pub mod FoundBy

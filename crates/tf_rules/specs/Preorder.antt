@@ -21,13 +21,13 @@ use Rattle.hcl_grammar.specs.declared.tree.Template.{Template}
 use Rattle.hcl_grammar.specs.declared.tree.Term.{Term}
 use Rattle.tf_rules.specs.declared.role.Role.{Role}
 use Rattle.tf_rules.specs.declared.role.Role.TheVariants.{AttributeValue, Element, ObjectKey, ObjectValue, Argument, Parentheses, Index, Interpolation, Elsewhere}
-use Rattle.tf_rules.specs.TreeLayers.{ExprKindLayer, PrimaryLayer, TailLayer, PartLayer, ContentLayer, MemberLayer}
+use Rattle.hcl_grammar.specs.TreeLayers.{ExprKindLayer, PrimaryLayer, TailLayer, PartLayer, ContentLayer, MemberLayer}
 
 -- a node of a tree
 pub data Node : Type 0 where
   -- an expression, and its role
   expr : Role → Expr → Node
-  -- a term, and the role of the expression that is this term, with or without tails
+  -- a term, and the role of the expression if it is this term alone; with tails it is Elsewhere
   term : Role → Term → Node
   -- a tail of a term, and whether, going back from it over names and legacy indices, one comes to
   -- the tail `.*`

@@ -9,7 +9,7 @@ use Rattle.tf_rules.specs.declared.finding.Finding.{Finding}
 use Rattle.tf_rules.specs.declared.rule.Rule.TheVariants.{NamingConvention}
 use Rattle.tf_rules.specs.declared.rule_set.RuleSet.{RuleSet}
 use Rattle.tf_rules.specs.RuleSets.{has_rule}
-use Rattle.tf_rules.specs.TreeLayers.{MemberLayer}
+use Rattle.hcl_grammar.specs.TreeLayers.{MemberLayer}
 use Rattle.tf_rules.specs.Rules.Missing.{missing_findings}
 use Rattle.tf_rules.specs.Rules.Naming.{naming_findings}
 

@@ -17,12 +17,12 @@ pub struct LintContext<'s, 't> {
 
 impl<'s, 't> LintContext<'s, 't> {
     /// Adds what a rule finds at the tokens from number `first` up to, not with, number `past`, if
-    /// it is sound in the text.
+    /// it is valid in the text.
     pub fn report(
         &self,
         rule: Rule,
-        first: usize,
-        past: usize,
+        first: u32,
+        past: u32,
         message: Message,
         fix: Option<Fix>,
         found: &mut Vec<Finding>,
@@ -33,8 +33,8 @@ impl<'s, 't> LintContext<'s, 't> {
             (finding_at rule first past message fix)) }
     {
         // what is given is tested: a finding would have to be unpacked again
-        let is_valid = is_valid_at(self.scanned.len(), first, past, &fix);
-        let finding = Finding::new(rule, first, past, message, fix)?;
+        let is_valid = is_valid_at(self.scanned.count(), first, past, &fix);
+        let finding = Finding::new(rule, first, past, message, fix);
         if is_valid {
             found.push(finding)?;
         }

@@ -1,13 +1,12 @@
 //! What a rule finds.
 
-ghost use Rattle.std.specs.Prelude.{◌≡◌, ◌++◌, ◌&&◌, ℕ, nat_lt, nat_le, true, false, IfOk, IfErr, OnOk, OnErr};
+ghost use Rattle.std.specs.Prelude.{◌≡◌, ◌++◌, ◌&&◌, ℕ, nat_lt, nat_le, true, OnOk, OnErr};
 ghost use Rattle.std.specs.Prelude.{filter, List, ◌∷◌, []};
 ghost use Rattle.tf_rules.specs.declared.finding.Finding.{Finding};
 ghost use Rattle.tf_rules.specs.Findings.{is_fix_valid, is_fixable, is_valid, IsValidFinding};
-ghost use Rattle.tf_rules.specs.Representable.{is_representable};
 
 use crate::fix::Fix;
-use crate::packed::{PackedFix, name_to_u32, to_u32};
+use crate::packed::{PackedFix, pack_name};
 use crate::rule::Rule;
 use std::alloc::AllocError;
 use std::marker::Model;
@@ -28,7 +27,7 @@ pub enum NameKind {
 #[derive(Clone, Copy, Debug)]
 pub struct Message {
     pub kind: Option<NameKind>,
-    pub name: Option<usize>,
+    pub name: Option<u32>,
 }
 
 impl Message {
@@ -41,7 +40,7 @@ impl Message {
 
 /// What a rule has found: its tokens, from number `first` up to, not with, number `past`.
 ///
-/// A text may have as many as it has tokens, so it is held in few bytes: its numbers have 32 bits.
+/// A text may have as many as it has tokens, so it is held in few bytes.
 #[derive(Clone, Copy)]
 pub struct Finding {
     rule: Rule,
@@ -91,7 +90,8 @@ impl Model for Finding {
     ) refl };
 }
 
-fn is_fix_valid(first: usize, past: usize, fix: &Option<Fix>) -> bool
+/// Whether what a fix keeps is in order and inside of these tokens; so it is without a fix.
+fn is_fix_valid(first: u32, past: u32, fix: &Option<Fix>) -> bool
     ensures { result ≡ is_fix_valid first past fix.now }
 {
     match fix {
@@ -101,7 +101,7 @@ fn is_fix_valid(first: usize, past: usize, fix: &Option<Fix>) -> bool
 }
 
 /// Whether a finding of these tokens with this fix is valid in a text that has `count` tokens.
-pub fn is_valid_at(count: usize, first: usize, past: usize, fix: &Option<Fix>) -> bool
+pub fn is_valid_at(count: u32, first: u32, past: u32, fix: &Option<Fix>) -> bool
     ensures { result ≡ (nat_lt first past && (nat_le past count && is_fix_valid first past fix.now)) }
 {
     first < past && past <= count && is_fix_valid(first, past, fix)
@@ -109,32 +109,19 @@ pub fn is_valid_at(count: usize, first: usize, past: usize, fix: &Option<Fix>) -
 
 impl Finding {
     /// Creates a finding.
-    ///
-    /// # Errors
-    ///
-    /// Returns `AllocError` if a token number does not fit in 32 bits.
     #[inline]
-    pub fn new(
-        rule: Rule,
-        first: usize,
-        past: usize,
-        message: Message,
-        fix: Option<Fix>,
-    ) -> Result<Finding, AllocError>
-        ensures ok { IfOk result (λ f. f ≡ record {
+    pub fn new(rule: Rule, first: u32, past: u32, message: Message, fix: Option<Fix>) -> Finding
+        ensures { result ≡ record {
           rule = rule;
           first = first;
           past = past;
           message = message;
           fix = fix;
-        }) }
-        ensures err { IfErr result (λ _. is_representable first past message fix ≡ false) }
+        } }
     {
-        let name = name_to_u32(message.name)?;
-        let packed_fix = PackedFix::of(fix)?;
-        let first = to_u32(first)?;
-        let past = to_u32(past)?;
-        Ok(Finding {
+        let name = pack_name(message.name);
+        let packed_fix = PackedFix::of(fix);
+        Finding {
             rule,
             kind: message.kind,
             has_name: message.name.is_some(),
@@ -142,7 +129,7 @@ impl Finding {
             past,
             name,
             packed_fix,
-        })
+        }
     }
 
     /// The rule that found it.
@@ -155,29 +142,25 @@ impl Finding {
 
     /// The number of its first token.
     #[inline]
-    pub fn first(&self) -> usize
+    pub fn first(&self) -> u32
         ensures { result ≡ self.now.first }
     {
-        self.first as usize
+        self.first
     }
 
     /// One more than the number of its last token.
     #[inline]
-    pub fn past(&self) -> usize
+    pub fn past(&self) -> u32
         ensures { result ≡ self.now.past }
     {
-        self.past as usize
+        self.past
     }
 
     /// What it says.
     pub fn message(&self) -> Message
         ensures { result ≡ self.now.message }
     {
-        let name = if self.has_name {
-            Some(self.name as usize)
-        } else {
-            None
-        };
+        let name = if self.has_name { Some(self.name) } else { None };
         Message {
             kind: self.kind,
             name,
@@ -201,7 +184,7 @@ impl Finding {
 
     /// Whether its tokens are tokens of a text that has `count`, and what its fix keeps is in order
     /// and inside of them.
-    pub fn is_valid(&self, count: usize) -> bool
+    pub fn is_valid(&self, count: u32) -> bool
         ensures { result ≡ is_valid count self.now }
     {
         is_valid_at(count, self.first(), self.past(), &self.fix())
@@ -214,11 +197,7 @@ impl Finding {
 /// # Errors
 ///
 /// Returns `AllocError` if memory runs out; then nothing is added.
-pub fn add_finding(
-    found: &mut Vec<Finding>,
-    count: usize,
-    finding: Finding,
-) -> Result<(), AllocError>
+pub fn add_finding(found: &mut Vec<Finding>, count: u32, finding: Finding) -> Result<(), AllocError>
     ensures added { OnOk result
         (found.new.items ≡ found.old.items ++ filter (is_valid count) (finding ∷ [])) }
     ensures kept { OnErr result (found.new.items ≡ found.old.items) }
@@ -229,8 +208,10 @@ pub fn add_finding(
     Ok(())
 }
 
-/// A finding that passes the test of `Finding::is_valid` is valid.
+/// A finding passes the test of `Finding::is_valid` if and only if it is valid.
 pub fn is_valid_is_exact()
-    ensures { (count : ℕ) (finding : Finding) → is_valid count finding ≡ true
+    ensures valid { (count : ℕ) (finding : Finding) → is_valid count finding ≡ true
         → IsValidFinding count finding }
+    ensures passes { (count : ℕ) (finding : Finding) → IsValidFinding count finding
+        → is_valid count finding ≡ true }
 {}

@@ -1,15 +1,13 @@
-//! The packed form of a fix: token numbers have 32 bits.
+//! The packed form of a fix: what it does, and the numbers of the tokens that it keeps.
 
-ghost use Rattle.std.specs.Prelude.{◌≡◌, false, Some, IfOk, IfErr, is_some};
+ghost use Rattle.std.specs.Prelude.{◌≡◌, Some, is_some};
 ghost use Rattle.std.specs.Option.{option_map};
 ghost use Rattle.tf_rules.specs.declared.fix.Fix.TheVariants.{Tokens};
 ghost use Rattle.tf_rules.specs.Findings.{is_fixable};
-ghost use Rattle.tf_rules.specs.Representable.{fits_u32, fits_kept, fits_fix, fits_name};
 ghost use Rattle.tf_rules.specs.Inner.Unpacking.{unpack_kept, unpack_fix, unpack_name};
 ghost use Rattle.tf_rules.specs.Inner.Unpacking.{IsCanonicalRange, IsCanonical, IsCanonicalName};
 
 use crate::fix::{Fix, Insertion, KeptTokens};
-use std::alloc::AllocError;
 
 /// What a fix does, without the numbers of the tokens that it keeps: at most two ranges, each with
 /// what is inserted after it.
@@ -41,51 +39,43 @@ pub struct PackedFix {
     two: PackedRange,
 }
 
-/// Returns a number in 32 bits. A larger one, which no list of tokens reaches, is an `AllocError`.
-pub fn to_u32(number: usize) -> Result<u32, AllocError>
-    ensures ok { IfOk result (λ n. n ≡ number) }
-    ensures err { IfErr result (λ _. fits_u32 number ≡ false) }
-{
-    if number <= u32::MAX as usize {
-        Ok(number as u32)
-    } else {
-        Err(AllocError)
-    }
-}
-
-/// The number of what a message names, 0 where it names nothing.
-pub fn name_to_u32(name: Option<usize>) -> Result<u32, AllocError>
-    ensures ok { IfOk result (λ n. (unpack_name (is_some name) n ≡ name) × IsCanonicalName (is_some name) n) }
-    ensures err { IfErr result (λ _. fits_name name ≡ false) }
+/// Returns the number of what a message names, 0 if it names nothing.
+pub fn pack_name(name: Option<u32>) -> u32
+    ensures unpacks { unpack_name (is_some name) result ≡ name }
+    ensures canonical { IsCanonicalName (is_some name) result }
 {
     match name {
-        None => Ok(0),
-        Some(number) => to_u32(number),
+        None => 0,
+        Some(number) => number,
     }
 }
 
 /// Returns the numbers of what is kept, and what is inserted after it.
-fn pack_kept(kept: Option<KeptTokens>) -> Result<(PackedRange, Option<Insertion>), AllocError>
-    ensures ok { IfOk result
-        (λ s. (option_map (unpack_kept s.0) s.1 ≡ kept) × IsCanonicalRange s.1 s.0) }
-    ensures err { IfErr result (λ _. fits_kept kept ≡ false) }
+fn pack_kept(kept: Option<KeptTokens>) -> (PackedRange, Option<Insertion>)
+    ensures unpacks { option_map (unpack_kept result.0) result.1 ≡ kept }
+    ensures canonical { IsCanonicalRange result.1 result.0 }
 {
-    let Some(kept) = kept else {
-        return Ok((EMPTY_RANGE, None));
-    };
-    let from = to_u32(kept.from)?;
-    let to = to_u32(kept.to)?;
-    Ok((PackedRange { from, to }, Some(kept.after)))
+    match kept {
+        None => (EMPTY_RANGE, None),
+        Some(kept) => {
+            let range = PackedRange {
+                from: kept.from,
+                to: kept.to,
+            };
+            (range, Some(kept.after))
+        }
+    }
 }
 
+/// Returns the tokens that are kept; none are where nothing says what is inserted after them.
 fn unpack_kept(range: PackedRange, after: Option<Insertion>) -> Option<KeptTokens>
     ensures { result ≡ option_map (unpack_kept range) after }
 {
     match after {
         None => None,
         Some(after) => Some(KeptTokens {
-            from: range.from as usize,
-            to: range.to as usize,
+            from: range.from,
+            to: range.to,
             after,
         }),
     }
@@ -102,14 +92,14 @@ fn without_tokens(kind: PackedFixKind) -> PackedFix
     }
 }
 
-fn pack_tokens(before: Insertion, kept: [Option<KeptTokens>; 2]) -> Result<PackedFix, AllocError>
-    ensures ok { IfOk result
-        (λ packed_fix. (unpack_fix packed_fix ≡ Some (Tokens before kept)) × IsCanonical packed_fix) }
-    ensures err { IfErr result (λ _. fits_fix (Some (Tokens before kept)) ≡ false) }
+/// Packs a fix that keeps whole tokens.
+fn pack_tokens(before: Insertion, kept: [Option<KeptTokens>; 2]) -> PackedFix
+    ensures unpacks { unpack_fix result ≡ Some (Tokens before kept) }
+    ensures canonical { IsCanonical result }
 {
-    let (one, after_one) = pack_kept(kept[0])?;
-    let (two, after_two) = pack_kept(kept[1])?;
-    Ok(PackedFix {
+    let (one, after_one) = pack_kept(kept[0]);
+    let (two, after_two) = pack_kept(kept[1]);
+    PackedFix {
         kind: PackedFixKind::Tokens {
             before,
             one: after_one,
@@ -117,18 +107,18 @@ fn pack_tokens(before: Insertion, kept: [Option<KeptTokens>; 2]) -> Result<Packe
         },
         one,
         two,
-    })
+    }
 }
 
 impl PackedFix {
-    /// Packs a fix. A number that does not fit in 32 bits is an `AllocError`.
-    pub fn of(fix: Option<Fix>) -> Result<PackedFix, AllocError>
-        ensures ok { IfOk result (λ packed_fix. (unpack_fix packed_fix ≡ fix) × IsCanonical packed_fix) }
-        ensures err { IfErr result (λ _. fits_fix fix ≡ false) }
+    /// Packs a fix.
+    pub fn of(fix: Option<Fix>) -> PackedFix
+        ensures unpacks { unpack_fix result ≡ fix }
+        ensures canonical { IsCanonical result }
     {
         match fix {
-            None => Ok(without_tokens(PackedFixKind::Nothing)),
-            Some(Fix::CommentMarker) => Ok(without_tokens(PackedFixKind::CommentMarker)),
+            None => without_tokens(PackedFixKind::Nothing),
+            Some(Fix::CommentMarker) => without_tokens(PackedFixKind::CommentMarker),
             Some(Fix::Tokens { before, kept }) => pack_tokens(before, kept),
         }
     }

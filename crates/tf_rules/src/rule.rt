@@ -64,6 +64,7 @@ pub struct RuleInfo {
     pub description: &'static str,
 }
 
+/// Returns a row of the table.
 const fn rule_info(
     name: &'static str,
     severity: Severity,

@@ -6,12 +6,14 @@ ghost use Rattle.tf_rules.specs.Inner.SnakeCaseRest.{is_valid_next, is_valid_res
 
 use crate::snake_units::past_units;
 
+/// Whether a byte is a lower-case ASCII letter.
 fn is_lower(c: u8) -> bool
     ensures { result ≡ is_lower c }
 {
     c >= b'a' && c <= b'z'
 }
 
+/// Whether a byte is a lower-case ASCII letter or a digit.
 fn is_lower_or_digit(c: u8) -> bool
     ensures { result ≡ is_lower_or_digit c }
 {
@@ -25,6 +27,7 @@ fn is_valid_next(after_underscore: bool, c: u8) -> bool
     is_lower_or_digit(c) || (c == b'_' && !after_underscore)
 }
 
+/// Whether these bytes may end a name. `after_first` says that an underscore is before them.
 fn is_valid_rest(after_first: bool, rest: &[u8]) -> bool
     ensures { result ≡ is_valid_rest after_first rest.now }
 {

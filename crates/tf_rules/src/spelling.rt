@@ -7,17 +7,17 @@ ghost use Rattle.tf_rules.specs.Spelling.{token_text, name_text};
 use hcl_scan::Scanned;
 
 /// The spelling of a token; nothing where there is no such token.
-pub fn token_text<'t>(scanned: &Scanned<'t>, n: usize) -> &'t [u8]
+pub fn token_text<'t>(scanned: &Scanned<'t>, n: u32) -> &'t [u8]
     ensures { result.now ≡ token_text scanned.now.pairs n }
 {
-    if n >= scanned.len() {
+    if n >= scanned.count() {
         return b"";
     }
-    scanned.spelling(n)
+    scanned.spelling(n as usize)
 }
 
 /// The spelling of a name that may have no token, as that of the label `""`.
-pub fn name_text<'t>(scanned: &Scanned<'t>, name: Option<usize>) -> &'t [u8]
+pub fn name_text<'t>(scanned: &Scanned<'t>, name: Option<u32>) -> &'t [u8]
     ensures { result.now ≡ name_text scanned.now.pairs name }
 {
     match name {
@@ -26,6 +26,7 @@ pub fn name_text<'t>(scanned: &Scanned<'t>, name: Option<usize>) -> &'t [u8]
     }
 }
 
+/// Whether the spelling of a token is this one, byte for byte.
 pub fn is_spelled(spelling: &[u8], expected: &[u8]) -> bool
     ensures { result ≡ bytes_eq spelling.now expected.now }
 {

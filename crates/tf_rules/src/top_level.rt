@@ -11,6 +11,7 @@ use hcl_grammar::tree::{Block, Member, Tree};
 use hcl_scan::Scanned;
 use std::alloc::AllocError;
 
+/// Adds what the rules of the set find at a block of a text's body.
 fn check_block(
     cx: &LintContext<'_, '_>,
     b: &Block,
@@ -26,6 +27,7 @@ fn check_block(
     Ok(())
 }
 
+/// Adds what they find at a member of a text's body: nothing at an attribute.
 fn check_member(
     cx: &LintContext<'_, '_>,
     m: &Member,
@@ -42,6 +44,7 @@ fn check_member(
     }
 }
 
+/// Adds what they find at these members, from the first to the last.
 fn check_members(
     cx: &LintContext<'_, '_>,
     members: &[Member],
@@ -92,7 +95,8 @@ pub fn add_top_level_member_findings(
 ) -> Result<(), AllocError>
     ensures { OnOk result
         (found.new.items ≡ found.old.items
-        ++ valid_findings (length scanned.now.pairs) (top_level_member_findings rules scanned.now.pairs m.now)) }
+        ++ valid_findings (length scanned.now.pairs)
+        (top_level_member_findings rules scanned.now.pairs m.now)) }
 {
     check_member(&LintContext { scanned, rules }, m, found)
 }

@@ -13,8 +13,8 @@ use hcl_scan::Scanned;
 /// line comment.
 #[derive(Clone, Copy)]
 pub struct Unbroken {
-    pub first: usize,
-    pub past: usize,
+    pub first: u32,
+    pub past: u32,
 }
 
 impl Unbroken {
@@ -29,12 +29,12 @@ impl Unbroken {
 /// Returns the number of the first line end or line comment among the tokens, or the number after
 /// the last of them.
 #[tactic(auto, using(crate::proofs::UnbrokenLemmas::one_more, crate::proofs::UnbrokenLemmas::fewer))]
-fn first_break(scanned: &Scanned<'_>, first: usize, past: usize) -> usize
+fn first_break(scanned: &Scanned<'_>, first: u32, past: u32) -> u32
     ensures { AreUnbroken scanned.now.pairs first result }
 {
-    let end = past.min(scanned.len());
+    let end = past.min(scanned.count());
     for i in first..end {
-        if is_line_break(true, scanned.kind(i)) {
+        if is_line_break(true, scanned.kind(i as usize)) {
             return i;
         }
     }
@@ -42,7 +42,7 @@ fn first_break(scanned: &Scanned<'_>, first: usize, past: usize) -> usize
 }
 
 /// Returns the known tokens, or, if token `first` is after them or before, those from it on.
-fn unbroken_from(scanned: &Scanned<'_>, known: Unbroken, first: usize, past: usize) -> Unbroken
+fn unbroken_from(scanned: &Scanned<'_>, known: Unbroken, first: u32, past: u32) -> Unbroken
     requires { AreUnbroken scanned.now.pairs known.first known.past }
     ensures { AreUnbroken scanned.now.pairs result.first result.past }
 {
@@ -61,8 +61,8 @@ pub fn has_line_break_beyond(
     unbroken: &mut Unbroken,
     scanned: &Scanned<'_>,
     count_comments: bool,
-    first: usize,
-    past: usize,
+    first: u32,
+    past: u32,
 ) -> bool
     requires { AreUnbroken scanned.now.pairs unbroken.old.first unbroken.old.past }
     ensures value { result ≡ has_line_break count_comments 0 (token_range scanned.now.pairs first past) }

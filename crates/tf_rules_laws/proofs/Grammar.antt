@@ -21,7 +21,7 @@ use Rattle.hcl_grammar.specs.declared.tree.Term.{Term}
 use Rattle.hcl_grammar_laws.specs.NodeSpans as g
 use Rattle.tf_rules.specs.declared.role.Role.{Role}
 use Rattle.tf_rules.specs.declared.role.Role.TheVariants.{Element, Argument, Elsewhere}
-use Rattle.tf_rules.specs.TreeLayers.{ExprKindLayer, PrimaryLayer, TailLayer, PartLayer, ContentLayer, MemberLayer}
+use Rattle.hcl_grammar.specs.TreeLayers.{ExprKindLayer, PrimaryLayer, TailLayer, PartLayer, ContentLayer, MemberLayer}
 use Rattle.tf_rules.specs.Preorder as nodes
 use Rattle.tf_rules.specs.Preorder.{Node, IsPreorder, expr, term, tail, part, member, children, nodes_of_tails, splat_after, expr_kind_children, elem_children, filter_children, primary_children, tail_children, else_children, part_children, option_children, content_children, member_children}
 use Rattle.tf_rules_laws.specs.NodeLists.{IsSameNode, same_expr, same_term, same_if, same_for, same_attribute, same_block, IsAmong, here, there, EveryVisitedNodeIsInGrammar}

@@ -1,4 +1,4 @@
--- In the tree of a text each finding that a rule names is sound, so the test drops none.
+-- In the tree of a text each finding that a rule names is valid, so the test drops none.
 use Rattle.std.proofs.Common.{◌≡◌, ℕ, zero, suc, ◌+◌, ◌-◌, ◌<◌, ◌≤◌, nat_lt, nat_le, not, ◌&&◌, ◌||◌, Bool, true, false, List, [], ◌∷◌, ◌++◌, map, length, slice_get, Option, Some, None, refl, ap, ◌∙◌, subst, arith, codes}
 use Rattle.std.specs.Prelude.{if◌then◌else◌}
 use Rattle.std.specs.List.{flat_map}
@@ -24,11 +24,12 @@ use Rattle.hcl_grammar_laws.specs.NodeSpans.{NodesSpanTheirTokens, Derives}
 use Rattle.hcl_grammar.specs.declared.bounds.TheConstants.{MAX_NESTING}
 use Rattle.hcl_scan.specs.Follows.{tokens_of}
 use Rattle.hcl_token.specs.Tokens.{Pair}
+use Rattle.hcl_token.specs.declared.kind.Kind.TheVariants.{DotIndex}
 use Rattle.tf_rules.specs.declared.role.Role.{Role}
 use Rattle.tf_rules.specs.Rules.Equality.{is_equality, is_equal, is_empty_list, is_comparison_fixable, length_fix, operation_findings, chain_findings, equality_findings}
 use Rattle.tf_rules.specs.Rules.Index.{index_findings}
 use Rattle.tf_rules.specs.Rules.Interpolation.{sole_interpolation, is_object_key, is_interpolation_fixable, interpolation_findings}
-use Rattle.tf_rules.specs.TreeLayers.{ExprKindLayer, PrimaryLayer, TailLayer}
+use Rattle.hcl_grammar.specs.TreeLayers.{ExprKindLayer, PrimaryLayer, TailLayer}
 use Rattle.tf_rules.specs.Arguments.{two_arguments}
 use Rattle.tf_rules.specs.Rules.Lookup.{is_lookup, is_lookup_fixable, pair_findings, lookup_findings}
 use Rattle.tf_rules.specs.NodeFindings.{node_findings}
@@ -49,14 +50,14 @@ use Rattle.tf_rules.specs.declared.fix.Fix.TheVariants.{CommentMarker}
 use Rattle.tf_rules.specs.declared.fix.Insertion.TheVariants.{Nothing, Index, OpenBracket, CloseBracket}
 use Rattle.tf_rules.specs.RuleSets.{has_rule}
 use Rattle.tf_rules.specs.Attributes.{layer_attribute, member_attributes, layer_attributes, attributes, has_attribute}
-use Rattle.tf_rules.specs.TreeLayers.{ContentLayer, MemberLayer}
+use Rattle.hcl_grammar.specs.TreeLayers.{ContentLayer, MemberLayer}
 use Rattle.tf_rules.specs.Rules.Missing.{is_undocumented, missing_finding, undocumented_findings, missing_findings}
 use Rattle.tf_rules.specs.Rules.Naming.{naming_finding, label_findings, declared_name, declared_findings, local_findings}
 use Rattle.tf_rules.specs.SnakeCase.{is_snake_case}
 use Rattle.tf_rules.specs.TopLevelFindings.{top_level_layer_findings, top_level_member_findings}
 use Rattle.tf_rules.specs.Spelling.{token_text, name_text}
 use Rattle.tf_rules_laws.proofs.Grammar.{Each, first_each, last_each, both_each, Seen, an_expr, a_term, a_tail, Closed, all_visited, inside_in_preorder, members}
-use Rattle.tf_rules_laws.proofs.Order.{Rising, IsLegacyWithin, term_sits, expr_sits, chain_in, tails_in, five_in, call_in, label_within, name_on_line, name_within, word_within}
+use Rattle.tf_rules_laws.proofs.Order.{Rising, IsLegacyToken, kind_within, term_sits, expr_sits, chain_in, tails_in, five_in, call_in, label_within, name_on_line, name_within, word_within}
 use Rattle.tf_rules_laws.specs.NothingDropped.{NoFindingIsDropped}
 
 -- ---- the test
@@ -205,9 +206,9 @@ module _ (rules : RuleSet) (pairs : List Pair) (ts : List Token) (count : length
   lookup_kept t w (Primary-F.Heredoc x) h = none
   lookup_kept t w (Primary-F.Parens e) h = none
 
-  index_kept : (splat : Bool) (x : Tail) → IsLegacyWithin ts x → (l : TailLayer) → out-Tail x ≡ l → AreKept (length pairs) (index_findings pairs splat l)
+  index_kept : (splat : Bool) (x : Tail) → IsLegacyToken ts x → (l : TailLayer) → out-Tail x ≡ l → AreKept (length pairs) (index_findings pairs splat l)
   index_kept splat x w (Tail-F.LegacyIndex n) h =
-      let b = w n h in
+      let b = kind_within ts n DotIndex (w n h) in
       keep (length pairs) DeprecatedIndex n (n + 1) plain_message _ (omega arith) (omega (arith, b, count)) (fits n (n + 1) (not splat) (insert_only Index) (indexed n))
   index_kept splat x w (Tail-F.Name n) h = none
   index_kept splat x w Tail-F.AttributeSplat h = none
@@ -222,7 +223,7 @@ module _ (rules : RuleSet) (pairs : List Pair) (ts : List Token) (count : length
       append (choose (has_rule rules DeprecatedInterpolation) (interpolation_kept role t w (sole_interpolation (out-Primary t.kind)) refl) none)
       (choose (has_rule rules DeprecatedLookup) (lookup_kept t w (out-Primary t.kind) refl) none)
 
-  tails_of : (e : Expr) → Derives ts (g.expr e) → (t : Term) (xs : List Tail) → out-ExprKind e.kind ≡ ExprKind-F.Postfix t xs → Each (IsLegacyWithin ts) xs
+  tails_of : (e : Expr) → Derives ts (g.expr e) → (t : Term) (xs : List Tail) → out-ExprKind e.kind ≡ ExprKind-F.Postfix t xs → Each (IsLegacyToken ts) xs
   tails_of e (g.is_expr w) t xs h = tails_in w t xs h
 
   -- ---- blocks
@@ -257,7 +258,7 @@ module _ (rules : RuleSet) (pairs : List Pair) (ts : List Token) (count : length
   labelled_kept : (b : Block) (o : Option Label) → b.block_type < length pairs → AreKept (length pairs) (missing_findings rules pairs b o)
   labelled_kept b None h = none
   labelled_kept b (Some l) h =
-      append (choose (has_rule rules TypedVariables && (bytes_eq (token_text pairs b.block_type) (codes "variable") && not (has_attribute pairs (codes "type") false (attributes b))))
+      append (choose (has_rule rules TypedVariables && (bytes_eq (token_text pairs b.block_type) (codes "variable") && not (has_attribute pairs (codes "type") (attributes b))))
       (missing_kept TypedVariables b l.name h) none)
       (append (undocumented_kept DocumentedVariables (codes "variable") b l h) (undocumented_kept DocumentedOutputs (codes "output") b l h))
 
@@ -313,14 +314,14 @@ module _ (rules : RuleSet) (pairs : List Pair) (ts : List Token) (count : length
     members_kept [] a = tt
     members_kept (m ∷ ms) a = (member_kept (out-Member m) a.0, members_kept ms a.1)
 
-    node_kept : (n : Node) → Seen S (IsLegacyWithin ts) n → AreKept (length pairs) (node_findings rules pairs n)
+    node_kept : (n : Node) → Seen S (IsLegacyToken ts) n → AreKept (length pairs) (node_findings rules pairs n)
     node_kept (expr p e) (an_expr s) = expr_kept p e (each (g.expr e) s)
     node_kept (term p t) (a_term s) = term_kept p t (each (g.term t) s)
     node_kept (tail splat x) (a_tail w a) = choose (has_rule rules DeprecatedIndex) (index_kept splat x w (out-Tail x) refl) none
     node_kept (part x) s = none
     node_kept (member m) s = none
 
-    closed : Closed S (IsLegacyWithin ts)
+    closed : Closed S (IsLegacyToken ts)
     closed = record { inside = inside_in_preorder root; tails = λ e t xs h s. tails_of e (each (g.expr e) s) t xs h }
 
 count_tokens : (pairs : List Pair) → length (tokens_of pairs) ≡ length pairs
@@ -336,9 +337,9 @@ none_dropped each_node text tree parses rules nodes is_in_preorder =
     let each = each_node ts MAX_NESTING tree parses.derived in
     let shut = closed rules pairs ts count root each in
     let inside = inside_in_preorder root root g.itself in
-    let roots = members (S rules pairs ts count root each) (IsLegacyWithin ts) shut tree.body.members inside in
-    let seen = all_visited (S rules pairs ts count root each) (IsLegacyWithin ts) shut is_in_preorder roots in
+    let roots = members (S rules pairs ts count root each) (IsLegacyToken ts) shut tree.body.members inside in
+    let seen = all_visited (S rules pairs ts count root each) (IsLegacyToken ts) shut is_in_preorder roots in
     let at_nodes = mapped (node_findings rules pairs) nodes
-    (each_implies (Seen (S rules pairs ts count root each) (IsLegacyWithin ts)) (λ n. AreKept (length pairs) (node_findings rules pairs n)) (node_kept rules pairs ts count root each) nodes seen) in
+    (each_implies (Seen (S rules pairs ts count root each) (IsLegacyToken ts)) (λ n. AreKept (length pairs) (node_findings rules pairs n)) (node_kept rules pairs ts count root each) nodes seen) in
     let at_blocks = mapped (top_level_member_findings rules pairs) tree.body.members (members_kept rules pairs ts count root each tree.body.members inside) in
     (append at_nodes (append at_blocks (choose (has_rule rules CommentSyntax) (comments_kept pairs 0 pairs (omega arith)) none))).is

@@ -1,5 +1,7 @@
 -- The tokens of what the rules name in a derived node are in order, within the text.
-use Rattle.std.proofs.Common.{◌≡◌, ℕ, suc, ◌+◌, ◌<◌, ◌≤◌, Bool, true, false, List, [], ◌∷◌, length, slice_get, Option, Some, sym, ap, ◌∙◌, subst, arith}
+use Rattle.std.proofs.Common.{◌≡◌, ℕ, zero, suc, ◌+◌, ◌<◌, ◌≤◌, Bool, true, false, List, [], ◌∷◌, length, slice_get, Option, Some, sym, ap, ◌∙◌, subst, arith}
+use Rattle.std.specs.Option.{option_map}
+use Rattle.hcl_token.specs.declared.kind.Kind.{Kind}
 use Rattle.hcl_token.specs.declared.kind.Kind.TheVariants as k
 use Rattle.hcl_grammar.specs.declared.tree.Attribute.{Attribute}
 use Rattle.hcl_grammar.specs.declared.tree.Block.{Block}
@@ -23,8 +25,9 @@ use Rattle.hcl_grammar.specs.declared.tree.Template.{Template}
 use Rattle.hcl_grammar.specs.declared.tree.Term.{Term}
 use Rattle.hcl_grammar.specs.Bodies.{IsLabels, word_label, text_label, empty_label, IsOneLineBody, nothing, one as just, IsMembers, no_members, blank, attribute, block, line_block}
 use Rattle.hcl_grammar.specs.Grammar.{IsExpr, plain, conditional, IsLevel, lowest, level, IsOperations, no_operations, operation, IsUnary, with_operator, post, IsTails, no_tails, tails, IsTail, by_name, legacy, attribute_splat, full_splat, index, IsTerm, number, identifier, call, tuple, object, for_tuple, for_object, quoted, heredoc, parens, IsArguments, no_arguments, last_argument, spread_argument, argument, IsParts, no_parts, parts, IsPart, quote_text, here_text, interp, if_directive, for_directive}
+use Rattle.hcl_grammar.specs.Lookahead.{NextIs}
 use Rattle.hcl_grammar.specs.Nodes as node
-use Rattle.hcl_grammar.specs.Tokens.{Token, next_index, after_next, first_token_in}
+use Rattle.hcl_grammar.specs.Tokens.{Token, next_index, next_token, next_kind, after_next, first_token_in}
 use Rattle.hcl_grammar_laws.proofs.Opens.{open_conditional, open_chain, open_prefixed, open_tailed, open_plain, open_number, open_identifier, open_call, open_tuple, open_object, open_for_tuple, open_for_object, open_quoted, open_heredoc, open_parens, open_name, open_legacy, open_attribute_splat, open_full_splat, open_index, open_literal, open_if, open_for, call_arguments}
 use Rattle.hcl_grammar_laws.proofs.Placed.{placed_term, placed_level, placed_expr}
 use Rattle.hcl_grammar_laws.proofs.Restart.{own_term}
@@ -42,7 +45,7 @@ follows : (ts : List Token) (m : Bool) (i : ℕ) → suc (next_index ts m i) ≤
 unfolding after_next
 follows ts m i = omega arith
 
--- what is from number first up to past, among the tokens from place i up to place j
+-- what is from number `first` up to `past`, among the tokens from place i up to place j
 pub record Sits (ts : List Token) (i j first past : ℕ) : Type 0 where
   pub begun : i ≤ first
   pub some : first < past
@@ -68,9 +71,23 @@ pub record Ordered (i j : ℕ) (a b : Expr) : Type 0 where
   pub right : b.first < b.past
   pub ended : b.past ≤ j
 
--- the token of a legacy index is one of the text
-abbrev pub IsLegacyWithin : List Token → Tail → Type 0
-IsLegacyWithin ts x = (n : ℕ) → out-Tail x ≡ Tail-F.LegacyIndex n → n < length ts
+-- the kind of a token
+abbrev pub kind_at : List Token → ℕ → Option Kind
+kind_at ts n = option_map (λ (t : Token). t.0) (slice_get ts n)
+
+-- a tail that is a legacy index has the number of a token of that kind
+abbrev pub IsLegacyToken : List Token → Tail → Type 0
+IsLegacyToken ts x = (n : ℕ) → out-Tail x ≡ Tail-F.LegacyIndex n → kind_at ts n ≡ Some k.DotIndex
+
+next_kind_at : (ts : List Token) (m : Bool) (t : Kind) (i : ℕ) → NextIs ts m t i → kind_at ts (next_index ts m i) ≡ Some t
+unfolding next_kind next_token
+next_kind_at ts m t i h = h
+
+-- such a token is one of the text
+pub kind_within : (ts : List Token) (n : ℕ) (t : Kind) → kind_at ts n ≡ Some t → n < length ts
+kind_within [] n t h = absurd (cc)
+kind_within (x ∷ ts) zero t h = omega arith
+kind_within (x ∷ ts) (suc n) t h = let l = kind_within ts n t h in omega (arith, l)
 
 abbrev rolled_call : List ℕ → List Expr → Bool → Call
 rolled_call names es expand_final = roll-Call (record { names = names; arguments = es; expand_final = expand_final })
@@ -164,37 +181,36 @@ module _ {ts : List Token} where
 
   -- ---- tails
 
-  tail_within : {d : ℕ} {m : Bool} {x : Tail} {i j : ℕ} → IsTail ts d m x i j → IsLegacyWithin ts x
-  tail_within (by_name {m} {i} p q) n h = let f = open_name (next_index ts m (after_next ts m i)) in absurd (cc)
-  tail_within (legacy {m} {i} p) n h =
+  tail_legacy : {d : ℕ} {m : Bool} {x : Tail} {i j : ℕ} → IsTail ts d m x i j → IsLegacyToken ts x
+  tail_legacy (by_name {m} {i} p q) n h = let f = open_name (next_index ts m (after_next ts m i)) in absurd (cc)
+  tail_legacy (legacy {m} {i} p) n h =
       let f = open_legacy (next_index ts m i) in
       let same : next_index ts m i ≡ n = cc in
-      let s = step ts m k.DotIndex i p in let b = follows ts m i in
-      omega (arith, same, s.within, b)
-  tail_within (attribute_splat p q) n h = let f = open_attribute_splat in absurd (cc)
-  tail_within (full_splat p q c) n h = let f = open_full_splat in absurd (cc)
-  tail_within (index {e} p x q) n h = let f = open_index e in absurd (cc)
+      subst (λ (z : ℕ). kind_at ts z ≡ Some k.DotIndex) same (next_kind_at ts m k.DotIndex i p)
+  tail_legacy (attribute_splat p q) n h = let f = open_attribute_splat in absurd (cc)
+  tail_legacy (full_splat p q c) n h = let f = open_full_splat in absurd (cc)
+  tail_legacy (index {e} p x q) n h = let f = open_index e in absurd (cc)
 
-  tails_within : {d : ℕ} {m : Bool} {xs : List Tail} {i j : ℕ} → IsTails ts d m xs i j → Each (IsLegacyWithin ts) xs
-  tails_within no_tails = tt
-  tails_within (tails x xs) = (tail_within x, tails_within xs)
+  tails_legacy : {d : ℕ} {m : Bool} {xs : List Tail} {i j : ℕ} → IsTails ts d m xs i j → Each (IsLegacyToken ts) xs
+  tails_legacy no_tails = tt
+  tails_legacy (tails x xs) = (tail_legacy x, tails_legacy xs)
 
-  tails_unary : {d : ℕ} {m : Bool} {e : Expr} {i j : ℕ} → IsUnary ts d m e i j → (t : Term) (xs : List Tail) → out-ExprKind e.kind ≡ ExprKind-F.Postfix t xs → Each (IsLegacyWithin ts) xs
+  tails_unary : {d : ℕ} {m : Bool} {e : Expr} {i j : ℕ} → IsUnary ts d m e i j → (t : Term) (xs : List Tail) → out-ExprKind e.kind ≡ ExprKind-F.Postfix t xs → Each (IsLegacyToken ts) xs
   unfolding node.expr
   tails_unary (with_operator {op} {e = x} p o w) t xs h = let f = open_prefixed op x in absurd (cc)
   tails_unary (post {head = u} p no_tails) t xs h = let f = open_plain u in absurd (cc)
   tails_unary (post {head = u} p (tails {x} {xs = ys} w ws)) t xs h =
       let f = open_tailed u (x ∷ ys) in
       let same : (x ∷ ys) ≡ xs = cc in
-      subst (Each (IsLegacyWithin ts)) same (tails_within (tails w ws))
+      subst (Each (IsLegacyToken ts)) same (tails_legacy (tails w ws))
 
-  tails_level : {d : ℕ} {m : Bool} {n : ℕ} {e : Expr} {i j : ℕ} → IsLevel ts d m n e i j → (t : Term) (xs : List Tail) → out-ExprKind e.kind ≡ ExprKind-F.Postfix t xs → Each (IsLegacyWithin ts) xs
+  tails_level : {d : ℕ} {m : Bool} {n : ℕ} {e : Expr} {i j : ℕ} → IsLevel ts d m n e i j → (t : Term) (xs : List Tail) → out-ExprKind e.kind ≡ ExprKind-F.Postfix t xs → Each (IsLegacyToken ts) xs
   unfolding node.expr
   tails_level (lowest p) t xs h = tails_unary p t xs h
   tails_level (level p no_operations) t xs h = tails_level p t xs h
   tails_level (level {head = x} p (operation {op} {x = y} {links} q o w ws)) t xs h = let f = open_chain x (node.operation op y ∷ links) in absurd (cc)
 
-  pub tails_in : {d : ℕ} {m : Bool} {e : Expr} {i j : ℕ} → IsExpr ts d m e i j → (t : Term) (xs : List Tail) → out-ExprKind e.kind ≡ ExprKind-F.Postfix t xs → Each (IsLegacyWithin ts) xs
+  pub tails_in : {d : ℕ} {m : Bool} {e : Expr} {i j : ℕ} → IsExpr ts d m e i j → (t : Term) (xs : List Tail) → out-ExprKind e.kind ≡ ExprKind-F.Postfix t xs → Each (IsLegacyToken ts) xs
   unfolding node.expr
   tails_in (plain p) t xs h = tails_level p t xs h
   tails_in (conditional {c} {then_branch} {else_branch} p q x s y) t xs h = let f = open_conditional c then_branch else_branch in absurd (cc)

@@ -27,7 +27,7 @@ use Rattle.hcl_grammar.specs.declared.tree.Term.{Term}
 use Rattle.hcl_grammar_laws.specs.NodeSpans as g
 use Rattle.tf_rules.specs.declared.role.Role.{Role}
 use Rattle.tf_rules.specs.declared.role.Role.TheVariants.{AttributeValue, Element, Argument, Elsewhere}
-use Rattle.tf_rules.specs.TreeLayers.{ExprKindLayer, PrimaryLayer, TailLayer, PartLayer, ContentLayer, MemberLayer}
+use Rattle.hcl_grammar.specs.TreeLayers.{ExprKindLayer, PrimaryLayer, TailLayer, PartLayer, ContentLayer, MemberLayer}
 use Rattle.tf_rules.specs.Preorder.{Node, expr, term, tail, part, member, children, nodes_of_tails, splat_after, expr_kind_children, elem_children, filter_children, primary_children, tail_children, else_children, if_children, part_children, content_children, member_children}
 use Rattle.tf_rules_laws.proofs.Inside as inside
 use Rattle.tf_rules_laws.proofs.Inside.{In, AllIn, first_all, last_all, roots_in, parts_in}

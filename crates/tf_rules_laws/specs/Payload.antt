@@ -20,7 +20,7 @@ use Rattle.hcl_grammar.specs.declared.tree.Primary.{out-Primary}
 use Rattle.hcl_grammar.specs.declared.tree.Tail.{out-Tail}
 use Rattle.hcl_grammar.specs.declared.tree.Template.{Template}
 use Rattle.tf_rules.specs.declared.role.Role.{Role}
-use Rattle.tf_rules.specs.TreeLayers.{ExprKindLayer, PrimaryLayer, TailLayer, PartLayer, ContentLayer, MemberLayer}
+use Rattle.hcl_grammar.specs.TreeLayers.{ExprKindLayer, PrimaryLayer, TailLayer, PartLayer, ContentLayer, MemberLayer}
 use Rattle.tf_rules.specs.Preorder.{Node, expr, term, tail, part, member, children, IsPreorder}
 
 -- Something that a node has of its own: there is no tree in it.

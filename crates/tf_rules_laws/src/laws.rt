@@ -3,6 +3,8 @@
 ghost use Rattle.tf_rules_laws.specs.NodeLists.{EveryNodeIsVisited, EveryVisitedNodeIsInGrammar};
 ghost use Rattle.tf_rules_laws.specs.Payload.{ChildrenAreComplete, PreorderDeterminesTree};
 ghost use Rattle.tf_rules_laws.specs.NothingDropped.{NoFindingIsDropped};
+ghost use Rattle.tf_rules_laws.specs.LegacyIndices.{LegacyIndicesAreAll, LegacyIndicesAreTokens};
+ghost use Rattle.tf_rules_laws.specs.Roles.{RolesAreRight};
 
 /// A node is determined by its own data and its children: the list of children leaves none out.
 pub fn children_are_complete()
@@ -24,6 +26,29 @@ pub fn every_node_is_visited()
 pub fn every_visited_node_is_in_grammar()
     ensures { EveryVisitedNodeIsInGrammar }
 {}
+
+/// The expressions and terms in a node have the roles that they have in the syntax tree, and no
+/// other: the whole value of an attribute, an element of a tuple, a key, and so on; and a tail says
+/// whether `.*` precedes it, with only names and legacy indices in between.
+pub fn roles_are_right()
+    ensures { RolesAreRight }
+{}
+
+/// In a text that parses, each legacy index that the rules visit has the number of a token of that
+/// kind.
+pub fn legacy_indices_are_tokens()
+    ensures { LegacyIndicesAreTokens }
+{
+    hcl_grammar_laws::laws::nodes_span_their_tokens();
+}
+
+/// In a text that parses, the legacy indices among its tokens are those that the rules visit, each
+/// once and in order.
+pub fn legacy_indices_are_all()
+    ensures { LegacyIndicesAreAll }
+{
+    tf_findings::laws::preorder_is_unique();
+}
 
 /// Over a text that parses, what the rules find is all that they name: the test of a finding's
 /// numbers drops none.

@@ -81,7 +81,11 @@ impl Step {
     /// The first step of a save.
     pub const SAVE: Step = Step::OpenJournal;
 
-    /// Returns the call to make, or the end.
+    /// Returns the call to make.
+    ///
+    /// # Errors
+    ///
+    /// The end, where no call is left; it is not always a failure (`End::Success`).
     pub fn call(self) -> Result<Syscall, End>
         ensures call { result ≡ call_of self }
         ensures more { IfOk result (λ call. 0 < calls_left self) }

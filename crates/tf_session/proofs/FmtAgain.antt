@@ -1,4 +1,4 @@
--- The layout that a fmt puts on has the tokens of the text below, and is its own.
+-- The layout that a fmt pushes has the tokens of the text below, and is its own.
 use Rattle.std.proofs.Common.{◌≡◌, ◌∙◌, ℕ, List, ◌∷◌, Bool, true, false, Result, Ok, Err, refl, sym, ap, subst}
 use Rattle.std.proofs.lemmas.Slice.Eq.{bytes_eq-Decides}
 use Rattle.std.proofs.lemmas.Bool.{not-false}
@@ -13,7 +13,7 @@ use Rattle.tf_session.specs.Formatting.{Formats, FmtRewrites}
 use Rattle.tf_session.specs.Machine.{Stack, done, push_text, PushesText}
 use Rattle.tf_session.specs.FmtLaws.{FmtKeepsTokens, FmtIsIdempotent}
 
--- what a fmt that answered Done put on
+-- what a fmt that returned Done pushed
 record FmtPushes (old : Stack) (d : Done) (new : Stack) : Type 0 where
   made : Rewrite
   formats : Formats old.top made
@@ -21,7 +21,7 @@ record FmtPushes (old : Stack) (d : Done) (new : Stack) : Type 0 where
   replied : d ≡ done (texts_differ old.top made.text) 0 0
   put : new ≡ push_text Fmt made.text old
 
--- the top is the text that was put on, whether it differs or not
+-- the top is the text that was pushed, whether it differs or not
 on_top : (b : Bool) (text : List ℕ) (old new : Stack) → texts_differ old.top text ≡ b → new ≡ push_text Fmt text old → new.top ≡ text
 on_top true text old new e h =
     let put : push_text Fmt text old ≡ record { top = text; below = (record { text = old.top; command = Fmt }) ∷ old.below } = rw e refl in

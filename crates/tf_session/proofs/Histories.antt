@@ -15,13 +15,13 @@ use Rattle.tf_session.specs.declared.command.Command.{Command}
 use Rattle.tf_session.specs.declared.command.Command.TheVariants.{Fmt, Fix, Revert, Take}
 use Rattle.tf_session.specs.declared.command.Done.{Done}
 use Rattle.tf_session.specs.declared.command.Fault.{Fault}
-use Rattle.tf_session.specs.declared.command.Fault.TheVariants.{Scan, Parse, FixBroken, TooLong, NoRecord, Memory, Blocked}
+use Rattle.tf_session.specs.declared.command.Fault.TheVariants.{NoRecord, Memory}
 use Rattle.tf_lint.specs.Steps.{Rewrite, texts_differ}
 use Rattle.tf_session.specs.Rewrites.{Rewrites, is_memory_fault}
 use Rattle.tf_lint.specs.ParseFaults.{IsUtf8WithinLimit}
 use Rattle.tf_session.specs.Machine.{done}
-use Rattle.tf_session.specs.RemovingRecord.{RemovesRecord, FailsAfter, UndoFails, RefusesRemoval}
-use Rattle.tf_session.specs.RemovingRecord.RefusesRemoval.{no_record, blocked, too_long, lengths_differ, not_undone, memory}
+use Rattle.tf_session.specs.RemovingRecord.{RemovesRecord, FailsAfter, UndoFails, RefusesTake}
+use Rattle.tf_session.specs.RemovingRecord.RefusesTake.{no_record, blocked, too_long, lengths_differ, not_undone, memory}
 use Rattle.tf_session.specs.Layers.{Layer, History, last_text, top_text, record_of, records_in, LayersAreConsistent, IsHistory, PushesLayer, HistoryStep, HistoryStepOrMemory, HistoryRun}
 use Rattle.tf_session.specs.Records.{HasWord, AddsRecordOf, RevertsLast, DoesStep, RefusesRevert, RefusesStep}
 use Rattle.tf_session.proofs.JournalOne.{TransformLengths}
@@ -108,7 +108,7 @@ turns_at (suc k) next (b ∷ bs) t v a all =
     let h = turns_at k next bs all.0 v a all.2 in
     (h.0, (all.0, all.1, h.1), h.2, h.3)
 
--- where texts go by all the lists, their lengths follow
+-- if the lists transform texts in order, no length is a mismatch
 pub follows : MoveToEndIsUnique → TransformLengths → (a : EditList) (bs : List EditList) (k expected found : ℕ) (t u v : List ℕ) → Transforms a t u → TransformsInOrder Transforms bs u v → FailsAt a bs k (λ n b. LengthMismatch n b expected found) → ⊥
 follows takes_one lengths a bs k expected found t u v one all h =
     let m = turns_at k h.next bs u v h.next_is all in
@@ -212,7 +212,7 @@ removed_one takes_one n p d u ks h st =
       history p.first (l.low ++ others),
       record {
         nth = record { before = l.low; item = l.here; after = l.high; all = l.all; number = h.nth.number ∙ ap (λ (k : ℕ). k + 1) (sym count) };
-        new_records = others;
+        new_layers = others;
         moved_edits = h.moved_edits;
         is_moved = taken;
         words = ap words_of made ∙ h.words ∙ ap words_of (sym l.records_after_are);
@@ -225,7 +225,7 @@ removed_one takes_one n p d u ks h st =
       rise_on p.first l.low others a.low rise,
     )
 
-acted : MoveToEndIsUnique → (command : Command) (p : History) (d : Done) (u : List ℕ) (ks : List JournalEntry) → DoesStep command (top_text p) (records_in p.layers) d u ks → IsHistory p → Acted command p d u ks
+pub acted : MoveToEndIsUnique → (command : Command) (p : History) (d : Done) (u : List ℕ) (ks : List JournalEntry) → DoesStep command (top_text p) (records_in p.layers) d u ks → IsHistory p → Acted command p d u ks
 acted takes_one Fmt p d u ks h st =
     let made = h.0 in
     let g = push_on_layer (texts_differ (top_text p) made.text) Fmt Word.Fmt made p d u ks (λ w e. e) refl h.2.0 h.2.1 h.2.2 st in
@@ -246,16 +246,12 @@ undoes_last p before r e st =
     (last_text p.first a.layer.low, subst (λ (x : List ℕ). Transforms r.edits (last_text p.first a.layer.low) x) a.higher a.transforms)
 
 refused_last : ChangeResultIsUnique → (p : History) (e : Fault) → RefusesRevert (top_text p) (records_in p.layers) e → IsHistory p → HistoryStepOrMemory Revert p (Err e) p
-refused_last unique p (Scan fault) h st = absurd h
-refused_last unique p (Parse fault) h st = absurd h
-refused_last unique p (FixBroken rule) h st = absurd h
-refused_last unique p TooLong h st = absurd h
 refused_last unique p NoRecord h st = (refl, no_layers p.layers h, refl)
 refused_last unique p (Fault.Refused refused) h st =
     let back = undoes_last p h.1.0 h.0 h.1.1 st in
     absurd (undone_or_refused unique h.0.edits (top_text p) back.0 refused h.2 back.1)
 refused_last unique p Memory h st = ((λ e. not_nil h.1.0 h.0 (sym h.1.1 ∙ ap records_in e)), refl)
-refused_last unique p (Blocked number) h st = absurd h
+refused_last unique p _ h st = absurd h
 
 never_breaks : MoveToEndIsUnique → TransformLengths → (n : ℕ) (p : History) (k expected found : ℕ) → FailsAfter n (records_in p.layers) k (λ a b. LengthMismatch a b expected found) → IsHistory p → ⊥
 never_breaks takes_one lengths n p k expected found s st =
@@ -268,7 +264,7 @@ always_undone unique takes_one n p r h st =
     let w = ((takes_one h.nth.item.edits (edits_of h.nth.after)).equivalent h.new_lists h.moved_edits h.is_moved (last_text p.first a.layer.low) (top_text p)).0 (a.layer.here.text, a.transforms, a.higher) in
     undone_or_refused unique h.moved_edits (top_text p) w.0 r h.refuses w.2
 
-refused_one : ChangeResultIsUnique → MoveToEndIsUnique → TransformLengths → (n : ℕ) (p : History) {e : Fault} → RefusesRemoval n (top_text p) (records_in p.layers) e → IsHistory p → HistoryStepOrMemory (Take n) p (Err e) p
+refused_one : ChangeResultIsUnique → MoveToEndIsUnique → TransformLengths → (n : ℕ) (p : History) {e : Fault} → RefusesTake n (top_text p) (records_in p.layers) e → IsHistory p → HistoryStepOrMemory (Take n) p (Err e) p
 refused_one unique takes_one lengths n p (no_record none) st = (none, refl)
 refused_one unique takes_one lengths n p (blocked {k} s) st = ((k, s, refl), refl)
 refused_one unique takes_one lengths n p (too_long {k} s) st = ((k, s), refl)
@@ -278,16 +274,10 @@ refused_one unique takes_one lengths n p (memory may) st = (may, refl)
 
 refused_text : (command : Command) (p : History) (e : Fault) → (Rewrites command (top_text p) (Err e) → HistoryStep command p (Err e) p) → MatchBool (is_memory_fault e) (IsUtf8WithinLimit (top_text p)) (Rewrites command (top_text p) (Err e))
     → MatchBool (is_memory_fault e) (IsUtf8WithinLimit (top_text p) × (p ≡ p)) (HistoryStep command p (Err e) p)
-refused_text command p (Scan fault) f h = f h
-refused_text command p (Parse fault) f h = f h
-refused_text command p (FixBroken rule) f h = f h
-refused_text command p TooLong f h = f h
-refused_text command p NoRecord f h = f h
-refused_text command p (Fault.Refused refused) f h = f h
 refused_text command p Memory f h = (h, refl)
-refused_text command p (Blocked number) f h = f h
+refused_text command p _ f h = f h
 
-stays : ChangeResultIsUnique → MoveToEndIsUnique → TransformLengths → (command : Command) (p : History) (e : Fault) → RefusesStep command (top_text p) (records_in p.layers) e → IsHistory p → HistoryStepOrMemory command p (Err e) p
+pub stays : ChangeResultIsUnique → MoveToEndIsUnique → TransformLengths → (command : Command) (p : History) (e : Fault) → RefusesStep command (top_text p) (records_in p.layers) e → IsHistory p → HistoryStepOrMemory command p (Err e) p
 stays unique takes_one lengths Fmt p e h st = refused_text Fmt p e (λ m. (Err e, m, (refl, refl))) h
 stays unique takes_one lengths (Fix rules) p e h st = refused_text (Fix rules) p e (λ m. (Err e, m, (refl, refl))) h
 stays unique takes_one lengths Revert p e h st = refused_last unique p e h st

@@ -27,7 +27,7 @@ journal_transforms_stack records top (under ∷ rest) h =
     let same : edits_of records ≡ edits_of h.0 ++ h.1.edits ∷ [] = ap edits_of h.2 ∙ map_push (λ (r : JournalEntry). r.edits) h.0 h.1 in
     subst (λ (cs : List EditList). TransformsInOrder Transforms cs (bottom under.text rest) top) (sym same) all
 
--- texts that go by some lists, then by one, then by others
+-- texts that some lists transform, then one, then others
 record Split (cs : List EditList) (c : EditList) (ds : List EditList) (t v : List ℕ) : Type 0 where
   u : List ℕ
   w : List ℕ

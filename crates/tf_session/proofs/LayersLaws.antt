@@ -1,4 +1,5 @@
--- Laws of the machine that keeps the edits, over all its commands: each has one answer, and those that were refused for want of memory do not count.
+-- Laws of the machine that keeps the edits, over all its commands: each has one answer, and those
+-- that were refused since memory ran out do not count.
 use Rattle.std.proofs.Common.{◌≡◌, ◌∙◌, ℕ, List, Result, Ok, Err, refl, sym, ap, subst, inl, inr}
 use Rattle.edit_record.specs.Lists.Validity.{ApplyIsDeterministic}
 use Rattle.edit_record.specs.declared.lists.record.Word.{Word}
@@ -17,7 +18,7 @@ use Rattle.tf_session.specs.TakeLaws.{CommandResultIsUniqueOverLayers, OutOfMemo
 use Rattle.tf_session.proofs.ResultIsUnique.{same_fixes, same_layouts}
 use Rattle.tf_session.proofs.Lists.{not_nil, same_last}
 use Rattle.tf_session.proofs.Runs.{memory_does_not_count}
-use Rattle.tf_session.proofs.RemovalIsUnique.{take_has_one_answer}
+use Rattle.tf_session.proofs.TakeIsUnique.{take_has_one_answer}
 use Rattle.tf_rules.specs.declared.rule_set.RuleSet.{RuleSet}
 use Rattle.tf_lint.proofs.DoesNotParse.{TokensAreUnique, NoTokensWithFault, OneFault}
 use Rattle.tf_lint.specs.Steps.{FixIsUnique}
@@ -60,7 +61,7 @@ module _ (unique_tokens : TokensAreUnique) (no_tokens_with_fault : NoTokensWithF
       let h = take_has_one_answer one_swap takes_one into_one n old reply other new another p q in
       (inl h.0, h.1)
 
--- ---- want of memory
+-- ---- out of memory
 
 pub refused_do_not_count_over_layers : OutOfMemoryChangesNothingOverLayers
 refused_do_not_count_over_layers = memory_does_not_count HistoryMayAllocate HistoryStep

@@ -12,10 +12,12 @@ pub mod ResultIsUnique
 pub mod JournalOne
 pub mod TakeLaws
 pub mod OneMachine
-pub mod RemovalIsUnique
-pub mod AnyRemoval
+pub mod TakeIsUnique
+pub mod AnyTake
 pub mod LayersLaws
 pub mod ReadTexts
 pub mod RevertRestores
 pub mod JournalRefusing
 pub mod RevertSucceeds
+pub mod Saving
+pub mod Invocations

@@ -35,7 +35,7 @@ same_last (a ∷ xs) (b ∷ ys) x y e =
     let head : a ≡ b = cc in
     (cc, h.1)
 
--- the last member is what was taken off
+-- the last member is what was popped
 pub popped : {X : Type 0} (xs rest : List X) (o : Option X) (x : X) → slice_get xs (length xs - 1) ≡ Some x → xs ≡ rest ++ option_to_list o → (IsNone o → xs ≡ []) → xs ≡ rest ++ x ∷ []
 popped xs rest None x h e n = absurd (has_last xs x h (n refl))
 popped xs rest (Some y) x h e n =

@@ -1,4 +1,4 @@
--- What a fmt or a fix made is put on: a step of the session.
+-- What a fmt or a fix made is pushed: a step of the session.
 use Rattle.std.proofs.Common.{◌≡◌, ◌≤◌, ℕ, List, [], ◌∷◌, length, Bool, true, false, not, Option, None, Some, IfSome, IfOk, Result, Ok, Err, refl, subst}
 use Rattle.std.proofs.lemmas.Slice.Eq.{bytes_eq-Decides}
 use Rattle.edit_record.specs.declared.lists.record.Word.{Word}
@@ -55,7 +55,7 @@ adds command word has true t js ks change fixed left e makes turns h = (
 )
 adds command word has false t js ks change fixed left e makes turns h = h
 
--- the command puts on what it made
+-- the command pushes what it made
 abbrev PutsMade : Command → List ℕ → List JournalEntry → Done → List ℕ → List JournalEntry → Type 0
 PutsMade command t js d u ks = (made : Rewrite) × Rewrites command t (Ok made) × ReplacesText command made t js d u ks
 

@@ -1,9 +1,8 @@
 -- What the steps of a fix say of a text, as a session says it.
-use Rattle.std.proofs.Common.{◌≡◌, ℕ, List, [], ◌∷◌, Bool, true, false, MatchBool, Result, Ok, Err, inl, inr}
+use Rattle.std.proofs.Common.{ℕ, List, Err, inl, inr}
 use Rattle.tf_rules.specs.declared.finding.Finding.{Finding}
 use Rattle.tf_rules.specs.declared.rule.Rule.{Rule}
 use Rattle.tf_rules.specs.declared.rule_set.RuleSet.{RuleSet}
-use Rattle.tf_rules.specs.RuleSets.{has_rule}
 use Rattle.tf_session.specs.declared.command.Command.TheVariants.{Fix}
 use Rattle.tf_session.specs.Faults.{fault_of_fix}
 use Rattle.tf_session.specs.Rewrites.{IsReadFault, RefusesText}
@@ -15,7 +14,7 @@ use Rattle.tf_fix.specs.declared.parsed.Parsed.{Parsed}
 use Rattle.tf_lint.specs.ParseFaults as steps
 use Rattle.tf_fix.specs.ParsedTexts.{IsParseOf}
 use Rattle.tf_lint.specs.ParseFaults.{IsUtf8WithinLimit}
-use Rattle.tf_lint.specs.Steps.{Steps, StepBreaks, FoundThen, StepThen, RunSteps, fix_order, Refuses}
+use Rattle.tf_lint.specs.Steps.{StepBreaks, RunSteps, not_in_set, breaks, breaks_later, Refuses}
 
 pub does_parse : (text : List ℕ) (p : Parsed) → IsParseOf text p → DoesParse text
 does_parse text p reads = (p.tree, parses_of text p reads)
@@ -43,22 +42,10 @@ ended_by rule p found (FixBroken broken) h = tt
 ended_by rule p found TooLong h = tt
 ended_by rule p found Memory h = h
 
-following : (rule : Rule) (p : Parsed) (found : List Finding) (Others : Parsed → Result Steps FixFault → Type 0) (fault : FixFault) → ((q : Parsed) → Others q (Err fault) → EndsSteps fault)
-    → FoundThen rule p found Others (Err fault) → EndsSteps fault
-following rule p found Others fault ih (inl w) = ended_by rule p found fault w
-following rule p found Others fault ih (inr w) = ih w.1 w.3
-
-chosen : (b : Bool) (rule : Rule) (p : Parsed) (Others : Parsed → Result Steps FixFault → Type 0) (fault : FixFault) → ((q : Parsed) → Others q (Err fault) → EndsSteps fault)
-    → MatchBool b (StepThen rule p Others (Err fault)) (Others p (Err fault)) → EndsSteps fault
-chosen true rule p Others fault ih h = following rule p h.0 Others fault ih h.2
-chosen false rule p Others fault ih h = ih p h
-
-not_ok : (steps : Steps) (fault : FixFault) → ◌≡◌ {A = Result Steps FixFault} (Err fault) (Ok steps) → ⊥
-not_ok steps fault e = cc
-
-ends : (rules : RuleSet) (order : List Rule) (p : Parsed) (fault : FixFault) → RunSteps rules order p (Err fault) → EndsSteps fault
-ends rules [] p fault h = absurd (not_ok _ fault h)
-ends rules (rule ∷ others) p fault h = chosen (has_rule rules rule) rule p (RunSteps rules others) fault (λ q. ends rules others q fault) h
+ends : {rules : RuleSet} {order : List Rule} {p : Parsed} {fault : FixFault} → RunSteps rules order p (Err fault) → EndsSteps fault
+ends (not_in_set absent runs) = ends runs
+ends (breaks {rule = rule} {p = p} {fault = fault} found has finds broken) = ended_by rule p found fault broken
+ends (breaks_later found has finds short reads runs) = ends runs
 
 -- why a fix refuses a text
 pub refused_fix : (rules : RuleSet) (text : List ℕ) (fault : FixFault) → Refuses rules text fault → RefusesText (Fix rules) text (fault_of_fix fault)
@@ -67,8 +54,8 @@ refused_fix rules text (Parse fault) (inl h) = h
 refused_fix rules text (FixBroken rule) (inl h) = absurd h
 refused_fix rules text TooLong (inl h) = absurd h
 refused_fix rules text Memory (inl h) = h
-refused_fix rules text (Scan fault) (inr h) = absurd (ends rules fix_order h.0 (Scan fault) h.2)
-refused_fix rules text (Parse fault) (inr h) = absurd (ends rules fix_order h.0 (Parse fault) h.2)
+refused_fix rules text (Scan fault) (inr h) = absurd (ends {fault = Scan fault} h.2)
+refused_fix rules text (Parse fault) (inr h) = absurd (ends {fault = Parse fault} h.2)
 refused_fix rules text (FixBroken rule) (inr h) = h
 refused_fix rules text TooLong (inr h) = h
-refused_fix rules text Memory (inr h) = absurd (ends rules fix_order h.0 Memory h.2)
+refused_fix rules text Memory (inr h) = absurd (ends {fault = Memory} h.2)

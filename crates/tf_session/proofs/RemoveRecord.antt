@@ -1,4 +1,4 @@
--- One record taken out of a journal.
+-- The removal of one record from a journal.
 use Rattle.std.proofs.Common.{◌≡◌, ◌∙◌, ◌↔◌, ◌≤◌, ◌<◌, ◌+◌, ◌-◌, ℕ, zero, suc, List, [], ◌∷◌, ◌++◌, length, take, drop, get_or, Result, Ok, Err, IfOk, refl, sym, ap, subst, arith, append_assoc, inl, inr}
 use Rattle.std.proofs.lemmas.List.{take_more, take-append-drop, length-take-le, length-map, length-drop, take_all}
 use Rattle.std.specs.Global.{Vec}
@@ -17,8 +17,8 @@ use Rattle.tf_session.specs.Faults.{fault_of_refused}
 use Rattle.tf_lint.specs.Steps.{texts_differ}
 use Rattle.tf_session.specs.Machine.{done}
 use Rattle.tf_session.specs.NthItem.{Nth}
-use Rattle.tf_session.specs.RemovingRecord.{RemovesRecord, RefusesRemoval, removal_fault, counted_records}
-use Rattle.tf_session.specs.RemovingRecord.RefusesRemoval.{not_undone, lengths_differ, blocked, too_long, memory}
+use Rattle.tf_session.specs.RemovingRecord.{RemovesRecord, RefusesTake, fault_of_move, counted_records}
+use Rattle.tf_session.specs.RemovingRecord.RefusesTake.{not_undone, lengths_differ, blocked, too_long, memory}
 
 -- what undoing edits answers, by the laws of edits
 abbrev pub Undoes : EditList → Type 0
@@ -69,12 +69,12 @@ module _ (n : ℕ) (rs : List JournalEntry) (r : JournalEntry) (pos : 1 ≤ n) (
     done_is = refl;
   }
 
-  pub not_back : (t : List ℕ) (others : List EditList) (deleted : EditList) (refused : Refused) → IsMovedToEnd r.edits (edits_of (rest_of n rs)) others deleted → IsChangeCallResult Backward deleted t (Err refused) → RefusesRemoval n t rs (fault_of_refused refused)
+  pub not_back : (t : List ℕ) (others : List EditList) (deleted : EditList) (refused : Refused) → IsMovedToEnd r.edits (edits_of (rest_of n rs)) others deleted → IsChangeCallResult Backward deleted t (Err refused) → RefusesTake n t rs (fault_of_refused refused)
   not_back t others deleted (Refused.Length expected found) taken not = not_undone (record { nth = nth_of; new_lists = others; moved_edits = deleted; is_moved = taken; refuses = not })
   not_back t others deleted (Refused.Differs step edit) taken not = not_undone (record { nth = nth_of; new_lists = others; moved_edits = deleted; is_moved = taken; refuses = not })
   not_back t others deleted Refused.Memory taken len = memory (nth_of, inr (others, deleted, taken, len))
 
-  pub refuses : (t : List ℕ) (e : MoveFault) → IsMoveToEndResult r.edits (rest_of n rs) (Err e) → RefusesRemoval n t rs (removal_fault n e)
+  pub refuses : (t : List ℕ) (e : MoveFault) → IsMoveToEndResult r.edits (rest_of n rs) (Err e) → RefusesTake n t rs (fault_of_move n e)
   refuses t (Length expected found) h = lengths_differ {k = h.0} (record { nth = nth_of; fails = h.1 })
   refuses t (Blocked k) h = blocked {k = k} (record { nth = nth_of; fails = h })
   refuses t TooLong h = too_long {k = h.0} (record { nth = nth_of; fails = h.1 })

@@ -1,4 +1,5 @@
--- One text has one cut or one fault, and a fix makes one text of it, so each command has one answer.
+-- A text has at most one list of tokens or one error, and a fix makes at most one text of it, so
+-- each command has at most one answer.
 use Rattle.std.proofs.Common.{◌≡◌, ◌∙◌, ◌≤◌, ◌<◌, ◌⊎◌, ℕ, List, [], ◌∷◌, length, Result, Ok, Err, refl, sym, ap, subst, inl, inr, arith}
 use Rattle.hcl_token.specs.Tokens.{Pair}
 use Rattle.hcl_text_laws.specs.declared.fault.ParseFault.{ParseFault}
@@ -12,7 +13,7 @@ use Rattle.tf_session.specs.declared.command.Command.{Command}
 use Rattle.tf_session.specs.declared.command.Command.TheVariants.{Fmt, Fix, Revert, Take}
 use Rattle.tf_session.specs.declared.command.Done.{Done}
 use Rattle.tf_session.specs.declared.command.Fault.{Fault}
-use Rattle.tf_session.specs.declared.command.Fault.TheVariants.{Scan, Parse, FixBroken, TooLong, NoRecord, Refused, Memory, Blocked}
+use Rattle.tf_session.specs.declared.command.Fault.TheVariants.{Scan, Parse, FixBroken, TooLong}
 use Rattle.tf_session.specs.Faults.{fault_of_fix}
 use Rattle.tf_session.specs.Fixing.{FixRewrites}
 use Rattle.tf_lint.specs.declared.fault.FixFault.{FixFault}
@@ -70,10 +71,7 @@ why_fix rules text (Scan fault) h = inl (fault, refl, h)
 why_fix rules text (Parse fault) h = inr (inl (fault, refl, h))
 why_fix rules text (FixBroken rule) h = inr (inr (FixFault.FixBroken rule, refl, h))
 why_fix rules text TooLong h = inr (inr (FixFault.TooLong, refl, h))
-why_fix rules text NoRecord h = absurd h
-why_fix rules text (Refused refused) h = absurd h
-why_fix rules text Memory h = absurd h
-why_fix rules text (Blocked number) h = absurd h
+why_fix rules text _ h = absurd h
 
 -- the layout is too long
 abbrev Long : List ℕ → Fault → Type 0
@@ -82,12 +80,8 @@ Long text f = (f ≡ TooLong) × DoesParse text × IsTooLong text
 why_fmt : (text : List ℕ) (f : Fault) → FmtRewrites text (Err f) → Why text f (Long text f)
 why_fmt text (Scan fault) h = inl (fault, refl, h)
 why_fmt text (Parse fault) h = inr (inl (fault, refl, h))
-why_fmt text (FixBroken rule) h = absurd h
 why_fmt text TooLong h = inr (inr (refl, h.0, h.1))
-why_fmt text NoRecord h = absurd h
-why_fmt text (Refused refused) h = absurd h
-why_fmt text Memory h = absurd h
-why_fmt text (Blocked number) h = absurd h
+why_fmt text _ h = absurd h
 
 -- tokens that have no tree
 has_tokens : (text : List ℕ) (fault : ParseFault) → IsParseFault text fault → (pairs : List Pair) × (last : List ℕ) × IsTokenization text pairs last
@@ -99,7 +93,7 @@ module _ (unique_tokens : TokensAreUnique) (no_tokens_with_fault : NoTokensWithF
   no_tokens : (text : List ℕ) (fault : ScanFault) (other : ParseFault) → IsFault text fault → IsParseFault text other → ⊥
   no_tokens text fault other h p = let tokenized = has_tokens text other p in no_tokens_with_fault text fault tokenized.0 tokenized.1 h tokenized.2
 
-  -- a text that is read has none of these faults
+  -- a text that parses has none of these errors
   not_why : (text : List ℕ) (f : Fault) (Other : Type 0) → DoesParse text → (Other → ⊥) → Why text f Other → ⊥
   not_why text f Other p not_other (inl w) = no_tokens_with_fault text w.0 p.1.pairs p.1.last w.2 p.1.tokenization
   not_why text f Other p not_other (inr (inl w)) = not_both unique_tokens text w.0 p.0 w.2 p.1

@@ -1,4 +1,4 @@
--- A command that changed the text is taken back over what it wrote.
+-- A command that changed the text is reverted over what it wrote.
 use Rattle.std.proofs.Common.{◌≡◌, ◌∙◌, ◌≤◌, ℕ, length, List, [], ◌∷◌, ◌++◌, Bool, true, Option, Some, None, ap, sym, refl, subst, inl}
 use Rattle.std.specs.Io.KnownBytes.{Appends, Consumes, IsAtEnd}
 use Rattle.hcl_scan.specs.Tokenization.{MAX_TEXT}
@@ -36,14 +36,14 @@ had (Some xs) (Some ys) bytes kept b p end =
     let x : xs ≡ kept = cc in
     sym x ∙ p ∙ ap (λ (z : List ℕ). bytes ++ z) end ∙ no_more bytes
 
--- what was put is what is taken by who reads it back
+-- what is read back is what was written
 pub same_bytes : (limit : ℕ) (target : Target) (source : Source) (put taken : List ℕ) → ReadsBack target source → WritesBytes target put → ReadsAll limit source taken → put ≡ taken
 same_bytes limit target source put taken back p t =
     sym (bytes_are_kept target.before target.after put back.bytes back.empty back.written p) ∙ had source.before source.after taken back.bytes back.read t.0 t.1
 
 -- ---- a command that changed the text
 
--- what it put on: a text that differs, with one record more
+-- what it pushed: a text that differs, with one record more
 pub record Put (command : Command) (t : List ℕ) (js : List JournalEntry) (u : List ℕ) (ks : List JournalEntry) : Type 0 where
   pub r : JournalEntry
   pub added : ks ≡ js ++ r ∷ []

@@ -14,10 +14,10 @@ use Rattle.tf_session.specs.declared.command.Command.{Command}
 use Rattle.tf_session.specs.declared.command.Command.TheVariants.{Revert}
 use Rattle.tf_session.specs.declared.command.Done.{Done}
 use Rattle.tf_session.specs.declared.command.Fault.{Fault}
-use Rattle.tf_session.specs.declared.fault.Part.{Part}
+use Rattle.tf_session.specs.declared.fault.SessionPart.{SessionPart}
 use Rattle.tf_session.specs.declared.fault.RunFault.{RunFault}
-use Rattle.tf_session.specs.declared.fault.RunFault.TheVariants.{Scan, Parse, FixBroken, TooLong, NoRecord, Refused, Memory, Blocked, Read, Write, Endless, BadJournal}
-use Rattle.tf_session.specs.Faults.{run_fault_of, run_fault_of_take, run_fault_of_record}
+use Rattle.tf_session.specs.declared.fault.RunFault.TheVariants.{Scan, Memory, Write, Endless}
+use Rattle.tf_session.specs.Faults.{run_fault_of, run_fault_of_read, run_fault_of_record}
 use Rattle.tf_session.specs.Records.{RefusesStep}
 use Rattle.tf_session.specs.Streams.{IsWriteFault}
 use Rattle.tf_session.specs.Journals.{MAX_JOURNAL, Loads, JournalTextFault, LoadReadFault, LoadDecodeFault, SaveFault, JournaledStreamFault}
@@ -45,7 +45,7 @@ not_endless limit target source bytes back p short t =
     let within : length back.bytes ≤ limit = subst (λ (x : List ℕ). length x ≤ limit) (sym same) short in
     not_over source.before source.after t.0 back.bytes limit back.read t.1 within t.2
 
-read_fault : (fault : ReadFault) → (fault ≡ ReadFault.Endless → ⊥) → is_from_outside (run_fault_of_take fault) ≡ true
+read_fault : (fault : ReadFault) → (fault ≡ ReadFault.Endless → ⊥) → is_from_outside (run_fault_of_read fault) ≡ true
 read_fault ReadFault.Read never = refl
 read_fault ReadFault.Memory never = refl
 read_fault ReadFault.Endless never = absurd (never refl)
@@ -65,16 +65,12 @@ decoding (BadSteps at) bytes records is d = absurd (d.0 records is)
 
 refusing : ChangeResultIsUnique → (refusal : Fault) (text new : List ℕ) (records earlier : List JournalEntry) (r : JournalEntry) → records ≡ earlier ++ r ∷ [] → record_transforms r text new
     → RefusesStep Revert new records refusal → is_from_outside (run_fault_of refusal) ≡ true
-refusing unique (Fault.Scan fault) text new records earlier r is turns p = absurd p
-refusing unique (Fault.Parse fault) text new records earlier r is turns p = absurd p
-refusing unique (Fault.FixBroken rule) text new records earlier r is turns p = absurd p
-refusing unique Fault.TooLong text new records earlier r is turns p = absurd p
-refusing unique (Fault.Blocked number) text new records earlier r is turns p = absurd p
 refusing unique Fault.NoRecord text new records earlier r is turns p = absurd (not_nil earlier r (sym is ∙ p))
 refusing unique (Fault.Refused refused) text new records earlier r is turns p =
     let lasts = same_last earlier p.1.0 r p.0 (sym is ∙ p.1.1) in
     absurd (undone_or_refused unique p.0.edits new text refused p.2 (subst (λ (x : JournalEntry). record_transforms x text new) lasts.1 turns))
 refusing unique Fault.Memory text new records earlier r is turns p = refl
+refusing unique _ text new records earlier r is turns p = absurd p
 
 -- ---- what is left is not too long
 
@@ -87,38 +83,20 @@ fewer (s ∷ records) r =
     omega (arith, more, before, after)
 
 no_text : (fault : RunFault) (records : List JournalEntry) → length (journal_text records) ≤ MAX_JOURNAL → JournalTextFault records fault → is_from_outside fault ≡ true
-no_text (Scan fault) records short p = absurd p
-no_text (Parse fault) records short p = absurd p
-no_text (FixBroken rule) records short p = absurd p
-no_text TooLong records short p = absurd p
-no_text NoRecord records short p = absurd p
-no_text (Blocked number) records short p = absurd p
-no_text (Refused refused) records short p = absurd p
 no_text Memory records short p = refl
-no_text Read records short p = absurd p
-no_text (Write part sent) records short p = absurd p
 no_text Endless records short p = absurd (omega (arith, short, p))
-no_text (BadJournal fault) records short p = absurd p
+no_text _ records short p = absurd p
 
-write_fault : (part : Part) (fault : RunFault) (target : Target) (bytes : List ℕ) → IsWriteFault part fault target bytes → is_from_outside fault ≡ true
+write_fault : (part : SessionPart) (fault : RunFault) (target : Target) (bytes : List ℕ) → IsWriteFault part fault target bytes → is_from_outside fault ≡ true
 write_fault part (Scan fault) target bytes p = absurd p
-write_fault part (Parse fault) target bytes p = absurd p
-write_fault part (FixBroken rule) target bytes p = absurd p
-write_fault part TooLong target bytes p = absurd p
-write_fault part NoRecord target bytes p = absurd p
-write_fault part (Blocked number) target bytes p = absurd p
-write_fault part (Refused refused) target bytes p = absurd p
-write_fault part Memory target bytes p = absurd p
-write_fault part Read target bytes p = absurd p
 write_fault part (Write named sent) target bytes p = refl
-write_fault part Endless target bytes p = absurd p
-write_fault part (BadJournal fault) target bytes p = absurd p
+write_fault part _ target bytes p = absurd p
 
 saving : (fault : RunFault) (text : List ℕ) (records : List JournalEntry) (journal_out text_out : Target) → length (journal_text records) ≤ MAX_JOURNAL
     → SaveFault fault text records journal_out text_out → is_from_outside fault ≡ true
 saving fault text records journal_out text_out short (inl p) = no_text fault records short p.0
-saving fault text records journal_out text_out short (inr (inl p)) = write_fault Part.Journal fault journal_out p.0 p.2
-saving fault text records journal_out text_out short (inr (inr p)) = write_fault Part.Text fault text_out text p.3
+saving fault text records journal_out text_out short (inr (inl p)) = write_fault SessionPart.Journal fault journal_out p.0 p.2
+saving fault text records journal_out text_out short (inr (inr p)) = write_fault SessionPart.Text fault text_out text p.3
 
 -- ---- a command that changed the text
 

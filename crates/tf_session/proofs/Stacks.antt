@@ -11,7 +11,7 @@ use Rattle.tf_session.specs.declared.command.Command.{Command}
 use Rattle.tf_session.specs.declared.command.Command.TheVariants.{Fmt, Fix, Revert, Take}
 use Rattle.tf_session.specs.declared.command.Done.{Done}
 use Rattle.tf_session.specs.declared.command.Fault.{Fault}
-use Rattle.tf_session.specs.declared.command.Fault.TheVariants.{Scan, Parse, FixBroken, TooLong, NoRecord, Memory, Blocked}
+use Rattle.tf_session.specs.declared.command.Fault.TheVariants.{NoRecord, Memory}
 use Rattle.tf_lint.specs.Steps.{Rewrite, texts_differ}
 use Rattle.tf_session.specs.Rewrites.{Rewrites, is_memory_fault}
 use Rattle.tf_lint.specs.ParseFaults.{IsUtf8WithinLimit}
@@ -85,21 +85,11 @@ undone_or_refused unique e t u refused why turns =
     cc
 
 refused_text : (command : Command) (s : Stack) (e : Fault) → (Rewrites command s.top (Err e) → StackStep command s (Err e) s) → MatchBool (is_memory_fault e) (IsUtf8WithinLimit s.top) (Rewrites command s.top (Err e)) → MatchBool (is_memory_fault e) (IsUtf8WithinLimit s.top × (s ≡ s)) (StackStep command s (Err e) s)
-refused_text command s (Scan fault) f h = f h
-refused_text command s (Parse fault) f h = f h
-refused_text command s (FixBroken rule) f h = f h
-refused_text command s TooLong f h = f h
-refused_text command s NoRecord f h = f h
-refused_text command s (Fault.Refused refused) f h = f h
 refused_text command s Memory f h = (h, refl)
-refused_text command s (Blocked number) f h = f h
+refused_text command s _ f h = f h
 
 module _ (unique : ChangeResultIsUnique) where
   refused_take : (t : List ℕ) (below : List StackEntry) (js : List JournalEntry) (e : Fault) → RefusesRevert t js e → IsJournalOfStack js t below → StackStepOrMemory Revert (stack t below) (Err e) (stack t below)
-  refused_take t below js (Scan fault) p st = absurd p
-  refused_take t below js (Parse fault) p st = absurd p
-  refused_take t below js (FixBroken rule) p st = absurd p
-  refused_take t below js TooLong p st = absurd p
   refused_take t [] js NoRecord p st = (refl, refl)
   refused_take t (under ∷ rest) js NoRecord p st = absurd (not_nil st.0 st.1 (sym st.2 ∙ p))
   refused_take t [] js (Fault.Refused refused) p st = absurd (not_nil p.1.0 p.0 (sym p.1.1 ∙ st))
@@ -109,7 +99,7 @@ module _ (unique : ChangeResultIsUnique) where
       absurd (undone_or_refused unique p.0.edits t under.text refused p.2 turns)
   refused_take t [] js Memory p st = absurd (not_nil p.1.0 p.0 (sym p.1.1 ∙ st))
   refused_take t (under ∷ rest) js Memory p st = (λ e. cc, refl)
-  refused_take t below js (Blocked number) p st = absurd p
+  refused_take t below js _ p st = absurd p
 
   pub refused : (command : Command) → IsNotTake command → (t : List ℕ) (below : List StackEntry) (js : List JournalEntry) (e : Fault) → RefusesStep command t js e → IsJournalOfStack js t below → StackStepOrMemory command (stack t below) (Err e) (stack t below)
   refused Fmt _ t below js e p st = refused_text Fmt (stack t below) e (λ h. (Err e, h, (refl, refl))) p

@@ -98,16 +98,16 @@ take_leaves takes_one into_one n old d new st out =
     let below = last_text old.first nth.before in
     let here = rise_high old.first nth.before (nth.item ∷ nth.after) whole in
     let top : top_text old ≡ last_text nth.item.text nth.after = ap (λ (x : List Layer). last_text old.first x) nth.all ∙ last_on old.first nth.before (nth.item ∷ nth.after) in
-    let w = ((takes_one nth.item.edits (edits_of (records_in nth.after))).equivalent (edits_of (records_in out.new_records)) out.moved_edits out.is_moved below (last_text nth.item.text nth.after)).0 (nth.item.text, here.0, rise_turns nth.item.text nth.after here.1) in
-    let same : w.0 ≡ last_text below out.new_records = one_new into_one (edits_of (records_in out.new_records)) below w.0 (last_text below out.new_records) w.1 (rise_turns below out.new_records out.consistent) in
-    let new_top : top_text new ≡ last_text below out.new_records = ap top_text out.new_is ∙ last_on old.first nth.before out.new_records in
-    let len = taken_length nth.item.edits (edits_of (records_in nth.after)) (edits_of (records_in out.new_records)) out.moved_edits out.is_moved in
-    let count : length out.new_records ≡ length nth.after = sym (layer_lists out.new_records) ∙ len ∙ layer_lists nth.after in
-    let a = ap (λ (x : History). length x.layers) out.new_is ∙ length-append nth.before out.new_records in
+    let w = ((takes_one nth.item.edits (edits_of (records_in nth.after))).equivalent (edits_of (records_in out.new_layers)) out.moved_edits out.is_moved below (last_text nth.item.text nth.after)).0 (nth.item.text, here.0, rise_turns nth.item.text nth.after here.1) in
+    let same : w.0 ≡ last_text below out.new_layers = one_new into_one (edits_of (records_in out.new_layers)) below w.0 (last_text below out.new_layers) w.1 (rise_turns below out.new_layers out.consistent) in
+    let new_top : top_text new ≡ last_text below out.new_layers = ap top_text out.new_is ∙ last_on old.first nth.before out.new_layers in
+    let len = taken_length nth.item.edits (edits_of (records_in nth.after)) (edits_of (records_in out.new_layers)) out.moved_edits out.is_moved in
+    let count : length out.new_layers ≡ length nth.after = sym (layer_lists out.new_layers) ∙ len ∙ layer_lists nth.after in
+    let a = ap (λ (x : History). length x.layers) out.new_is ∙ length-append nth.before out.new_layers in
     let b = ap length nth.all ∙ length-append nth.before (nth.item ∷ nth.after) in
     record {
       first = ap (λ (p : History). p.first) out.new_is;
       one_less = omega (arith, a, b, count);
-      is_history = subst IsHistory (sym out.new_is) (rise_on old.first nth.before out.new_records (rise_low old.first nth.before (nth.item ∷ nth.after) whole) out.consistent);
+      is_history = subst IsHistory (sym out.new_is) (rise_on old.first nth.before out.new_layers (rise_low old.first nth.before (nth.item ∷ nth.after) whole) out.consistent);
       transforms = subst (λ (x : List ℕ). Transforms out.moved_edits x (top_text old)) (same ∙ sym new_top) (subst (λ (x : List ℕ). Transforms out.moved_edits w.0 x) (sym top) w.2);
     }

@@ -40,10 +40,10 @@ run_fault_of (Fault.Refused refused) = RunFault.Refused refused
 run_fault_of Fault.Memory = RunFault.Memory
 run_fault_of (Fault.Blocked number) = RunFault.Blocked number
 
-abbrev pub run_fault_of_take : ReadFault → RunFault
-run_fault_of_take ReadFault.Read = RunFault.Read
-run_fault_of_take ReadFault.Endless = RunFault.Endless
-run_fault_of_take ReadFault.Memory = RunFault.Memory
+abbrev pub run_fault_of_read : ReadFault → RunFault
+run_fault_of_read ReadFault.Read = RunFault.Read
+run_fault_of_read ReadFault.Endless = RunFault.Endless
+run_fault_of_read ReadFault.Memory = RunFault.Memory
 
 abbrev pub run_fault_of_record : RecordFault → RunFault
 run_fault_of_record (BadHead at) = RunFault.BadJournal (BadHead at)

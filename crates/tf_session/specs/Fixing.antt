@@ -3,7 +3,7 @@ use Rattle.std.specs.Prelude.{ℕ, List, Result, Ok, Err}
 use Rattle.hcl_scan.specs.Fault.{IsFault}
 use Rattle.tf_rules.specs.declared.rule_set.RuleSet.{RuleSet}
 use Rattle.tf_session.specs.declared.command.Fault.{Fault}
-use Rattle.tf_session.specs.declared.command.Fault.TheVariants.{Scan, Parse, FixBroken, TooLong, NoRecord, Refused, Memory, Blocked}
+use Rattle.tf_session.specs.declared.command.Fault.TheVariants.{Scan, Parse, FixBroken, TooLong}
 use Rattle.tf_lint.specs.declared.fault.FixFault.{FixFault}
 use Rattle.tf_lint.specs.ParseFaults.{IsParseFault}
 use Rattle.tf_lint.specs.Steps.{Rewrite, Fixes, Breaks}
@@ -15,7 +15,4 @@ FixRewrites rules text (Err (Scan fault)) = IsFault text fault
 FixRewrites rules text (Err (Parse fault)) = IsParseFault text fault
 FixRewrites rules text (Err (FixBroken rule)) = Breaks rules text (FixFault.FixBroken rule)
 FixRewrites rules text (Err TooLong) = Breaks rules text FixFault.TooLong
-FixRewrites rules text (Err NoRecord) = ⊥
-FixRewrites rules text (Err (Refused refused)) = ⊥
-FixRewrites rules text (Err Memory) = ⊥
-FixRewrites rules text (Err (Blocked number)) = ⊥
+FixRewrites rules text (Err _) = ⊥

@@ -5,7 +5,7 @@ use Rattle.hcl_scan.specs.Fault.{IsFault}
 use Rattle.hcl_layout.specs.Gaps.Layout.{layout_edits}
 use Rattle.hcl_layout.specs.Layouts.{IsLayout, IsTooLong}
 use Rattle.tf_session.specs.declared.command.Fault.{Fault}
-use Rattle.tf_session.specs.declared.command.Fault.TheVariants.{Scan, Parse, FixBroken, TooLong, NoRecord, Refused, Memory, Blocked}
+use Rattle.tf_session.specs.declared.command.Fault.TheVariants.{Scan, Parse, TooLong}
 use Rattle.tf_session.specs.Parsing.{DoesParse}
 use Rattle.tf_fix.specs.declared.parsed.Parsed.{Parsed}
 use Rattle.tf_fix.specs.ParsedTexts.{IsParseOf}
@@ -36,9 +36,5 @@ abbrev pub FmtRewrites : List ℕ → Result Rewrite Fault → Type 0
 FmtRewrites text (Ok made) = Formats text made
 FmtRewrites text (Err (Scan fault)) = IsFault text fault
 FmtRewrites text (Err (Parse fault)) = IsParseFault text fault
-FmtRewrites text (Err (FixBroken rule)) = ⊥
 FmtRewrites text (Err TooLong) = DoesParse text × IsTooLong text
-FmtRewrites text (Err NoRecord) = ⊥
-FmtRewrites text (Err (Refused refused)) = ⊥
-FmtRewrites text (Err Memory) = ⊥
-FmtRewrites text (Err (Blocked number)) = ⊥
+FmtRewrites text (Err _) = ⊥

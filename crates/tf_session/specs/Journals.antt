@@ -14,8 +14,8 @@ use Rattle.tf_session.specs.declared.command.Done.{Done}
 use Rattle.tf_session.specs.declared.command.Fault.{Fault}
 use Rattle.tf_session.specs.declared.fault.RunFault.{RunFault}
 use Rattle.tf_session.specs.declared.fault.RunFault.TheVariants.{Memory, Write, Endless}
-use Rattle.tf_session.specs.declared.fault.Part.{Part}
-use Rattle.tf_session.specs.Faults.{run_fault_of, run_fault_of_take, run_fault_of_record}
+use Rattle.tf_session.specs.declared.fault.SessionPart.{SessionPart}
+use Rattle.tf_session.specs.Faults.{run_fault_of, run_fault_of_read, run_fault_of_record}
 use Rattle.tf_session.specs.Streams.{ReadsText, IsWriteFault}
 use Rattle.tf_session.specs.Records.{DoesStep, RefusesStep}
 
@@ -23,9 +23,9 @@ use Rattle.tf_session.specs.Records.{DoesStep, RefusesStep}
 abbrev pub MAX_JOURNAL : ℕ
 MAX_JOURNAL = 268435456
 
--- ---- what is taken
+-- ---- what is read
 
--- nothing was taken of the source
+-- nothing was read of the source
 abbrev pub Unread : Source → Type 0
 Unread source = Keeps source.before source.after
 
@@ -36,7 +36,7 @@ Loads text records text_in journal_in =
     ReadsText text_in text × (bytes : List ℕ) × ReadsAll MAX_JOURNAL journal_in bytes
     × IsJournalText bytes records
 
--- There is no whole text, and nothing was taken for the journal; or there is one, and nothing whole
+-- There is no whole text, and nothing was read for the journal; or there is one, and nothing whole
 -- for the journal.
 abbrev pub LoadReadFault : ReadFault → Source → Source → Type 0
 LoadReadFault fault text_in journal_in =
@@ -49,12 +49,19 @@ LoadDecodeFault fault text_in journal_in =
     (text : List ℕ) × (bytes : List ℕ) × ReadsText text_in text
     × ReadsAll MAX_JOURNAL journal_in bytes × IsDecodeResult bytes (Err fault)
 
+-- `decode` refuses these bytes, which are the text of no journal, or memory ran out
+abbrev pub BadJournalFault : List ℕ → RunFault → Type 0
+BadJournalFault bytes fault =
+    (decoding : RecordFault) × (fault ≡ run_fault_of_record decoding)
+    × IsDecodeResult bytes (Err decoding)
+
 -- why nothing was loaded
 abbrev pub LoadFault : RunFault → Source → Source → Type 0
 LoadFault fault text_in journal_in =
-    ((taking : ReadFault) × (fault ≡ run_fault_of_take taking) × LoadReadFault taking text_in journal_in)
-    ⊎ ((reading : RecordFault) × (fault ≡ run_fault_of_record reading)
-    × LoadDecodeFault reading text_in journal_in)
+    ((reading : ReadFault) × (fault ≡ run_fault_of_read reading)
+    × LoadReadFault reading text_in journal_in)
+    ⊎ ((decoding : RecordFault) × (fault ≡ run_fault_of_record decoding)
+    × LoadDecodeFault decoding text_in journal_in)
 
 -- ---- what is put
 
@@ -78,13 +85,13 @@ Saves text records journal_out text_out =
 abbrev pub SaveFault : RunFault → List ℕ → List JournalEntry → Target → Target → Type 0
 SaveFault fault text records journal_out text_out =
     (JournalTextFault records fault × Untouched journal_out × Untouched text_out)
-    ⊎ ((bytes : List ℕ) × IsSavedText records bytes × IsWriteFault Part.Journal fault journal_out bytes
+    ⊎ ((bytes : List ℕ) × IsSavedText records bytes × IsWriteFault SessionPart.Journal fault journal_out bytes
     × Untouched text_out)
     ⊎ ((bytes : List ℕ) × IsSavedText records bytes × WritesBytes journal_out bytes
-    × IsWriteFault Part.Text fault text_out text)
+    × IsWriteFault SessionPart.Text fault text_out text)
 
 -- a write or a flush of this part failed
-abbrev pub IsWriteOf : Part → RunFault → Type 0
+abbrev pub IsWriteOf : SessionPart → RunFault → Type 0
 IsWriteOf part (Write named sent) = named ≡ part
 IsWriteOf part _ = ⊥
 

@@ -17,7 +17,7 @@ use Rattle.tf_lint.specs.ParseFaults.{IsUtf8WithinLimit}
 use Rattle.tf_session.specs.Machine.{done}
 use Rattle.tf_session.specs.Runs.{StepOrMemory, RunBy}
 use Rattle.tf_session.specs.NthItem.{Nth}
-use Rattle.tf_session.specs.RemovingRecord.{CannotRemove, RemovalMayAllocate}
+use Rattle.tf_session.specs.RemovingRecord.{CannotRemove, TakeMayAllocate}
 
 -- one text on another: the word of the command that pushed it, the edits between the two, and the
 -- upper text
@@ -96,13 +96,13 @@ PopsLayer old (Err fault) new = (fault ≡ NoRecord) × (old.layers ≡ []) × (
 -- edits make in order of the text below layer n.
 pub record RemovesLayer (n : ℕ) (old : History) (d : Done) (new : History) : Type 0 where
   pub nth : Nth n old.layers
-  pub new_records : List Layer
+  pub new_layers : List Layer
   pub moved_edits : EditList
   pub is_moved : IsMovedToEnd nth.item.edits (edits_of (records_in nth.after))
-      (edits_of (records_in new_records)) moved_edits
-  pub words : words_of (records_in new_records) ≡ words_of (records_in nth.after)
-  pub consistent : LayersAreConsistent (last_text old.first nth.before) new_records
-  pub new_is : new ≡ record { first = old.first; layers = nth.before ++ new_records }
+      (edits_of (records_in new_layers)) moved_edits
+  pub words : words_of (records_in new_layers) ≡ words_of (records_in nth.after)
+  pub consistent : LayersAreConsistent (last_text old.first nth.before) new_layers
+  pub new_is : new ≡ record { first = old.first; layers = nth.before ++ new_layers }
   pub done_is : d ≡ done (texts_differ (top_text new) (top_text old)) 0 0
 
 abbrev pub TakeStep : ℕ → History → Result Done Fault → History → Type 0
@@ -123,12 +123,12 @@ HistoryStep Revert old reply new = PopsLayer old reply new
 HistoryStep (Take n) old reply new = TakeStep n old reply new
 
 -- A fmt or a fix allocates only for a text that it reads, a revert only if there is a layer, and a
--- take as `RemovalMayAllocate` says of records.
+-- take as `TakeMayAllocate` says of records.
 abbrev pub HistoryMayAllocate : Command → History → Type 0
 HistoryMayAllocate Fmt h = IsUtf8WithinLimit (top_text h)
 HistoryMayAllocate (Fix rules) h = IsUtf8WithinLimit (top_text h)
 HistoryMayAllocate Revert h = h.layers ≢ []
-HistoryMayAllocate (Take n) h = RemovalMayAllocate n (top_text h) (records_in h.layers)
+HistoryMayAllocate (Take n) h = TakeMayAllocate n (top_text h) (records_in h.layers)
 
 -- one command where memory may run out
 abbrev pub HistoryStepOrMemory : Command → History → Result Done Fault → History → Type 0

@@ -16,9 +16,10 @@ pub mod ResultIsUnique
 pub mod FmtLaws
 pub mod JournalLaws
 pub mod TakeLaws
-pub mod RemovalLaws
 pub mod MachinesAgree
 pub mod Session
 pub mod Streaming
 pub mod Journals
 pub mod RevertRestores
+pub mod Inner
+pub mod Invocations

@@ -2,7 +2,7 @@
 use Rattle.std.specs.Prelude.{◌≡◌, ℕ, List, length}
 use Rattle.tf_rules.specs.declared.rule_set.RuleSet.{RuleSet}
 use Rattle.tf_lint.specs.Issues.{AreReports}
-use Rattle.tf_lint.specs.Reports.{Report, lines_of}
+use Rattle.tf_lint.specs.Reports.{Report, report_lines}
 use Rattle.tf_stream.specs.Streams.{Source, Target, WritesBytes}
 use Rattle.tf_session.specs.declared.fault.RunFault.{RunFault}
 use Rattle.tf_fix.specs.declared.parsed.Parsed.{Parsed}
@@ -18,7 +18,7 @@ HasIssues rules text found =
 -- these are the lines of the issues of a text, and this is their number
 abbrev pub AreLines : List ℕ → RuleSet → List ℕ → List ℕ → ℕ → Type 0
 AreLines name rules text lines count =
-    (found : List Report) × HasIssues rules text found × (lines ≡ lines_of name found)
+    (found : List Report) × HasIssues rules text found × (lines ≡ report_lines name found)
     × (count ≡ length found)
 
 -- these are the lines of the issues of a text

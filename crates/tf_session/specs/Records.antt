@@ -13,7 +13,7 @@ use Rattle.tf_session.specs.declared.command.Fault.TheVariants.{NoRecord, Refuse
 use Rattle.tf_lint.specs.Steps.{Rewrite, texts_differ}
 use Rattle.tf_session.specs.Rewrites.{Rewrites, RefusesText}
 use Rattle.tf_session.specs.Machine.{StackEntry, done}
-use Rattle.tf_session.specs.RemovingRecord.{RemovesRecord, RefusesRemoval}
+use Rattle.tf_session.specs.RemovingRecord.{RemovesRecord, RefusesTake}
 
 -- the word that the record of a command has; revert and take have no record
 abbrev pub HasWord : Command → Word → Type 0
@@ -102,7 +102,7 @@ abbrev pub RefusesStep : Command → List ℕ → List JournalEntry → Fault �
 RefusesStep Fmt t js fault = RefusesText Fmt t fault
 RefusesStep (Fix rules) t js fault = RefusesText (Fix rules) t fault
 RefusesStep Revert t js fault = RefusesRevert t js fault
-RefusesStep (Take n) t js fault = RefusesRemoval n t js fault
+RefusesStep (Take n) t js fault = RefusesTake n t js fault
 
 -- why a command refuses a text that has no record before it
 abbrev pub RefusesAlone : Command → List ℕ → Fault → Type 0

@@ -1,5 +1,5 @@
--- Reverting one record of any journal out of order, from outside too: the text t and the records js
--- before, u and ks after. What it means to remove one change from a list of exact changes is this
+-- A take: reverting one record of any journal out of order, from outside too; the text t and the
+-- records js before, u and ks after. What it means to remove one record from among others is this
 -- project's own, and is defined here and in swaps of edit_record.
 use Rattle.std.specs.Prelude.{◌≡◌, ◌+◌, ◌<◌, ◌⊎◌, ℕ, List, ◌++◌, length, Err}
 use Rattle.edit_record.specs.Lists.Pieces.{EditList, Transforms}
@@ -61,8 +61,8 @@ pub record UndoFails (n : ℕ) (t : List ℕ) (js : List JournalEntry) (refused 
 
 -- Memory is allocated if the next record can be swapped with record n, and to undo the edits of
 -- record n as they are after all others, in a text of the length that they make.
-abbrev pub RemovalMayAllocate : ℕ → List ℕ → List JournalEntry → Type 0
-RemovalMayAllocate n t js =
+abbrev pub TakeMayAllocate : ℕ → List ℕ → List JournalEntry → Type 0
+TakeMayAllocate n t js =
     (nth : Nth n js) × (MoveMayAllocate nth.item.edits nth.after
     ⊎ ((others : List EditList) × (moved_edits : EditList)
     × IsMovedToEnd nth.item.edits (edits_of nth.after) others moved_edits × HasExpectedLen Backward moved_edits t))
@@ -71,22 +71,22 @@ RemovalMayAllocate n t js =
 -- after it that can't be swapped has an edit that meets one of record n; or the text without the
 -- one and with the other would be too long; or that record is for texts of another length. Or the
 -- edits of record n can't be undone in the text. Or memory ran out.
-pub data RefusesRemoval (n : ℕ) (t : List ℕ) (js : List JournalEntry) : Fault → Type 0 where
-  no_record : (n ≡ 0) ⊎ (length js < n) → RefusesRemoval n t js Fault.NoRecord
-  blocked : {k : ℕ} → FailsAfter n js k SomeMeet → RefusesRemoval n t js (Fault.Blocked (n + k + 1))
-  too_long : {k : ℕ} → FailsAfter n js k SwapIsTooLong → RefusesRemoval n t js Fault.TooLong
+pub data RefusesTake (n : ℕ) (t : List ℕ) (js : List JournalEntry) : Fault → Type 0 where
+  no_record : (n ≡ 0) ⊎ (length js < n) → RefusesTake n t js Fault.NoRecord
+  blocked : {k : ℕ} → FailsAfter n js k SomeMeet → RefusesTake n t js (Fault.Blocked (n + k + 1))
+  too_long : {k : ℕ} → FailsAfter n js k SwapIsTooLong → RefusesTake n t js Fault.TooLong
   lengths_differ : {k expected found : ℕ} → FailsAfter n js k (λ a b. LengthMismatch a b expected found)
-      → RefusesRemoval n t js (Fault.Refused (Refused.Length expected found))
+      → RefusesTake n t js (Fault.Refused (Refused.Length expected found))
   not_undone : {refused : Refused} → UndoFails n t js refused
-      → RefusesRemoval n t js (Fault.Refused refused)
-  memory : RemovalMayAllocate n t js → RefusesRemoval n t js Fault.Memory
+      → RefusesTake n t js (Fault.Refused refused)
+  memory : TakeMayAllocate n t js → RefusesTake n t js Fault.Memory
 
 -- what `move_to_end` returns of the records after record n, of which it counts the first as 0
-abbrev pub removal_fault : ℕ → MoveFault → Fault
-removal_fault n (MoveFault.Length expected found) = Fault.Refused (Refused.Length expected found)
-removal_fault n (MoveFault.Blocked passed) = Fault.Blocked (n + passed + 1)
-removal_fault n MoveFault.TooLong = Fault.TooLong
-removal_fault n MoveFault.Memory = Fault.Memory
+abbrev pub fault_of_move : ℕ → MoveFault → Fault
+fault_of_move n (MoveFault.Length expected found) = Fault.Refused (Refused.Length expected found)
+fault_of_move n (MoveFault.Blocked passed) = Fault.Blocked (n + passed + 1)
+fault_of_move n MoveFault.TooLong = Fault.TooLong
+fault_of_move n MoveFault.Memory = Fault.Memory
 
 -- how many records, from record n on, are counted for this result
 abbrev pub counted_records : MoveFault → ℕ

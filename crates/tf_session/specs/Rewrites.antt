@@ -4,7 +4,7 @@ use Rattle.hcl_scan.specs.Fault.{IsFault}
 use Rattle.tf_session.specs.declared.command.Command.{Command}
 use Rattle.tf_session.specs.declared.command.Command.TheVariants.{Fmt, Fix, Revert, Take}
 use Rattle.tf_session.specs.declared.command.Fault.{Fault}
-use Rattle.tf_session.specs.declared.command.Fault.TheVariants.{Scan, Parse, FixBroken, TooLong, NoRecord, Refused, Memory, Blocked}
+use Rattle.tf_session.specs.declared.command.Fault.TheVariants.{Scan, Parse, Memory}
 use Rattle.tf_lint.specs.ParseFaults.{IsUtf8WithinLimit, IsParseFault}
 use Rattle.tf_lint.specs.Steps.{Rewrite}
 use Rattle.tf_session.specs.Fixing.{FixRewrites}
@@ -19,25 +19,15 @@ Rewrites (Take n) text answer = ⊥
 
 -- whether memory ran out inside the command
 abbrev pub is_memory_fault : Fault → Bool
-is_memory_fault (Scan fault) = false
-is_memory_fault (Parse fault) = false
-is_memory_fault (FixBroken rule) = false
-is_memory_fault TooLong = false
-is_memory_fault NoRecord = false
-is_memory_fault (Refused refused) = false
 is_memory_fault Memory = true
-is_memory_fault (Blocked number) = false
+is_memory_fault _ = false
 
 -- why a text is not read: it has no tokens, it does not parse, or memory ran out while it was read
 abbrev pub IsReadFault : List ℕ → Fault → Type 0
 IsReadFault text (Scan fault) = IsFault text fault
 IsReadFault text (Parse fault) = IsParseFault text fault
-IsReadFault text (FixBroken rule) = ⊥
-IsReadFault text TooLong = ⊥
-IsReadFault text NoRecord = ⊥
-IsReadFault text (Refused refused) = ⊥
 IsReadFault text Memory = IsUtf8WithinLimit text
-IsReadFault text (Blocked number) = ⊥
+IsReadFault text _ = ⊥
 
 -- why a command refuses a text: it can't make another of it, or memory ran out while it read it
 abbrev pub RefusesText : Command → List ℕ → Fault → Type 0

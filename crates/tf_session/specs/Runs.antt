@@ -18,8 +18,8 @@ StepOrMemory MayAllocate Step command old reply new =
     MatchBool (is_memory reply) (MayAllocate command old × (new ≡ old)) (Step command old reply new)
 
 -- Each command has its reply, in order: there is a state between each two of them.
-abbrev pub RunBy : {State : Type 0} → (Command → State → Result Done Fault → State → Type 0)
-    → State → List Command → List (Result Done Fault) → State → Type 0
+abbrev pub RunBy : {State Reply : Type 0} → (Command → State → Reply → State → Type 0)
+    → State → List Command → List Reply → State → Type 0
 RunBy Step old [] [] new = new ≡ old
 RunBy Step old [] (reply ∷ replies) new = ⊥
 RunBy Step old (command ∷ commands) [] new = ⊥

@@ -6,7 +6,7 @@ use Rattle.tf_stream.specs.declared.fault.ReadFault.{ReadFault}
 use Rattle.tf_session.specs.declared.command.Fault.{Fault}
 use Rattle.tf_session.specs.declared.fault.RunFault.{RunFault}
 use Rattle.tf_session.specs.declared.fault.RunFault.TheVariants.{Memory, Read, Write, Endless}
-use Rattle.tf_session.specs.declared.fault.Part.{Part}
+use Rattle.tf_session.specs.declared.fault.SessionPart.{SessionPart}
 use Rattle.tf_session.specs.Faults.{run_fault_of}
 
 -- this text is all that the source had
@@ -21,7 +21,7 @@ IsReadStreamFault Endless source = ReadAtFault MAX_TEXT ReadFault.Endless source
 IsReadStreamFault _ source = ⊥
 
 -- the error is Write of this part, and just the bytes that it says were sent are in the target
-abbrev pub IsWriteFault : Part → RunFault → Target → List ℕ → Type 0
+abbrev pub IsWriteFault : SessionPart → RunFault → Target → List ℕ → Type 0
 IsWriteFault part (Write named sent) target bytes = (named ≡ part) × WritesPrefix sent target bytes
 IsWriteFault part _ target bytes = ⊥
 
@@ -50,7 +50,7 @@ FailsToMake Refuses fault source target = RefusesInput Refuses fault source × U
 abbrev pub FailsToWrite : (List ℕ → List ℕ → Type 0) → RunFault → Source → Target → Type 0
 FailsToWrite Makes fault source target =
     (text : List ℕ) × (made : List ℕ) × ReadsText source text × Makes text made
-    × IsWriteFault Part.Text fault target made
+    × IsWriteFault SessionPart.Text fault target made
 
 abbrev pub StreamFault : (List ℕ → Fault → Type 0) → (List ℕ → List ℕ → Type 0) → RunFault
     → Source → Target → Type 0

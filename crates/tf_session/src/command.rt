@@ -1,10 +1,12 @@
 //! The commands of a session, and its replies.
 
-ghost use Rattle.std.specs.Prelude.{◌≡◌};
+ghost use Rattle.std.specs.Prelude.{◌≡◌, ◌<◌, ◌+◌, ◌^◌};
+ghost use Rattle.tf_session.specs.RemovingRecord.{fault_of_move, counted_records};
 
 use edit_record::lists::Refused;
+use edit_record::swaps::MoveFault;
 use hcl_layout::LayoutFault;
-use hcl_scan::ScanFault;
+use hcl_scan::{MAX_TEXT, ScanFault};
 use hcl_tree::ParseFault;
 use std::fmt;
 use tf_lint::{FixFault, LintFault, Rule, RuleSet};
@@ -47,8 +49,8 @@ pub enum Fault {
     /// What the fix of the rule makes of the text does not parse.
     #[error("fix of {} does not parse", .rule.name())]
     FixBroken { rule: Rule },
-    /// The new text would have more than 16,777,216 bytes.
-    #[error("the text has more than 16777216 bytes")]
+    /// The new text would have more than `MAX_TEXT` bytes.
+    #[error("the text has more than {} bytes", MAX_TEXT)]
     TooLong,
     /// There is no command to revert.
     #[error("nothing to revert")]
@@ -124,6 +126,24 @@ impl From<Refused> for Fault {
             Refused::Memory => Fault::Memory,
             refused => Fault::Refused(refused),
         }
+    }
+}
+
+/// Converts an error of `move_to_end`, which counts the records after number `number` from 0, to
+/// one of the command.
+pub fn fault_of_move(fault: MoveFault, number: usize) -> Fault
+    requires { number + counted_records fault < 2 ^ 64 }
+    ensures { result ≡ fault_of_move number fault }
+{
+    match fault {
+        MoveFault::Length { expected, found } => {
+            Fault::Refused(Refused::Length { expected, found })
+        }
+        MoveFault::Blocked { number: passed } => Fault::Blocked {
+            number: number + passed + 1,
+        },
+        MoveFault::TooLong => Fault::TooLong,
+        MoveFault::Memory => Fault::Memory,
     }
 }
 

@@ -5,7 +5,7 @@ ghost use Rattle.std.specs.Prelude.{◌≡◌};
 use crate::command::Fault;
 use edit_record::RecordFault;
 use edit_record::lists::Refused;
-use hcl_scan::ScanFault;
+use hcl_scan::{MAX_TEXT, ScanFault};
 use hcl_tree::ParseFault;
 use std::alloc::{AllocError, AllocFailed};
 use std::fmt;
@@ -15,7 +15,7 @@ use thiserror::Error;
 
 /// What a writer was given.
 #[derive(Clone, Copy, Debug, PartialEq, Eq)]
-pub enum Part {
+pub enum SessionPart {
     /// The text of a journal.
     Journal,
     /// A configuration text, or the lines of its issues.
@@ -34,8 +34,8 @@ pub enum RunFault {
     /// What the fix of the rule makes of the text does not parse.
     #[error("fix of {} does not parse", .rule.name())]
     FixBroken { rule: Rule },
-    /// The new text would have more than 16,777,216 bytes.
-    #[error("the text has more than 16777216 bytes")]
+    /// The new text would have more than `MAX_TEXT` bytes.
+    #[error("the text has more than {} bytes", MAX_TEXT)]
     TooLong,
     /// There is no command to revert.
     #[error("nothing to revert")]
@@ -55,7 +55,7 @@ pub enum RunFault {
     Read,
     /// A write or a flush failed, or a write took nothing, after `sent` bytes of the part went out.
     #[error("cannot write, {sent} bytes sent")]
-    Write { part: Part, sent: usize },
+    Write { part: SessionPart, sent: usize },
     /// The reader has more bytes than the limit allows.
     #[error("text or journal is too long")]
     Endless,
@@ -92,9 +92,9 @@ impl<T: Drop> From<AllocFailed<T>> for RunFault {
 }
 
 impl From<ReadFault> for RunFault {
-    ghost use Rattle.tf_session.specs.Faults.{run_fault_of_take};
+    ghost use Rattle.tf_session.specs.Faults.{run_fault_of_read};
 
-    ghost from_gives = { λ fault given. given ≡ run_fault_of_take fault };
+    ghost from_gives = { λ fault given. given ≡ run_fault_of_read fault };
 
     fn from(fault: ReadFault) -> Self {
         match fault {

@@ -19,14 +19,19 @@ ghost use Rattle.tf_session.specs.declared.command.Fault.TheVariants.{TooLong, M
 
 use crate::command::Fault;
 use crate::reading::check_syntax;
+use edit_record::laws::{apply_is_exact, change_is_one_to_one};
 use edit_record::lists::Change as _;
-use edit_record::lists::laws::{apply_is_exact, change_is_one_to_one};
 use hcl_layout::{formatted_text, is_parsed_laid_out, layout_of_parsed};
 use hcl_scan::Scanned;
 use std::alloc::Global;
 use tf_lint::NewText;
 
-/// The text laid out, with the edits that do so; none where it is its own layout.
+/// Returns the layout of a text, with the edits that make it; none if the text is its own layout.
+///
+/// # Errors
+///
+/// `Scan` or `Parse` if the text does not parse, `TooLong` if its layout has more than `MAX_TEXT`
+/// bytes; `Memory`.
 pub fn fmt_text(alloc: Global, text: &[u8]) -> Result<Option<NewText>, Fault>
     ensures rewrites { IfOk result (λ change. Rewrites Fmt text.now (Ok (fmt_rewrite text.now change))) }
     ensures change { IfOk result
@@ -38,8 +43,8 @@ pub fn fmt_text(alloc: Global, text: &[u8]) -> Result<Option<NewText>, Fault>
     Ok(change)
 }
 
-/// The layout of a text that parses, with its edits; none where there are no edits, so that no copy
-/// of the text is made.
+/// Returns the layout of a text that parses, with its edits; none if there are no edits, so that no
+/// copy of the text is made.
 fn layout_change(alloc: Global, scanned: &Scanned<'_>) -> Result<Option<NewText>, Fault>
     requires { (t : tree.Tree) × IsFile (tokens_of scanned.now.pairs) MAX_NESTING t }
     ensures layout { IfOk result
@@ -65,30 +70,24 @@ fn layout_change(alloc: Global, scanned: &Scanned<'_>) -> Result<Option<NewText>
 }
 
 /// Formats a text as a session with no journal does, but makes no edits.
+///
+/// # Errors
+///
+/// As for [`fmt_text`].
 pub fn format_without_session(alloc: Global, text: &[u8]) -> Result<Vec<u8>, Fault>
     ensures rewrites { IfOk result (λ new. StepsTo Fmt text.now new.items) }
     ensures fault { IfErr result (λ fault. RefusesText Fmt text.now fault) }
 {
     let scanned = check_syntax(alloc, text)?;
-    let new = layout_of_text(alloc, &scanned)?;
+    let new = formatted_text(alloc, &scanned)?;
     Ok(new)
 }
 
-/// The layout of a text that parses, with no edits made.
-fn layout_of_text(alloc: Global, scanned: &Scanned<'_>) -> Result<Vec<u8>, Fault>
-    requires { (t : tree.Tree) × IsFile (tokens_of scanned.now.pairs) MAX_NESTING t }
-    ensures layout { IfOk result (λ new. IsLayout scanned.now.text new.items) }
-    ensures short { IfOk result (λ new. length new.items ≤ MAX_TEXT) }
-    ensures transforms { IfOk result (λ new.
-        Transforms (layout_edits scanned.now) scanned.now.text new.items) }
-    ensures fault { IfErr result (λ fault.
-        (fault ≡ Memory) ⊎ ((fault ≡ TooLong) × IsTooLong scanned.now.text)) }
-{
-    let new = formatted_text(alloc, scanned)?;
-    Ok(new)
-}
-
-/// Whether the text is its own layout.
+/// Returns whether the text is its own layout.
+///
+/// # Errors
+///
+/// As for [`fmt_text`].
 pub fn is_formatted(alloc: Global, text: &[u8]) -> Result<bool, Fault>
     ensures parses { OnOk result (DoesParse text.now) }
     ensures short { OnOk result (¬ (IsTooLong text.now)) }

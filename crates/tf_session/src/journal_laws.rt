@@ -1,9 +1,12 @@
 //! Laws of texts with their journals. The functions do nothing: a call makes a law's clause
 //! available to the proof of its caller.
 
+ghost use Rattle.tf_session.specs.Invocations.{InvocationsAreStackRun, InvocationsAreHistoryRun};
 ghost use Rattle.tf_session.specs.RevertRestores.{RevertRestores, RevertSucceeds};
 
-use edit_record::laws::{change_result_is_unique, text_is_unambiguous};
+use edit_record::laws::{
+    change_result_is_unique, move_to_end_is_unique, text_is_unambiguous, transformed_lengths_match,
+};
 
 /// A fmt or a fix that changed the text, and then a revert over what it wrote, give the first text
 /// and the journal as it was read.
@@ -20,4 +23,24 @@ pub fn revert_fails_only_from_outside()
 {
     change_result_is_unique();
     text_is_unambiguous();
+}
+
+/// Fmt, fix and revert on a file that has no journal, each on what the one before it saved, are one
+/// run of the stack of whole texts: text and results are those of `run`. A command that ran out of
+/// memory, or whose journal would be too long, might as well not have been given.
+pub fn invocations_are_stack_run()
+    ensures { InvocationsAreStackRun }
+{
+    text_is_unambiguous();
+    change_result_is_unique();
+}
+
+/// With takes among them they are one run of the layers of edits.
+pub fn invocations_are_history_run()
+    ensures { InvocationsAreHistoryRun }
+{
+    text_is_unambiguous();
+    change_result_is_unique();
+    move_to_end_is_unique();
+    transformed_lengths_match();
 }

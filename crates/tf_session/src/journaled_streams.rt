@@ -9,13 +9,17 @@ ghost use Rattle.tf_session.specs.Journals.{IsWriteOf, StreamsCommand, Journaled
 
 use crate::loader::load;
 use crate::saver::save;
-use crate::{Command, Done, Part, RuleSet, RunFault, Told};
+use crate::{Command, Done, RuleSet, RunFault, SessionPart, Told};
 use std::alloc::Global;
 use std::io::{Read, Write};
 
 /// Formats the text of a reader, and writes the journal with the record of that, then the new text.
+/// Both are written if nothing changed, too.
 ///
-/// Both are written if nothing changed, too. Nothing is written at any error but `Write`.
+/// # Errors
+///
+/// Those of [`load`], of `Session::step` with `Command::Fmt` and of [`save`]. Nothing is written at
+/// any error but `Write`.
 pub fn fmt_stream<R: Read, J: Read, K: Write, W: Write>(
     alloc: Global,
     text: &mut Told<R>,
@@ -44,17 +48,20 @@ pub fn fmt_stream<R: Read, J: Read, K: Write, W: Write>(
         (λ fault. is_write fault ≡ false → Untouched (target_of W.contents text_out.old text_out.new)) }
     ensures read { IsErrOf result RunFault.Read
         ↔ (has_failed text.new ≡ true) ⊎ (has_failed journal.new ≡ true) }
-    ensures journal_failed { IsErrAnd result (IsWriteOf Part.Journal)
+    ensures journal_failed { IsErrAnd result (IsWriteOf SessionPart.Journal)
         ↔ has_failed journal_out.new ≡ true }
-    ensures text_failed { IsErrAnd result (IsWriteOf Part.Text) ↔ has_failed text_out.new ≡ true }
+    ensures text_failed { IsErrAnd result (IsWriteOf SessionPart.Text) ↔ has_failed text_out.new ≡ true }
 {
     command_stream(alloc, Command::Fmt, text, journal, journal_out, text_out)
 }
 
 /// Fixes what the rules find in the text of a reader, and writes the journal with the record of
-/// that, then the new text.
+/// that, then the new text. Both are written if nothing changed, too.
 ///
-/// Both are written if nothing changed, too. Nothing is written at any error but `Write`.
+/// # Errors
+///
+/// Those of [`load`], of `Session::step` with `Command::Fix` and of [`save`]. Nothing is written at
+/// any error but `Write`.
 pub fn fix_stream<R: Read, J: Read, K: Write, W: Write>(
     alloc: Global,
     text: &mut Told<R>,
@@ -84,9 +91,9 @@ pub fn fix_stream<R: Read, J: Read, K: Write, W: Write>(
         (λ fault. is_write fault ≡ false → Untouched (target_of W.contents text_out.old text_out.new)) }
     ensures read { IsErrOf result RunFault.Read
         ↔ (has_failed text.new ≡ true) ⊎ (has_failed journal.new ≡ true) }
-    ensures journal_failed { IsErrAnd result (IsWriteOf Part.Journal)
+    ensures journal_failed { IsErrAnd result (IsWriteOf SessionPart.Journal)
         ↔ has_failed journal_out.new ≡ true }
-    ensures text_failed { IsErrAnd result (IsWriteOf Part.Text) ↔ has_failed text_out.new ≡ true }
+    ensures text_failed { IsErrAnd result (IsWriteOf SessionPart.Text) ↔ has_failed text_out.new ≡ true }
 {
     command_stream(
         alloc,
@@ -101,7 +108,10 @@ pub fn fix_stream<R: Read, J: Read, K: Write, W: Write>(
 /// Reverts the last command on the text of a reader, and writes the journal without its record,
 /// then the text before it.
 ///
-/// Nothing is written at any error but `Write`.
+/// # Errors
+///
+/// Those of [`load`], of `Session::step` with `Command::Revert` and of [`save`]. Nothing is written
+/// at any error but `Write`.
 pub fn revert_stream<R: Read, J: Read, K: Write, W: Write>(
     alloc: Global,
     text: &mut Told<R>,
@@ -130,9 +140,9 @@ pub fn revert_stream<R: Read, J: Read, K: Write, W: Write>(
         (λ fault. is_write fault ≡ false → Untouched (target_of W.contents text_out.old text_out.new)) }
     ensures read { IsErrOf result RunFault.Read
         ↔ (has_failed text.new ≡ true) ⊎ (has_failed journal.new ≡ true) }
-    ensures journal_failed { IsErrAnd result (IsWriteOf Part.Journal)
+    ensures journal_failed { IsErrAnd result (IsWriteOf SessionPart.Journal)
         ↔ has_failed journal_out.new ≡ true }
-    ensures text_failed { IsErrAnd result (IsWriteOf Part.Text) ↔ has_failed text_out.new ≡ true }
+    ensures text_failed { IsErrAnd result (IsWriteOf SessionPart.Text) ↔ has_failed text_out.new ≡ true }
 {
     command_stream(alloc, Command::Revert, text, journal, journal_out, text_out)
 }
@@ -168,9 +178,9 @@ fn command_stream<R: Read, J: Read, K: Write, W: Write>(
         (λ fault. is_write fault ≡ false → Untouched (target_of W.contents text_out.old text_out.new)) }
     ensures read { IsErrOf result RunFault.Read
         ↔ (has_failed text.new ≡ true) ⊎ (has_failed journal.new ≡ true) }
-    ensures journal_failed { IsErrAnd result (IsWriteOf Part.Journal)
+    ensures journal_failed { IsErrAnd result (IsWriteOf SessionPart.Journal)
         ↔ has_failed journal_out.new ≡ true }
-    ensures text_failed { IsErrAnd result (IsWriteOf Part.Text) ↔ has_failed text_out.new ≡ true }
+    ensures text_failed { IsErrAnd result (IsWriteOf SessionPart.Text) ↔ has_failed text_out.new ≡ true }
 {
     let mut session = match load(alloc, text, journal) {
         Ok(session) => session,

@@ -6,16 +6,18 @@ ghost use Rattle.edit_record.specs.Lists.Journal.{JournalEntry};
 ghost use Rattle.tf_session.specs.ResultIsUnique.{CommandResultIsUnique};
 ghost use Rattle.tf_session.specs.FmtLaws.{FmtKeepsTokens, FmtIsIdempotent};
 ghost use Rattle.tf_session.specs.JournalLaws.{JournalSquashesToOne};
-ghost use Rattle.tf_session.specs.TakeLaws.{CommandResultIsUniqueOverLayers, TakeResultIsUnique, TakePreservesHistory, OutOfMemoryChangesNothingOverLayers, RevertsRestoreTheFirstAfterTakes, JournalSquashesToOneAfterTakes};
-ghost use Rattle.tf_session.specs.RemovalLaws.{RemovalIsUnique};
+ghost use Rattle.tf_session.specs.TakeLaws.{CommandResultIsUniqueOverLayers, TakeResultIsUnique};
+ghost use Rattle.tf_session.specs.TakeLaws.{TakePreservesHistory, RevertsRestoreTheFirstAfterTakes};
+ghost use Rattle.tf_session.specs.TakeLaws.{OutOfMemoryChangesNothingOverLayers};
+ghost use Rattle.tf_session.specs.TakeLaws.{JournalSquashesToOneAfterTakes};
+ghost use Rattle.tf_session.specs.TakeLaws.{TakeResultIsUniqueOverRecords};
 ghost use Rattle.tf_session.specs.MachinesAgree.{MachinesAgreeWithoutTake};
 ghost use Rattle.tf_session.specs.RunLaws.{OutOfMemoryChangesNothing, RevertsPop, RevertsRestoreTheFirst};
 
-use edit_record::lists::laws::{
-    apply_is_deterministic, change_result_is_unique, transformed_lengths_match,
+use edit_record::laws::{
+    apply_is_deterministic, change_result_is_unique, composable_lists_squash,
+    move_to_end_is_unique, squash_all_is_unique, swap_is_unique, transformed_lengths_match,
 };
-use edit_record::squashes::laws::{composable_lists_squash, squash_all_is_unique};
-use edit_record::swaps::laws::{move_to_end_is_unique, swap_is_unique};
 use hcl_layout::laws::{layout_keeps_tokens, layout_of_layout, one_layout};
 use hcl_scan::laws::{no_tokenization_with_fault, one_fault, one_tokenization};
 use tf_lint::laws::fix_is_unique;
@@ -96,8 +98,9 @@ pub fn take_result_is_unique()
 
 /// A take over any text and journal, from outside too, has one result, memory aside: it is not both
 /// done and refused, and it is refused for one reason.
-pub fn removal_is_unique()
-    ensures { (n : ℕ) (text : List ℕ) (records : List JournalEntry) → RemovalIsUnique n text records }
+pub fn take_result_is_unique_over_records()
+    ensures { (n : ℕ) (text : List ℕ) (records : List JournalEntry)
+        → TakeResultIsUniqueOverRecords n text records }
 {
     swap_is_unique();
     move_to_end_is_unique();

@@ -9,17 +9,20 @@ ghost use Rattle.tf_session.specs.Streams.{is_write};
 
 use crate::command::Fault;
 use crate::fault::RunFault;
-use crate::reading::lint_text;
 use crate::text_io::{put_text, take_text};
 use std::alloc::Global;
 use std::io::{Read, Write};
-use tf_lint::{RuleSet, lines_of_findings};
+use tf_lint::{RuleSet, lines_of_findings, lint_text};
 use tf_stream::Told;
 
 /// Writes a line for each issue that the rules find in the text of a reader, each followed by LF,
 /// and returns their number.
 ///
-/// All lines are made before the first is written, so nothing is written at any error but `Write`.
+/// # Errors
+///
+/// `Read`, `Endless`, as for [`take_text`]; `Scan` or `Parse` if the text does not parse; `Memory`;
+/// `Write` of the lines, as for [`put_text`]. All lines are made before the first is written, so
+/// nothing is written at any error but `Write`.
 pub fn lint_stream<R: Read, W: Write>(
     alloc: Global,
     name: &str,
@@ -54,7 +57,7 @@ fn issue_lines(
     ensures lines { IfOk result (λ made. AreLines name.now rules text.now made.0.items made.1) }
     ensures fault { IfErr result (λ fault. IsReadFault text.now fault) }
 {
-    let searched = lint_text(alloc, text, rules)?;
+    let searched = lint_text(alloc, text, rules, false)?;
     let found = searched.found.as_slice();
     match lines_of_findings(alloc, name, &searched.scanned, found) {
         Ok(lines) => Ok((lines.into_bytes(), found.len())),

@@ -2,9 +2,11 @@
 
 ghost use Rattle.std.specs.Prelude.{◌≡◌, ◌↔◌, ◌⊎◌, true, false, IfOk, IfErr, IsErrOf};
 ghost use Rattle.tf_stream.specs.Told.{has_failed};
-ghost use Rattle.tf_stream.specs.Streams.{source_of};
+ghost use Rattle.tf_stream.specs.Streams.{source_of, ReadsAll, ReadAtFault};
+ghost use Rattle.tf_stream.specs.declared.fault.ReadFault.{ReadFault};
+ghost use Rattle.tf_session.specs.Faults.{run_fault_of_read};
 ghost use Rattle.tf_session.specs.Session.{text_of, records_of};
-ghost use Rattle.tf_session.specs.Journals.{Loads, LoadFault};
+ghost use Rattle.tf_session.specs.Journals.{MAX_JOURNAL, Loads, LoadFault};
 
 use crate::{RunFault, Session, Told};
 use edit_record::decode_owned;
@@ -16,12 +18,33 @@ use tf_stream::read_to_limit;
 /// The most bytes of a journal's text, read or written.
 pub const MAX_JOURNAL: usize = 268_435_456;
 
-/// Returns the session of a text and the text of its journal, each read up to its end. The text is
-/// read first, then the journal, and then that is decoded; the first error is returned.
+/// Reads all the bytes of a journal's text, as [`take_text`](crate::take_text) does those of a text.
 ///
-/// `Read` if a read failed, whatever its error; `Endless` if the text has more than 16,777,216
-/// bytes or the journal more than [`MAX_JOURNAL`], of which one byte more is read; `BadJournal` if
-/// the journal's bytes are the text of none.
+/// # Errors
+///
+/// `Read` if a read fails; `Endless` if it has more than [`MAX_JOURNAL`] bytes; `Memory`.
+pub fn take_journal<R: Read>(alloc: Global, reader: &mut Told<R>) -> Result<Vec<u8>, RunFault>
+    requires { has_failed reader.old ≡ false }
+    ensures bytes { IfOk result
+        (λ bytes. ReadsAll MAX_JOURNAL (source_of R.remaining reader.old reader.new) bytes.items) }
+    ensures fault { IfErr result (λ fault. (reading : ReadFault) × (fault ≡ run_fault_of_read reading)
+        × ReadAtFault MAX_JOURNAL reading (source_of R.remaining reader.old reader.new)) }
+    ensures read { IsErrOf result RunFault.Read ↔ has_failed reader.new ≡ true }
+{
+    match read_to_limit(alloc, MAX_JOURNAL, reader) {
+        Ok(bytes) => Ok(bytes),
+        Err(fault) => Err(RunFault::from(fault)),
+    }
+}
+
+/// Returns the session of a text and the text of its journal, each read up to its end. The text is
+/// read first, then the journal, and then that is decoded.
+///
+/// # Errors
+///
+/// The first in that order: `Read` if a read fails, whatever its error; `Endless` if the text has
+/// more than `MAX_TEXT` bytes or the journal more than [`MAX_JOURNAL`], of which one byte more is
+/// read; `BadJournal` if the journal's bytes are the text of none; `Memory`.
 pub fn load<R: Read, J: Read>(
     alloc: Global,
     text: &mut Told<R>,

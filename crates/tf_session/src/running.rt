@@ -3,14 +3,16 @@
 ghost use Rattle.std.specs.Prelude.{◌≡◌, ◌<◌, IfOk, IfErr, length};
 ghost use Rattle.tf_session.specs.Session.{text_of, records_of};
 ghost use Rattle.tf_session.specs.Machine.{Stack, initial_stack, StackRun, WithoutTake};
-ghost use Rattle.tf_session.specs.Layers.{History, initial_history, top_text, records_in, IsHistory, HistoryRun};
+ghost use Rattle.tf_session.specs.Layers.{History, initial_history, top_text};
+ghost use Rattle.tf_session.specs.Layers.{records_in, IsHistory, HistoryRun};
 ghost use Rattle.tf_session.specs.Records.{IsJournalOfStack};
 
 use crate::command::{Command, Reply};
 use crate::session::Session;
+use edit_record::laws::{
+    change_result_is_unique, move_to_end_is_unique, transformed_lengths_match,
+};
 use edit_record::lists::Journal;
-use edit_record::lists::laws::{change_result_is_unique, transformed_lengths_match};
-use edit_record::swaps::laws::move_to_end_is_unique;
 use std::alloc::{AllocError, Global};
 
 /// Does the commands in order, over a text with no journal, and returns one reply for each.
@@ -20,6 +22,10 @@ use std::alloc::{AllocError, Global};
 /// record for each two neighbors. With takes among the commands they are those of the first text
 /// and the layers of edits on it, of which a take removes any one. A command that runs out of
 /// memory has the reply `Memory` and might as well not be in the list.
+///
+/// # Errors
+///
+/// No memory for the list of replies; never for no commands. What a command refuses is its reply.
 pub fn run(
     alloc: Global,
     text: Vec<u8>,

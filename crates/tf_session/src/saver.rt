@@ -1,15 +1,17 @@
 //! A session to two writers.
 
-ghost use Rattle.std.specs.Prelude.{◌≡◌, ◌↔◌, ◌<◌, ◌≤◌, length, true, false, OnOk, OnErr, IfOk, IfErr, IsErrAnd};
+ghost use Rattle.std.specs.Prelude.{◌≡◌, ◌↔◌, ◌<◌, ◌≤◌, length, true, false};
+ghost use Rattle.std.specs.Prelude.{OnOk, OnErr, IfOk, IfErr, IsErrAnd};
 ghost use Rattle.edit_record.specs.Text.{journal_text};
 ghost use Rattle.tf_stream.specs.Told.{has_failed};
 ghost use Rattle.tf_stream.specs.Streams.{target_of, Untouched};
 ghost use Rattle.tf_session.specs.Session.{text_of, records_of};
 ghost use Rattle.tf_session.specs.Streams.{is_write};
-ghost use Rattle.tf_session.specs.Journals.{MAX_JOURNAL, IsSavedText, JournalTextFault, Saves, SaveFault, IsWriteOf};
+ghost use Rattle.tf_session.specs.Journals.{MAX_JOURNAL, IsSavedText, JournalTextFault};
+ghost use Rattle.tf_session.specs.Journals.{Saves, SaveFault, IsWriteOf};
 
 use crate::loader::MAX_JOURNAL;
-use crate::{Part, RunFault, Session, Told, put_journal, put_text};
+use crate::{RunFault, Session, SessionPart, Told, put_journal, put_text};
 use edit_record::lists::Journal;
 use edit_record::{encode_owned, encode_with_len, encoded_len};
 use std::alloc::Global;
@@ -36,10 +38,11 @@ fn journal_len(journal: &Journal) -> Result<usize, RunFault>
     Ok(len)
 }
 
-/// Returns the text of the session's journal, as it is written.
+/// Returns the text of the session's journal, as it is written. An empty journal allocates nothing.
 ///
-/// `Endless` if it would have more than [`MAX_JOURNAL`] bytes: then nothing is allocated. An empty
-/// journal allocates nothing either.
+/// # Errors
+///
+/// `Endless` if it would have more than [`MAX_JOURNAL`] bytes: then nothing is allocated. `Memory`.
 pub fn journal_text(alloc: Global, session: &Session) -> Result<Vec<u8>, RunFault>
     ensures text { IfOk result (λ text. IsSavedText (records_of session.now) text.items) }
     ensures fault { IfErr result (λ fault. JournalTextFault (records_of session.now) fault) }
@@ -55,6 +58,10 @@ pub fn journal_text(alloc: Global, session: &Session) -> Result<Vec<u8>, RunFaul
 /// Returns the session's text, and the text of its journal as [`journal_text`] does. It consumes
 /// the session, and copies neither its text nor the text that its journal kept. Both lists give
 /// back their spare capacity.
+///
+/// # Errors
+///
+/// As for [`journal_text`].
 pub fn saved_texts(session: Session) -> Result<SavedTexts, RunFault>
     ensures text { IfOk result (λ texts. texts.text.items ≡ text_of session) }
     ensures journal { IfOk result
@@ -75,8 +82,11 @@ pub fn saved_texts(session: Session) -> Result<SavedTexts, RunFault>
 
 /// Writes the text of the session's journal, and then its text.
 ///
-/// Nothing is written at any error but `Write`. At `Write` of the journal nothing of the text was
-/// written, and at `Write` of the text the whole journal was.
+/// # Errors
+///
+/// As for [`journal_text`]: then nothing is written. `Write` of the journal, as for
+/// [`put_journal`]: then nothing of the text is written. `Write` of the text, as for [`put_text`]:
+/// then the whole journal was written.
 pub fn save<J: Write, W: Write>(
     alloc: Global,
     session: &Session,
@@ -98,9 +108,9 @@ pub fn save<J: Write, W: Write>(
         → Untouched (target_of J.contents journal_out.old journal_out.new)) }
     ensures text_untouched { IfErr result
         (λ fault. is_write fault ≡ false → Untouched (target_of W.contents text_out.old text_out.new)) }
-    ensures journal_failed { IsErrAnd result (IsWriteOf Part.Journal)
+    ensures journal_failed { IsErrAnd result (IsWriteOf SessionPart.Journal)
         ↔ has_failed journal_out.new ≡ true }
-    ensures text_failed { IsErrAnd result (IsWriteOf Part.Text) ↔ has_failed text_out.new ≡ true }
+    ensures text_failed { IsErrAnd result (IsWriteOf SessionPart.Text) ↔ has_failed text_out.new ≡ true }
 {
     let journal = journal_text(alloc, session)?;
     put_journal(journal.as_slice(), journal_out)?;

@@ -1,23 +1,26 @@
 //! A text with the journal of what changed it.
 
 ghost use Rattle.std.specs.Prelude.{◌≡◌, true, IfOk, IfErr, IfSome, OnErr};
-ghost use Rattle.tf_lint.specs.Remaining.{IsRemaining};
+ghost use Rattle.tf_lint.specs.Remaining.{remaining_count, IsRemaining};
 ghost use Rattle.tf_lint.specs.Steps.{texts_differ};
 ghost use Rattle.tf_session.specs.declared.command.Command.TheVariants.{Fix};
+ghost use Rattle.edit_record.specs.Text.{IsJournalText};
+ghost use Rattle.tf_session.specs.Journals.{BadJournalFault};
 ghost use Rattle.tf_session.specs.Machine.{done};
 ghost use Rattle.tf_lint.specs.FixResult.{changed_text, changed_edits};
 ghost use Rattle.tf_session.specs.Session.{text_of, records_of};
 ghost use Rattle.tf_session.specs.Records.{DoesStep, RefusesStep, AddsRecord, RevertsLast, RefusesRevert};
-ghost use Rattle.tf_session.specs.RemovingRecord.{RemovesRecord, RefusesRemoval};
+ghost use Rattle.tf_session.specs.RemovingRecord.{RemovesRecord, RefusesTake};
 
 use crate::command::{Command, Done, Fault, Reply};
-use crate::fixing::fix_text;
+use crate::fault::RunFault;
 use crate::formatting::fmt_text;
-use crate::removal::{Removal, without_record};
-use edit_record::lists::laws::undo_is_exact;
+use crate::taking::{TakeResult, without_record};
+use edit_record::decode_owned;
+use edit_record::laws::undo_is_exact;
 use edit_record::lists::{Change as _, Journal, Record, Word};
 use std::alloc::Global;
-use tf_lint::{FixResult, NewText, Remaining, RuleSet};
+use tf_lint::{FixResult, NewText, Remaining, RuleSet, fix_text};
 
 /// A text, and the journal of the commands that changed it.
 #[derive(Drop)]
@@ -33,6 +36,21 @@ impl Session {
         ensures journal { records_of result ≡ journal }
     {
         Session { text, journal }
+    }
+
+    /// Makes a session over this text and the journal whose text this is.
+    ///
+    /// # Errors
+    ///
+    /// `BadJournal` if the journal's bytes are the text of none; `Memory`.
+    pub fn from_texts(alloc: Global, text: Vec<u8>, journal: Vec<u8>) -> Result<Session, RunFault>
+        ensures text { IfOk result (λ session. text_of session ≡ text.items) }
+        ensures journal { IfOk result
+            (λ session. IsJournalText journal.items (records_of session)) }
+        ensures fault { IfErr result (BadJournalFault journal.items) }
+    {
+        let journal = decode_owned(alloc, journal)?;
+        Ok(Session::start(text, journal))
     }
 
     /// Returns the text.
@@ -57,7 +75,15 @@ impl Session {
         (self.text, self.journal)
     }
 
-    /// Does one command. A refused one changes nothing.
+    /// Does one command.
+    ///
+    /// # Errors
+    ///
+    /// A refused command changes nothing. A fmt or a fix is refused if the text does not parse
+    /// (`Scan`, `Parse`), or a new text would not (`FixBroken`) or would be too long (`TooLong`). A
+    /// revert or a take is refused if there is no such record (`NoRecord`), or the text does not
+    /// have what it added (`Refused`); a take also if a later record meets it (`Blocked`), or a
+    /// text between would be too long (`TooLong`). `Memory`.
     pub fn step(&mut self, alloc: Global, command: Command) -> Reply
         ensures done { IfOk result
             (λ d. DoesStep command (text_of self.old) (records_of self.old) d (text_of self.new)
@@ -81,13 +107,17 @@ impl Session {
         }
     }
 
-    /// Fixes the text by the rules of the set, and returns what they find in the new one too. A
-    /// refused fix changes nothing.
+    /// Fixes the text by the rules of the set, and returns what they find in the new one too.
+    ///
+    /// # Errors
+    ///
+    /// As for [`Session::step`] with `Command::Fix`. A refused fix changes nothing.
     pub fn fix(&mut self, alloc: Global, rules: RuleSet) -> Result<(Done, Remaining), Fault>
         ensures done { IfOk result
             (λ r. DoesStep (Fix rules) (text_of self.old) (records_of self.old) r.0
             (text_of self.new) (records_of self.new)) }
         ensures left { IfOk result (λ r. IsRemaining rules (text_of self.new) r.1) }
+        ensures counted { IfOk result (λ r. r.0.left ≡ remaining_count r.1) }
         ensures refused { IfErr result
             (λ fault. RefusesStep (Fix rules) (text_of self.old) (records_of self.old) fault) }
         ensures text { OnErr result (text_of self.new ≡ text_of self.old) }
@@ -186,12 +216,12 @@ impl Session {
             (λ d. RemovesRecord number (text_of self.old) (records_of self.old) d (text_of self.new)
             (records_of self.new)) }
         ensures refused { IfErr result
-            (λ fault. RefusesRemoval number (text_of self.old) (records_of self.old) fault) }
+            (λ fault. RefusesTake number (text_of self.old) (records_of self.old) fault) }
         ensures text { OnErr result (text_of self.new ≡ text_of self.old) }
         ensures journal { OnErr result (records_of self.new ≡ records_of self.old) }
     {
         let records = self.journal.records();
-        let Removal {
+        let TakeResult {
             text,
             from,
             new_records: others,

@@ -6,7 +6,8 @@ ghost use Rattle.tf_stream.specs.Streams.{source_of, target_of};
 ghost use Rattle.tf_session.specs.Session.{text_of, records_of};
 ghost use Rattle.tf_session.specs.Streams.{is_write};
 ghost use Rattle.tf_session.specs.declared.command.Command.TheVariants.{Fmt};
-ghost use Rattle.tf_session.specs.Streaming.{StepsStream, StepStreamFault, FormatsStream, ChecksStream, CheckStreamFault};
+ghost use Rattle.tf_session.specs.Streaming.{StepsStream, StepStreamFault, FormatsStream};
+ghost use Rattle.tf_session.specs.Streaming.{ChecksStream, CheckStreamFault};
 
 use crate::command::{Command, Done};
 use crate::fault::RunFault;
@@ -19,10 +20,12 @@ use std::io::{Read, Write};
 use tf_stream::Told;
 
 /// Does one command over the whole text of a reader, with no journal, and writes the new text,
-/// changed or not.
+/// changed or not. Returns the session after the command, and what it did.
 ///
-/// Returns the session after the command, and what it did. Nothing is written at any error but
-/// `Write`.
+/// # Errors
+///
+/// Those of [`take_text`], of [`Session::step`] and of [`put_text`]. Nothing is written at any
+/// error but `Write`.
 pub fn step_text_stream<R: Read, W: Write>(
     alloc: Global,
     command: Command,
@@ -50,7 +53,11 @@ pub fn step_text_stream<R: Read, W: Write>(
 }
 
 /// Formats the text of a reader and writes it to `out`. Writes the same bytes as `step_text_stream`
-/// with `Command::Fmt`, and has the same errors, but makes neither a session nor edits.
+/// with `Command::Fmt`, but makes neither a session nor edits.
+///
+/// # Errors
+///
+/// As for [`step_text_stream`] with `Command::Fmt`.
 pub fn format_text_stream<R: Read, W: Write>(
     alloc: Global,
     text: &mut Told<R>,
@@ -76,8 +83,10 @@ pub fn format_text_stream<R: Read, W: Write>(
 
 /// Returns whether the whole text of a reader is its own layout.
 ///
-/// A text that a fmt refuses is refused here too, with the same error: one that does not parse, or
-/// has a layout of more than 16,777,216 bytes.
+/// # Errors
+///
+/// Those of [`take_text`], and the error with which a fmt refuses the text: it does not parse, or
+/// has a layout of more than `MAX_TEXT` bytes.
 pub fn check_stream<R: Read>(alloc: Global, text: &mut Told<R>) -> Result<bool, RunFault>
     requires { has_failed text.old ≡ false }
     ensures answer { IfOk result (λ yes. ChecksStream yes (source_of R.remaining text.old text.new)) }

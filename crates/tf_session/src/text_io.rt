@@ -5,16 +5,19 @@ ghost use Rattle.tf_stream.specs.Told.{has_failed};
 ghost use Rattle.tf_stream.specs.Streams.{source_of, target_of, WritesBytes};
 ghost use Rattle.tf_session.specs.Streams.{ReadsText, IsReadStreamFault, IsWriteFault};
 
-use crate::fault::{Part, RunFault};
+use crate::fault::{RunFault, SessionPart};
 use hcl_scan::MAX_TEXT;
 use std::alloc::Global;
 use std::io::{Read, Write};
 use tf_stream::{Told, read_to_limit, write_and_flush};
 
-/// Reads all the bytes that the reader has left, up to its end.
+/// Reads all the bytes that the reader has left, up to its end. At most `MAX_TEXT` bytes and one
+/// more are read.
 ///
-/// At most one byte over 16,777,216 is read, and if there is one the error is `Endless`. A read
-/// that fails is `Read`, whatever its error, and is not tried again.
+/// # Errors
+///
+/// `Endless` if there is such a byte; `Read` if a read fails, whatever its error, and it is not
+/// tried again; `Memory`.
 pub fn take_text<R: Read>(alloc: Global, reader: &mut Told<R>) -> Result<Vec<u8>, RunFault>
     requires { has_failed reader.old ≡ false }
     ensures text { IfOk result
@@ -31,30 +34,42 @@ pub fn take_text<R: Read>(alloc: Global, reader: &mut Told<R>) -> Result<Vec<u8>
 
 /// Writes all the bytes of a text and flushes.
 ///
-/// A write that fails or takes nothing is `Write` with the number of bytes that were sent before
-/// it, and is not tried again; a flush that fails is `Write` with all bytes sent.
+/// # Errors
+///
+/// `Write` of the text: with the number of bytes that were sent before a write that fails or takes
+/// nothing, which is not tried again; with all bytes sent if the flush fails.
 pub fn put_text<W: Write>(bytes: &[u8], writer: &mut Told<W>) -> Result<(), RunFault>
     requires { has_failed writer.old ≡ false }
     ensures text { OnOk result (WritesBytes (target_of W.contents writer.old writer.new) bytes.now) }
     ensures fault { IfErr result
-        (λ fault. IsWriteFault Part.Text fault (target_of W.contents writer.old writer.new) bytes.now) }
+        (λ fault. IsWriteFault SessionPart.Text fault
+        (target_of W.contents writer.old writer.new) bytes.now) }
     ensures failed { is_ok result ≡ false ↔ has_failed writer.new ≡ true }
 {
-    write_part(Part::Text, bytes, writer)
+    write_part(SessionPart::Text, bytes, writer)
 }
 
-/// Writes all the bytes of a journal's text and flushes, as `put_text` does those of a text.
+/// Writes all the bytes of a journal's text and flushes.
+///
+/// # Errors
+///
+/// `Write` of the journal, as [`put_text`] has it of the text.
 pub fn put_journal<W: Write>(bytes: &[u8], writer: &mut Told<W>) -> Result<(), RunFault>
     requires { has_failed writer.old ≡ false }
     ensures text { OnOk result (WritesBytes (target_of W.contents writer.old writer.new) bytes.now) }
     ensures fault { IfErr result
-        (λ fault. IsWriteFault Part.Journal fault (target_of W.contents writer.old writer.new) bytes.now) }
+        (λ fault. IsWriteFault SessionPart.Journal fault
+        (target_of W.contents writer.old writer.new) bytes.now) }
     ensures failed { is_ok result ≡ false ↔ has_failed writer.new ≡ true }
 {
-    write_part(Part::Journal, bytes, writer)
+    write_part(SessionPart::Journal, bytes, writer)
 }
 
-fn write_part<W: Write>(part: Part, bytes: &[u8], writer: &mut Told<W>) -> Result<(), RunFault>
+fn write_part<W: Write>(
+    part: SessionPart,
+    bytes: &[u8],
+    writer: &mut Told<W>,
+) -> Result<(), RunFault>
     requires { has_failed writer.old ≡ false }
     ensures text { OnOk result (WritesBytes (target_of W.contents writer.old writer.new) bytes.now) }
     ensures fault { IfErr result

@@ -14,9 +14,12 @@ use std::io::Read;
 const CHUNK_LEN: usize = 16_384;
 
 /// Reads all the bytes that the reader has left, up to its end, if they are no more than the limit.
+/// At most one byte over the limit is read.
 ///
-/// At most one byte over the limit is read, and if there is one the error is `Endless`. A read that
-/// fails is `Read`, whatever its error, and is not tried again.
+/// # Errors
+///
+/// `Endless` if there is a byte over the limit; `Read` if a read fails, whatever its error, and it
+/// is not tried again; `Memory` if an allocation fails.
 pub fn read_to_limit<R: Read>(
     alloc: Global,
     limit: usize,

@@ -10,8 +10,10 @@ use std::io::Write;
 
 /// Writes all the bytes and flushes.
 ///
-/// A write that fails or takes nothing is returned with the number of bytes that were sent before
-/// it, and is not tried again; a flush that fails with all bytes sent.
+/// # Errors
+///
+/// A write that fails or takes nothing, with the number of bytes that were sent before it, and a
+/// flush that fails, with all bytes sent. Neither is tried again.
 pub fn write_and_flush<W: Write>(bytes: &[u8], writer: &mut Told<W>) -> Result<(), WriteFault>
     requires { has_failed writer.old ≡ false }
     ensures ok { OnOk result (WritesBytes (target_of W.contents writer.old writer.new) bytes.now) }

@@ -1,4 +1,4 @@
--- Texts that go by edits, and by two lists one after the other.
+-- Texts that edits transform, and that two lists transform one after the other.
 use Rattle.std.proofs.Common.{◌≡◌, ℕ, ◌+◌, ◌-◌, ◌≤◌, List, [], ◌∷◌, ◌++◌, length, replicate, refl, arith}
 use Rattle.std.proofs.lemmas.List.{length-replicate}
 use Rattle.edit_record.specs.declared.lists.direction.Direction.TheVariants.{Forward}

@@ -17,9 +17,9 @@ have_lengths e t u h =
     let old = h.len in
     (h.len, omega (arith, sums, old))
 
--- ---- what has no fault is placed, and the other way round
+-- ---- edits without an error are disjoint, and disjoint edits have no error
 
--- an edit that has no fault, test by test
+-- an edit that has no error, test by test
 placed_tests : (empty before past : Bool) (old_len from i : ℕ) (e : EditEntry) → ((length e.removed == 0) && (length e.added == 0)) ≡ empty → nat_lt e.at from ≡ before → nat_lt old_len (e.at + length e.removed) ≡ past
     → (if empty then Some (EmptyEdit i) else (if before then Some (OutOfOrder i) else (if past then Some (PastEnd i) else None))) ≡ None → IsValidAfter old_len from e
 placed_tests true before past old_len from i e a b c none = absurd cc

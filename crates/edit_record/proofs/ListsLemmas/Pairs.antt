@@ -1,4 +1,4 @@
--- Two lists of edits one after another, and how texts go by what is left of both.
+-- Two lists of edits one after another, and how what is left of both transforms texts.
 use Rattle.std.proofs.Common.{◌≡◌, ℕ, ◌+◌, ◌-◌, ◌≤◌, List, [], ◌∷◌, ◌++◌, length, take, drop, refl, arith, sym, ap, ◌∙◌, append_assoc}
 use Rattle.std.proofs.lemmas.List.{append_cancel_left, take-append-drop, length-take-le}
 use Rattle.edit_record.specs.declared.lists.direction.Direction.TheVariants.{Forward}

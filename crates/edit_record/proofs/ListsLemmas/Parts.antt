@@ -1,4 +1,4 @@
--- Parts of lists, and what edits do to the front of a text that they keep.
+-- Parts of lists, and what edits do to the start of a text that they keep.
 use Rattle.std.proofs.Common.{◌≡◌, ℕ, ◌+◌, ◌≤◌, ◌<◌, List, [], ◌∷◌, ◌++◌, length, take, drop, refl, arith, sym, ap, ◌∙◌, append_assoc, length-append, subst}
 use Rattle.std.proofs.lemmas.List.{take-append-drop, length-take-le, nil_from_length, append-nil}
 use Rattle.edit_record.specs.declared.lists.direction.Direction.TheVariants.{Forward}
@@ -6,7 +6,7 @@ use Rattle.edit_record.specs.Lists.Pieces.{EditEntry}
 use Rattle.edit_record.specs.Lists.Validity.{AreDisjoint}
 use Rattle.edit_record.specs.Lists.Inner.Walks.{Walks, SameRest}
 
--- x is the front of k
+-- x is a prefix of k
 pub record SplitLists {X : Type 0} (x k t s : List X) : Type 0 where
   pub more : List X
   pub whole : k ≡ x ++ more

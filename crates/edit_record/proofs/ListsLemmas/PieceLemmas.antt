@@ -34,7 +34,7 @@ no_fault (Changed r n ∷ ps) old_len end from i are later within =
     right_fault old_len end i (record { at = from; removed = r; added = n }) later (omega (arith, within, both)) are.0 in
     rw (first_fault, here) (no_fault ps old_len (from + length r) (from + length r) (i + 1) are.1 (omega arith) (omega (arith, within, both)))
 
--- the new text has the length that the edits tell
+-- the new text has the length that follows from the edits
 pub piece_lengths : (ps : List Piece)
     → length (new_text ps) + removed_len (changed_entries 0 ps) ≡ length (old_text ps) + added_len (changed_entries 0 ps)
 piece_lengths ps = lengths 0 (changed_entries 0 ps) (old_text ps) (new_text ps) (walks_from_pieces 0 ps)

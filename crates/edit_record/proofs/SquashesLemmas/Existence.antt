@@ -43,7 +43,7 @@ module _ (la lb lc : ℕ) (a b : List EditEntry) (first : AreValidEdits la lb a)
   all_squashed : Squashed
   all_squashed = squashed (length a + length b) initial a b (omega arith) (progress_start la lb lc a b first second)
 
--- the texts that the first list makes have the length that the second asks for
+-- the texts that the first list makes have the length that the second requires
 lengths_follow : (a b : EditList) → IsValidList a → AreComposable a b → new_len a ≡ b.old_len
 lengths_follow a b is (t, u, v, p, q) =
     let here = lengths 0 a.entries t u (walks_from_transforms a t u p) in

@@ -63,7 +63,7 @@ module _ (la lb : ℕ) where
       let q = readies la lb s xs ys p.kept.sound p.one in
       rw e ((la, lb, q.sound, q.one), q.takes)
 
-  -- some text goes by what is left of the first list
+  -- what is left of the first list transforms some text
   witness : (s : State) (xs : List EditEntry) (ys : List EditEntry) → MergeInvariant la lb s xs ys → length s.second_pending ≡ 0 → (t : List ℕ) × (v : List ℕ) × Means la lb s xs [] t v
   witness s xs ys h z =
       let f = some_text la s.first_end xs h.first_placed in

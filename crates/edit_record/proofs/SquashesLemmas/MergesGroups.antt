@@ -17,7 +17,7 @@ spans_moved n m old mid (e ∷ es) p =
     let from : (mid + m) + (e.at - (old + m)) ≡ mid + (e.at - old) = omega arith in
     ap (λ k. record { from = k; len = length e.added; other = length e.removed } ∷ added_spans (e.at + length e.removed) (k + length e.added) es) from
 
--- the groups, where the next edit of the first list, or of the second, comes into g
+-- the groups, where the next edit of the first list, or of the second, is added to g
 abbrev taking : Bool → ℕ → Group → List Span → List Span → List Group
 taking true n g xs ys = groups_of n (record g { first = with_next xs g.first }) (drop 1 xs) ys
 taking false n g xs ys = groups_of n (record g { second = with_next ys g.second }) xs (drop 1 ys)

@@ -1,4 +1,5 @@
--- Edits on their way past records: their ends are kept in runs that are halved (specs/Inner/Reaches).
+-- Edits that move across records: their ends are kept in runs that are halved
+-- (specs/Swaps/Inner/RelativeEnds).
 pub mod RelativeEndsLemmas
 pub mod BinarySearch
 pub mod ShiftLemmas

@@ -400,7 +400,7 @@ fits_second s xs y ys zs h e =
     let a = f.a_fits in let b = f.b_fits in let w = f.w_fits in
     record { one = omega arith; two = omega arith }
 
--- ---- what the calls tell
+-- ---- what the calls return
 
 pub any_fault : {X E P : Type 0} (r : Result X E) → P → IfErr r (λ _. P)
 any_fault (Ok x) h = tt

@@ -3,6 +3,7 @@
 use Rattle.std.specs.Prelude.{ℕ, zero, suc, List, Result, Ok, Err, Bool, true, false, codes, is_ok, ◌||◌}
 use Rattle.edit_record.specs.declared.fault.FaultKind.TheVariants.{Head}
 use Rattle.edit_record.specs.declared.fault.TextError.{TextError}
+use Rattle.edit_record.specs.declared.version_1.TheConstants.{MAX_STEPS}
 use Rattle.edit_record.specs.Text.{newline}
 use Rattle.edit_record.specs.Parsing.{expect, number_at, edit_at, list_head_at, word_at}
 use Rattle.edit_record.specs.OldParsing.{old_head_at}
@@ -33,7 +34,7 @@ unfoldable pub old_head_allocates : List ℕ → Bool
 old_head_allocates t =
     is_ok_and (expect (codes "tfrec 1 ") Head t) λ a.
     is_ok_and (word_at a) λ word.
-    is_ok_and (number_at 1 64 newline word.1) λ count.
+    is_ok_and (number_at 1 MAX_STEPS newline word.1) λ count.
     step_allocates count.1
 
 -- the first of `n` further steps

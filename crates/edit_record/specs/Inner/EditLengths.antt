@@ -1,4 +1,5 @@
--- The end of an edit's head, and what follows the head.
+-- The end of an edit's head, and what follows the head: `edit_at` of Parsing in two parts, for
+-- readers that read the head by itself.
 use Rattle.std.specs.Prelude.{ℕ, List, [], ◌∷◌, Result, Ok}
 use Rattle.edit_record.specs.declared.fault.FaultKind.TheVariants.{End}
 use Rattle.edit_record.specs.declared.fault.TextError.{TextError}

@@ -9,7 +9,7 @@ pub record IsKnownText (rs : List JournalEntry) (known : ℕ) (text : List ℕ) 
   pub within : known ≤ length rs
   pub is : IsCurrentText text (take known rs)
 
--- so it is, in memory that is not much more
+-- and its memory is not much more than its length
 abbrev pub IsKeptText : List JournalEntry → ℕ → List ℕ → ℕ → Type 0
 IsKeptText rs known text capacity = IsKnownText rs known text × (capacity / MOST_SPARE ≤ length text)
 

@@ -2,7 +2,7 @@
 use Rattle.std.specs.Prelude.{◌≡◌, ℕ, List, [], ◌∷◌, ◌++◌, Result, Ok, Err, Bool, true, false, ⊤}
 use Rattle.edit_record.specs.Lists.Pieces.{EditEntry, EditList}
 use Rattle.edit_record.specs.Lists.Journal.{JournalEntry}
-use Rattle.edit_record.specs.Squashes.Squash.{IsSquash}
+use Rattle.edit_record.specs.Squashes.Squash.{IsSquash, SquashMayAllocate}
 use Rattle.edit_record.specs.Squashes.SquashLists.{SquashAll}
 use Rattle.edit_record.specs.Text.{record_text, OldRecord, old_record_text, MigratesTo, IsJournalText}
 use Rattle.edit_record.specs.Lists.Validity.{IsValidList}
@@ -44,10 +44,10 @@ abbrev pub ParsesAs : {X Y : Type 0} → (X → Y) → (X → List ℕ) → Bool
 ParsesAs view rest takes (Ok x) R = R (view x) (rest x)
 ParsesAs view rest takes (Err e) R = IsStopFor takes e R
 
--- two lists squashed into one, or why they are not
+-- two lists squashed into one, or why they are not; memory may run out where `squash` allocates
 abbrev pub IsSquashOrStop : EditList → EditList → Result EditList DecodeStop → Type 0
 IsSquashOrStop a b (Ok c) = IsSquash a b c
-IsSquashOrStop a b (Err stops.Memory) = Unit {0}
+IsSquashOrStop a b (Err stops.Memory) = SquashMayAllocate a b
 IsSquashOrStop a b (Err (stops.Bad e)) = (c : EditList) → IsSquash a b c → ⊥
 
 -- the text begins with a record: of version 2, or of version 1, which it migrates from

@@ -2,6 +2,7 @@ ghost use Rattle.std.specs.Prelude.{◌≡◌, ◌+◌, ◌≤◌, ◌<◌, leng
 ghost use Rattle.edit_record.specs.Lists.Inner.Storage.{removed_of, added_of, IsValidStorage};
 ghost use Rattle.edit_record.specs.declared.lists.edit.TheConstants.{INLINE_CAPACITY};
 
+use crate::lists::MAX_TEXT;
 use std::alloc::{AllocError, Global};
 use std::fmt::{self, Debug};
 use std::marker::Model;
@@ -297,6 +298,6 @@ pub enum BadEdits {
     #[error("edit {0} ends past the end of the text")]
     PastEnd(usize),
     /// The old text or the new one is longer than a text can be.
-    #[error("the text has more than 16777216 bytes")]
+    #[error("the text has more than {} bytes", MAX_TEXT)]
     TooLong,
 }

@@ -21,8 +21,8 @@ pub(crate) fn text_to_keep(text: Vec<u8>) -> Option<Vec<u8>>
     Some(text)
 }
 
-/// Shortens the text of the first `known` records to that of the first `to` of them, if they are
-/// fewer, and returns of how many it is the text now.
+/// Shortens the text of the first `known` records to that of the first `to` of them, if these are
+/// fewer. Returns how many records the text has then.
 pub(crate) fn shorten_known_text(
     records: &[Record],
     known: usize,

@@ -18,6 +18,7 @@ pub fn squash_is_unique(first: &Edits, second: &Edits)
 pub fn edits_are_valid(edits: &Edits)
     ensures { IsValidList edits.now }
 {
+    // for the proof: a clause of `edits` says so
     let _ = edits.edits();
 }
 

@@ -23,6 +23,7 @@ pub(crate) struct Merge<'a> {
 }
 
 impl<'a> Merge<'a> {
+    /// Makes the state before the first step. It allocates nothing.
     pub(crate) fn new(alloc: Global) -> Self
         ensures { state result ≡ initial }
     {
@@ -136,6 +137,8 @@ impl<'a> Merge<'a> {
         Ok(self.start_edit(xs, ys))
     }
 
+    /// Returns whether the next edit of the first list overlaps or touches the last edit of the
+    /// second in the edit being built, and so becomes a part of that one.
     fn joins_first(&self, xs: &[Edit]) -> bool
         requires { StartsFrom self.now.first_end xs.now }
         ensures { result ≡ joins_first (state self.now) xs.now }
@@ -144,6 +147,8 @@ impl<'a> Merge<'a> {
             && (self.first_pending.is_empty() && reaches(xs, self.first_end, self.second_pending))
     }
 
+    /// Returns whether the next edit of the second list overlaps or touches the last edit of the
+    /// first in the edit being built, and so becomes a part of that one.
     fn joins_second(&self, ys: &[Edit]) -> bool
         requires { StartsFrom self.now.second_end ys.now }
         ensures { result ≡ joins_second (state self.now) ys.now }
@@ -167,6 +172,7 @@ impl<'a> Merge<'a> {
         }
     }
 
+    /// Returns whether the next edit of both lists is one of the first, in the text between.
     fn first_is_next(&self, xs: &[Edit], ys: &[Edit]) -> bool
         requires { IsReady (state self.now) xs.now ys.now }
         ensures { result ≡ first_is_next (state self.now) xs.now ys.now }

@@ -78,6 +78,7 @@ fn merge_nonempty<'a>(
     let seconds = second.edits();
     let mut xs = first.edits();
     let mut ys = seconds;
+    // for the proof: the label names the loop's invariant
     'edits: while has_more(xs, ys) {
         let is_first = merge.prepare_next(alloc, xs, ys)?;
         (xs, ys) = merge.take_next(xs, ys, is_first)?;

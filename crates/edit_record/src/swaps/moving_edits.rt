@@ -5,9 +5,10 @@ ghost use Rattle.edit_record.specs.Lists.Validity.{new_len};
 ghost use Rattle.edit_record.specs.Swaps.Inner.RelativeEnds.{ends_of, IsSmall};
 ghost use Rattle.edit_record.specs.Swaps.Inner.EditEnds.{ends_at, with_ends, FitRemoved};
 
-use crate::lists::{Edit, Edits, MAX_TEXT, Record};
+use crate::lists::{Edit, Edits, Record};
 use crate::swaps::MoveFault;
 use crate::swaps::relative_ends::{EndOffset, Partition, end_of, partition_before, shift_from};
+use crate::swaps::swap_lists::exceeds_limit;
 use std::alloc::{AllocError, Global};
 
 /// Edits that are moved after records.
@@ -26,6 +27,7 @@ impl MovingEdits {
     ghost use Rattle.edit_record.specs.Swaps.Inner.MovingEditsView.{IsWellFormed, edits_now, HasMovedPast, MovesPastRecord};
     ghost use Rattle.edit_record.specs.Swaps.Swap.{NoneMeet, FirstMeeting};
 
+    /// Makes of edits the form in which they are moved.
     pub(crate) fn new(alloc: Global, edits: Edits) -> Result<Self, AllocError>
         ensures list { IfOk result (λ m. edits_now m ≡ edits) }
         ensures well_formed { IfOk result IsWellFormed }
@@ -62,8 +64,7 @@ impl MovingEdits {
         if self.meets(second) {
             return Err(MoveFault::Blocked { number });
         }
-        let _seconds = second.edits();
-        if self.old_len + second.new_len() > MAX_TEXT + second.old_len() {
+        if exceeds_limit(self.old_len, second) {
             return Err(MoveFault::TooLong);
         }
         let seconds = self.move_past_each(alloc, second)?;

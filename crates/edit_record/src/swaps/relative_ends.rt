@@ -17,6 +17,7 @@ pub(crate) struct EndOffset {
 }
 
 impl EndOffset {
+    /// Returns the offset that is `more` after this one.
     fn plus(self, more: EndOffset) -> EndOffset
         requires old { self.old + more.old < 2 ^ 64 }
         requires new { self.new + more.new < 2 ^ 64 }
@@ -47,6 +48,7 @@ pub(crate) fn partition_before(run: &[EndOffset], at: usize) -> Partition
     let mut count = 0;
     let mut last = EndOffset { old: 0, new: 0 };
     let mut next = None;
+    // for the proof: the label names the loop's invariant
     'halves: loop {
         let (before, after) = left.split_at(left.len() / 2);
         match after {
@@ -75,6 +77,7 @@ pub(crate) fn end_of(run: &[EndOffset], number: usize) -> EndOffset
     let mut left = run;
     let mut i = number;
     let mut last = EndOffset { old: 0, new: 0 };
+    // for the proof: the label names the loop's invariant
     'halves: loop {
         let (before, after) = left.split_at(left.len() / 2);
         match after {

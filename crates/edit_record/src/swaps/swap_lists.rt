@@ -1,11 +1,13 @@
 //! Swapping two lists of edits.
-ghost use Rattle.std.specs.Prelude.{◌≡◌, ◌≢◌, ◌↔◌, ◌+◌, ◌<◌, length, Err, IfErr, IfOk, IfSome, IsNone, IsTrue};
+ghost use Rattle.std.specs.Prelude.{◌≡◌, ◌≢◌, ◌↔◌, ◌+◌, ◌<◌, ◌≤◌, length, Err, IfErr, IfOk, IfSome, IsNone, IsTrue};
+ghost use Rattle.edit_record.specs.Lists.Pieces.{removed_len, added_len};
 ghost use Rattle.edit_record.specs.Lists.Validity.{new_len};
-ghost use Rattle.edit_record.specs.Swaps.Swap.{IsSwapResult, NoneMeet, SwapTo, FirstMeeting, ExceedsLimit, IsWithinLimit};
+ghost use Rattle.edit_record.specs.Swaps.Swap.{IsSwapResult, NoneMeet, SwapTo, FirstMeeting, IsWithinLimit};
 ghost use Rattle.edit_record.specs.Swaps.MoveToEndResult.{CanSwap};
 ghost use Rattle.edit_record.specs.Swaps.Inner.SwapState.{IsSwapDone};
 ghost use Rattle.edit_record.specs.Swaps.Inner.SwapStateView.{state};
 ghost use Rattle.edit_record.specs.declared.swaps.swap_lists.SwapFault.TheVariants.{Memory};
+ghost use Rattle.edit_record.specs.declared.lists.edits.TheConstants.{MAX_TEXT};
 
 use crate::lists::{Edits, MAX_TEXT, has_more};
 use crate::swaps::swap_state::SwapState;
@@ -83,7 +85,9 @@ pub(crate) fn check_swap(alloc: Global, first: &Edits, second: &Edits) -> Result
             second: other,
         });
     }
-    if exceeds_limit(first, second) {
+    // for the proof: `edits` says that the lengths of a list are within the limit
+    let _firsts = first.edits();
+    if exceeds_limit(first.old_len(), second) {
         return Err(SwapFault::TooLong);
     }
     Ok(())
@@ -101,6 +105,7 @@ fn first_meeting(alloc: Global, first: &Edits, second: &Edits) -> Option<(usize,
     let seconds = second.edits();
     let mut xs = firsts;
     let mut ys = seconds;
+    // for the proof: the label names the loop's invariant
     'edits: while has_more(xs, ys) {
         if state.first_is_next(xs, ys) {
             xs = state.skip_first(xs, ys);
@@ -113,13 +118,16 @@ fn first_meeting(alloc: Global, first: &Edits, second: &Edits) -> Option<(usize,
     None
 }
 
-/// Returns whether the text between is too long in the other order.
-fn exceeds_limit(first: &Edits, second: &Edits) -> bool
-    ensures { IsTrue result ↔ ExceedsLimit first.now second.now }
+/// Returns whether texts of `old_len` bytes are too long after the edits of `second`.
+#[inline(always)]
+pub(crate) fn exceeds_limit(old_len: usize, second: &Edits) -> bool
+    requires { old_len ≤ MAX_TEXT }
+    ensures { IsTrue result
+        ↔ (MAX_TEXT + removed_len second.now.entries < old_len + added_len second.now.entries) }
 {
-    let _firsts = first.edits();
+    // for the proof: `edits` says that the lengths of a list are within the limit
     let _seconds = second.edits();
-    first.old_len() + second.new_len() > MAX_TEXT + second.old_len()
+    old_len + second.new_len() > MAX_TEXT + second.old_len()
 }
 
 /// Returns two lists that can be swapped in the other order.
@@ -154,6 +162,7 @@ fn swap_edits<'a>(
     let mut state = SwapState::with_capacity(alloc, firsts.len(), seconds.len())?;
     let mut xs = firsts;
     let mut ys = seconds;
+    // for the proof: the label names the loop's invariant
     'edits: while has_more(xs, ys) {
         if state.first_is_next(xs, ys) {
             xs = state.take_first(xs, ys)?;

@@ -26,6 +26,7 @@ fn relocate(edit: &Edit, from: usize, to: usize) -> Result<Edit, AllocError>
 }
 
 impl SwapState {
+    /// Makes the state before the first step, with capacity for no edit. It allocates nothing.
     pub(crate) fn new(alloc: Global) -> Self
         ensures { state result ≡ initial }
     {
@@ -38,7 +39,7 @@ impl SwapState {
         }
     }
 
-    /// A state with capacity for all edits of both lists.
+    /// Makes the state before the first step, with capacity for all edits of both lists.
     pub(crate) fn with_capacity(
         alloc: Global,
         firsts: usize,

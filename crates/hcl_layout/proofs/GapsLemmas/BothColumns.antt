@@ -8,7 +8,8 @@ use Rattle.hcl_token.specs.Tokens.{Pair}
 use Rattle.hcl_token.specs.Place.{clusters}
 use Rattle.hcl_scan.specs.Modes.{Mode, modes_after}
 use Rattle.hcl_scan.specs.Follows.{LineEndsHere, AllowsNext, FollowsFrom, Follows}
-use Rattle.hcl_layout.specs.Gaps.Kinds.{is_equal, is_line_comment}
+use Rattle.hcl_token.specs.Kinds.{is_line_comment}
+use Rattle.hcl_layout.specs.Gaps.Kinds.{is_equal}
 use Rattle.hcl_layout.specs.Gaps.Lines.{Line, heredocs_after, ends_line, lines_of}
 use Rattle.hcl_layout.specs.Gaps.Inner.Stages.{greatest, cell_gaps_from_width, widths, with_cell_gaps, prepend_to_first, lines_from}
 use Rattle.hcl_layout.specs.Gaps.Space.{spaces}
@@ -40,7 +41,7 @@ AllOrdered : List Line → Type 0
 AllOrdered [] = Unit {0}
 AllOrdered (x ∷ xs) = (x.frozen ≡ false → Ordered x.pairs) × AllOrdered xs
 
--- of the first line with a token more in front
+-- of the first line with one more token before its tokens
 FirstOrdered : Pair → List Line → Type 0
 FirstOrdered p [] = Unit {0}
 FirstOrdered p (x ∷ xs) = Ordered (p ∷ x.pairs)
@@ -54,9 +55,9 @@ no_equal : (k : Kind) → ends_line zero k ≡ true → is_equal k ≡ false
 no_equal Equal e = absurd (cc)
 no_equal k e = refl
 
-is_comment : (k : Kind) → is_line_comment k ≡ true → k ≡ LineComment
-is_comment LineComment e = refl
-is_comment k e = absurd (cc)
+line_comment_kind : (k : Kind) → is_line_comment k ≡ true → k ≡ LineComment
+line_comment_kind LineComment e = refl
+line_comment_kind k e = absurd (cc)
 
 prepend_ordered : (f : Bool) (p : Pair) (xs : List Line) → AllOrdered xs
     → (f ≡ false → FirstOrdered p xs) → AllOrdered (prepend_to_first f p xs)
@@ -86,7 +87,7 @@ next_first p (q ∷ qs) h all = by_end (ends_line 0 q.kind) refl all
         → AllOrdered (if b then record { frozen = nat_lt 0 0; pairs = q ∷ [] } ∷ rest else prepend_to_first (nat_lt 0 0) q rest)
         → FirstOrdered p (if b then record { frozen = nat_lt 0 0; pairs = q ∷ [] } ∷ rest else prepend_to_first (nat_lt 0 0) q rest)
     by_end true e o = (λ c. (no_equal q.kind e, tt), o.0 refl)
-    by_end false e o = after_comment p q rest (λ c. h (is_comment p.kind c)) e o
+    by_end false e o = after_comment p q rest (λ c. h (line_comment_kind p.kind c)) e o
 
 lines_ordered : (open_heredocs : ℕ) (ps : List Pair) → CommentsEndLines ps → AllOrdered (lines_from open_heredocs ps)
 unfolding AllOrdered Ordered NoEquals

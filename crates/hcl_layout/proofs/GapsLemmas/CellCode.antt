@@ -1,7 +1,8 @@
 -- Looking for cells, token by token.
 use Rattle.std.proofs.lemmas.List.Sums.{sum_by-append}
 use Rattle.std.proofs.lemmas.Bool.Decides.{nat_tests}
-use Rattle.hcl_layout.specs.Gaps.Indent.{is_opening, is_closing, openings, closings}
+use Rattle.hcl_token.specs.Kinds.{is_line_comment, is_opening, is_closing}
+use Rattle.hcl_layout.specs.Gaps.Indent.{openings, closings}
 use Rattle.std.proofs.Common.{cond, ◌==◌, ◌≡◌, ℕ, zero, suc, ◌+◌, ◌-◌, ◌<◌, ◌≤◌, Bool, true, false, not, ◌&&◌, ◌||◌, List, [], ◌∷◌, length, take, drop, slice_range, Some, None, Option, if◌then◌else◌, refl, sym, ap, ap₂, subst, ◌∙◌, arith}
 use Rattle.std.specs.Prelude.{slice_get, slice_set}
 use Rattle.std.proofs.lemmas.Option.{slice_get_cases}
@@ -11,13 +12,13 @@ use Rattle.hcl_layout.proofs.GapsLemmas.CellLaw.{aligned_is}
 use Rattle.hcl_layout.proofs.GapsLemmas.GapLaw.{pairs_of_lines}
 use Rattle.std.proofs.Common.{take_at, drop_at, inl, inr, length-take, map, ◌++◌, append_assoc}
 use Rattle.std.specs.Option.{IfSome}
-use Rattle.std.proofs.lemmas.Bool.{cases_lt, not-true}
+use Rattle.std.proofs.lemmas.Bool.{cases_lt}
 use Rattle.std.proofs.lemmas.List.{take-append-drop, drop_more, append-nil, length-take-le, length-drop, drop_all, drop-drop, drop-take, take-take}
 use Rattle.hcl_token.specs.declared.kind.Kind.{Kind}
 use Rattle.hcl_token.specs.Tokens.{Pair}
 use Rattle.hcl_token.specs.Place.{is_lf}
 use Rattle.hcl_token.specs.TokenizedText.{kind_of, spelling_of}
-use Rattle.hcl_layout.specs.Gaps.Kinds.{is_inline_comment, is_equal, is_line_comment}
+use Rattle.hcl_layout.specs.Gaps.Kinds.{is_inline_comment, is_equal}
 use Rattle.hcl_layout.specs.Gaps.Lines.{Line, pairs_in}
 use Rattle.hcl_layout.specs.Gaps.Cells.{index_of_first, index_after_first, has_cells, is_balanced}
 use Rattle.hcl_layout.specs.Gaps.Inner.CodeViews.{starts_cell, cell_of, is_valid_cell, width_in, token_in, widths_of, tokens_in, can_have_cell, are_some, HasFlags, AreInside}
@@ -26,7 +27,7 @@ use Rattle.hcl_layout.specs.declared.gaps.cells.CellStart.{CellStart}
 use Rattle.hcl_layout.specs.declared.gaps.cells.Cell.{Cell}
 use Rattle.hcl_layout.specs.declared.gaps.cells.Cell.TheVariants.{Assignment, ClosingComment}
 use Rattle.hcl_layout.specs.Gaps.Cells.{width, width_before, aligned}
-use Rattle.hcl_layout.specs.Gaps.Inner.Stages.{widths, greatest, lines_from, set_cell_gaps, cell_gaps_from_width, with_gaps, AreAtMost, SplitsLine, open_heredocs_of, cell_tokens}
+use Rattle.hcl_layout.specs.Gaps.Inner.Stages.{widths, greatest, lines_from, set_cell_gaps, cell_gaps_from_width, with_gaps, AreAtMost, SplitsLine, open_heredocs_of, cell_tokens, MAX_WIDTH}
 use Rattle.hcl_layout.proofs.GapsLemmas.TokensKept.{SameTokens}
 use Rattle.hcl_layout.proofs.GapsLemmas.CellGaps.{AreInLines, AreSmall, moved_gaps, greatest_within, within_drop, gaps_same, gaps_length, splits_same, same_range, assignment_same, comment_same}
 use Rattle.hcl_layout.proofs.GapsLemmas.LineLemmas.{token_here, kind_is, spelling_is, range_split}
@@ -265,7 +266,7 @@ cell_gaps ClosingComment f ps qs h = comment_same f ps qs h
 abbrev pub gapped_line : List ℕ → List Pair → ℕ → ℕ → Bool → Line
 gapped_line ns ps at past f = record { frozen = f; pairs = slice_range (with_gaps ns ps) at past }
 
-abbrev plain_line : List Pair → ℕ → ℕ → Bool → Line
+abbrev pub plain_line : List Pair → ℕ → ℕ → Bool → Line
 plain_line ps at past f = record { frozen = f; pairs = slice_range ps at past }
 
 same_cell : (cell : Cell) (ns : List ℕ) (ps : List Pair) (at past : ℕ) (f : Bool) → length ns ≡ length ps → cell_of cell (plain_line ps at past f) ≡ cell_of cell (gapped_line ns ps at past f)
@@ -282,12 +283,12 @@ no_start cell ns ps at past f size h =
     (sym (ap (option_map (λ n. width (take n (slice_range (with_gaps ns ps) at past)))) none), sym (ap (option_map (λ n. at + n)) none))
 
 -- a line that is frozen, or has no token that can begin one
-pub lacks_start : (cell : Cell) (ns : List ℕ) (ps : List Pair) (at : ℕ) (line : LineSpan) (f : Bool) → length ns ≡ length ps → (f ≡ false → HasFlags ps at line) → (f || not (can_have_cell cell line)) ≡ true
-    → (None ≡ width_before (cell_of cell) (gapped_line ns ps at line.past f)) × (None ≡ option_map (λ n. at + n) (cell_of cell (gapped_line ns ps at line.past f)))
-lacks_start cell ns ps at line true size flags h = no_start cell ns ps at line.past true size (frozen_none cell ps at line.past true refl)
-lacks_start cell ns ps at line false size flags h =
-    let none = none_later (starts_cell cell) at (slice_range ps at line.past) (none_begins cell ps at line (flags refl) (not-true (can_have_cell cell line) h)) in
-    no_start cell ns ps at line.past false size (none_found cell ps at line.past false (broken (slice_range ps at line.past)) refl refl none)
+pub lacks_cell : (cell : Cell) (ps : List Pair) (at : ℕ) (line : LineSpan) (f : Bool) → (f ≡ false → HasFlags ps at line) → can_have_cell cell line ≡ false
+    → cell_of cell (plain_line ps at line.past f) ≡ None
+lacks_cell cell ps at line true flags h = found_none_is at (cell_of cell (plain_line ps at line.past true)) (frozen_none cell ps at line.past true refl)
+lacks_cell cell ps at line false flags h =
+    let none = none_later (starts_cell cell) at (slice_range ps at line.past) (none_begins cell ps at line (flags refl) h) in
+    found_none_is at (cell_of cell (plain_line ps at line.past false)) (none_found cell ps at line.past false (broken (slice_range ps at line.past)) refl refl none)
 
 found_some_is : (at i : ℕ) (o : Option ℕ) → Some i ≡ option_map (λ n. at + n) o → at ≤ i → o ≡ Some (i - at)
 found_some_is at i None h le = absurd (cc)
@@ -334,16 +335,16 @@ inside_one count (Some q) h = (h, tt)
 pub record StartsSoFar (cell : Cell) (ns : List ℕ) (ps : List Pair) (first at : ℕ) (f : Bool) (starts : List (Option CellStart)) : Type 0 where
   pub sizes : widths_of starts ++ widths (cell_of cell) (lines_from (open_heredocs_of f) (drop at (with_gaps ns ps))) ≡ widths (cell_of cell) (lines_from 0 (drop first (with_gaps ns ps)))
   pub numbers : tokens_in starts ++ cell_tokens at (cell_of cell) (lines_from (open_heredocs_of f) (drop at (with_gaps ns ps))) ≡ cell_tokens first (cell_of cell) (lines_from 0 (drop first (with_gaps ns ps)))
-  pub widths_bounded : AreAtMost 1073741824 (widths (cell_of cell) (lines_from (open_heredocs_of f) (drop at (with_gaps ns ps))))
+  pub widths_bounded : AreAtMost MAX_WIDTH (widths (cell_of cell) (lines_from (open_heredocs_of f) (drop at (with_gaps ns ps))))
   pub inside : AreInside (length ps) starts
 
 pub starts_bounded : (cell : Cell) (ns : List ℕ) (ps : List Pair) (first at : ℕ) (f : Bool) (starts : List (Option CellStart)) (past : ℕ) (next : Bool) → length ns ≡ length ps
-    → SplitsLine ps at f past next → StartsSoFar cell ns ps first at f starts → AreAtMost 1073741824 (width_before (cell_of cell) (gapped_line ns ps at past f) ∷ [])
+    → SplitsLine ps at f past next → StartsSoFar cell ns ps first at f starts → AreAtMost MAX_WIDTH (width_before (cell_of cell) (gapped_line ns ps at past f) ∷ [])
 starts_bounded cell ns ps first at f starts past next size split so_far =
     let line = splits_same ps (with_gaps ns ps) at f past next (gaps_same ns ps size) (gaps_length ns ps size) split in
-    let h : AreAtMost 1073741824 (width_before (cell_of cell) (gapped_line ns ps at past f) ∷ widths (cell_of cell) (lines_from (open_heredocs_of next) (drop past (with_gaps ns ps)))) =
-    subst (λ ls. AreAtMost 1073741824 (widths (cell_of cell) ls)) line so_far.widths_bounded in
-    (within_first 1073741824 (width_before (cell_of cell) (gapped_line ns ps at past f)) (widths (cell_of cell) (lines_from (open_heredocs_of next) (drop past (with_gaps ns ps)))) h).0
+    let h : AreAtMost MAX_WIDTH (width_before (cell_of cell) (gapped_line ns ps at past f) ∷ widths (cell_of cell) (lines_from (open_heredocs_of next) (drop past (with_gaps ns ps)))) =
+    subst (λ ls. AreAtMost MAX_WIDTH (widths (cell_of cell) ls)) line so_far.widths_bounded in
+    (within_first MAX_WIDTH (width_before (cell_of cell) (gapped_line ns ps at past f)) (widths (cell_of cell) (lines_from (open_heredocs_of next) (drop past (with_gaps ns ps)))) h).0
 
 pub starts_step : (cell : Cell) (ns : List ℕ) (ps : List Pair) (first at : ℕ) (f : Bool) (starts more : List (Option CellStart)) (past : ℕ) (next : Bool) (p : Option CellStart) → length ns ≡ length ps
     → SplitsLine ps at f past next → StartsSoFar cell ns ps first at f starts → more ≡ starts ++ p ∷ []
@@ -355,7 +356,7 @@ starts_step cell ns ps first at f starts more past next p size split so_far more
     let line = splits_same ps G at f past next (gaps_same ns ps size) (gaps_length ns ps size) split in
     let all = gaps_length ns ps size in
     let len : at + length (slice_range G at past) ≡ past = omega (arith, length-take-le (past - at) (drop at G) (omega (arith, length-drop at G, split.more, split.within, all)), split.more) in
-    let h : AreAtMost 1073741824 (width_before (cell_of cell) (gapped_line ns ps at past f) ∷ widths (cell_of cell) rest) = subst (λ ls. AreAtMost 1073741824 (widths (cell_of cell) ls)) line so_far.widths_bounded in
+    let h : AreAtMost MAX_WIDTH (width_before (cell_of cell) (gapped_line ns ps at past f) ∷ widths (cell_of cell) rest) = subst (λ ls. AreAtMost MAX_WIDTH (widths (cell_of cell) ls)) line so_far.widths_bounded in
     record {
       sizes =
           ap (λ (xs : List (Option CellStart)). widths_of xs ++ widths (cell_of cell) rest) more_is
@@ -371,7 +372,7 @@ starts_step cell ns ps first at f starts more past next p size split so_far more
           ∙ ap₂ (λ t k. tokens_in starts ++ (t ∷ cell_tokens k (cell_of cell) rest)) t_is (sym len)
           ∙ ap (λ ls. tokens_in starts ++ cell_tokens at (cell_of cell) ls) (sym line)
           ∙ so_far.numbers;
-      widths_bounded = (within_first 1073741824 (width_before (cell_of cell) (gapped_line ns ps at past f)) (widths (cell_of cell) rest) h).1;
+      widths_bounded = (within_first MAX_WIDTH (width_before (cell_of cell) (gapped_line ns ps at past f)) (widths (cell_of cell) rest) h).1;
       inside = subst (λ (xs : List (Option CellStart)). AreInside (length ps) xs) (sym more_is) (inside_push (length ps) starts p so_far.inside (inside_one (length ps) p inside));
     }
 
@@ -455,14 +456,14 @@ pub cells_inside : (cell : Cell) (lines : List Line) → AreInLines (cell_of cel
 cells_inside cell [] = tt
 cells_inside cell (line ∷ lines) = (λ n h. cell_inside cell line.frozen line.pairs n h, cells_inside cell lines)
 
-cell_gaps_small : (top : ℕ) (ws : List (Option ℕ)) → top ≤ 1073741824 → AreAtMost 1073741824 ws → AreSmall (cell_gaps_from_width top ws)
+cell_gaps_small : (top : ℕ) (ws : List (Option ℕ)) → top ≤ MAX_WIDTH → AreAtMost MAX_WIDTH ws → AreSmall (cell_gaps_from_width top ws)
 cell_gaps_small top [] h k = tt
-cell_gaps_small top (None ∷ ws) h k = cell_gaps_small (greatest ws) ws (greatest_within 1073741824 ws k) k
+cell_gaps_small top (None ∷ ws) h k = cell_gaps_small (greatest ws) ws (greatest_within MAX_WIDTH ws k) k
 cell_gaps_small top (Some w ∷ ws) h k = (omega (arith, h), cell_gaps_small top ws h k.1)
 
 pub aligned_gaps : (cell : Cell) (ps : List Pair) (first : ℕ) (ns new : List ℕ) (sizes numbers : List (Option ℕ)) → length ns ≡ length ps → first ≤ length ps
     → sizes ≡ widths (cell_of cell) (lines_from 0 (drop first (with_gaps ns ps))) → numbers ≡ cell_tokens first (cell_of cell) (lines_from 0 (drop first (with_gaps ns ps)))
-    → AreAtMost 1073741824 (widths (cell_of cell) (lines_from 0 (drop first (with_gaps ns ps)))) → new ≡ set_cell_gaps ns numbers (cell_gaps_from_width (greatest sizes) sizes)
+    → AreAtMost MAX_WIDTH (widths (cell_of cell) (lines_from 0 (drop first (with_gaps ns ps)))) → new ≡ set_cell_gaps ns numbers (cell_gaps_from_width (greatest sizes) sizes)
     → with_gaps new ps ≡ take first (with_gaps ns ps) ++ pairs_in (aligned (cell_of cell) (lines_from 0 (drop first (with_gaps ns ps))))
 aligned_gaps cell ps first ns new sizes numbers size fits sizes_is numbers_is widths_bounded new_is =
     let G : List Pair = with_gaps ns ps in
@@ -473,7 +474,7 @@ aligned_gaps cell ps first ns new sizes numbers size fits sizes_is numbers_is wi
     let named : new ≡ set_cell_gaps ns (cell_tokens first (cell_of cell) lines) (cell_gaps_from_width (greatest ws) ws) =
     new_is ∙ ap₂ (λ (n : List (Option ℕ)) (s : List (Option ℕ)). set_cell_gaps ns n (cell_gaps_from_width (greatest s) s)) numbers_is sizes_is in
     ap (λ gs. with_gaps gs ps) named
-    ∙ moved_gaps ps (cell_of cell) (cell_gaps_from_width (greatest ws) ws) lines (take first G) first ns size at whole (cells_inside cell lines) (cell_gaps_small (greatest ws) ws (greatest_within 1073741824 ws widths_bounded) widths_bounded)
+    ∙ moved_gaps ps (cell_of cell) (cell_gaps_from_width (greatest ws) ws) lines (take first G) first ns size at whole (cells_inside cell lines) (cell_gaps_small (greatest ws) ws (greatest_within MAX_WIDTH ws widths_bounded) widths_bounded)
     ∙ ap (λ (ls : List Line). take first G ++ pairs_in ls) (sym (aligned_is (cell_of cell) lines))
 
 pub first_after : (ps : List Pair) (first : ℕ) (leading rest whole : List Pair) → length leading ≡ first → whole ≡ leading ++ rest → (take first whole ≡ leading) × (drop first whole ≡ rest)

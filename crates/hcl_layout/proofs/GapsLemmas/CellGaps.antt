@@ -7,9 +7,9 @@ use Rattle.std.proofs.lemmas.List.{drop-drop, take-append-drop}
 use Rattle.hcl_token.specs.declared.kind.Kind.{Kind}
 use Rattle.hcl_token.specs.Tokens.{Pair}
 use Rattle.hcl_token.specs.Place.{is_lf}
-use Rattle.hcl_layout.specs.Gaps.Kinds.{is_equal, is_line_comment, is_inline_comment}
+use Rattle.hcl_token.specs.Kinds.{is_line_comment, is_opening, is_closing}
+use Rattle.hcl_layout.specs.Gaps.Kinds.{is_equal, is_inline_comment}
 use Rattle.hcl_layout.specs.Gaps.Lines.{Line, heredocs_after, ends_line, pairs_in}
-use Rattle.hcl_layout.specs.Gaps.Indent.{is_opening, is_closing}
 use Rattle.hcl_layout.specs.Gaps.Space.{spaces}
 use Rattle.hcl_layout.specs.Gaps.Cells.{index_of_first, index_after_first, has_cells, is_balanced, assignment, closing_comment, with_gap, with_cell_gap}
 use Rattle.hcl_layout.specs.Gaps.Inner.Stages.{greatest, with_cell_gaps, prepend_to_first, lines_from, KEEP_GAP, resolved_gap, with_gaps, open_heredocs_of, SplitsLine, AreAtMost, cell_tokens, set_cell_gap, set_cell_gaps}

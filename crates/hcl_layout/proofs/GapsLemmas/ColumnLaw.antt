@@ -15,7 +15,7 @@ use Rattle.hcl_layout.proofs.GapsLemmas.TokensKept.{SameTokens, gap_same}
 use Rattle.hcl_layout.proofs.GapsLemmas.CellLaw.{aligned_is}
 use Rattle.hcl_layout.proofs.GapsLemmas.CellGaps.{assignment_same, comment_same}
 use Rattle.hcl_layout.proofs.GapsLemmas.CellCode.{cell_inside}
-use Rattle.hcl_layout.proofs.GapsLemmas.Narrow.{width_cons}
+use Rattle.hcl_layout.proofs.GapsLemmas.LineWidths.{width_cons}
 
 column_moved : (n c : ℕ) (ps : List Pair) → n < length ps → column_at n (with_gap n (spaces c) ps) ≡ width (take n ps) + c
 column_moved n c [] h = absurd (omega arith)

@@ -10,13 +10,13 @@ use Rattle.hcl_layout.specs.Gaps.Indent.{openings, closings}
 use Rattle.hcl_layout.specs.Gaps.Space.{prev_after_all}
 use Rattle.hcl_layout.specs.Gaps.Cells.{aligned, assignment, closing_comment}
 use Rattle.hcl_layout.specs.Gaps.Layout.{format_lines, layout_lines, layout_body, layout_pairs}
-use Rattle.hcl_layout.specs.Gaps.Inner.Stages.{widths, lines_from, mark_count, KEEP_GAP, with_gaps, all_gap_lens, base_gap_lens, close_earlier, open_after_line, AreAtMost}
+use Rattle.hcl_layout.specs.Gaps.Inner.Stages.{widths, lines_from, mark_count, KEEP_GAP, with_gaps, all_gap_lens, base_gap_lens, close_earlier, open_after_line, AreAtMost, MAX_WIDTH}
 use Rattle.hcl_layout.proofs.GapsLemmas.GapLaw.{gaps_append, gaps_kept, length_replicate, length_set, set_stage, pairs_of_lines}
 use Rattle.hcl_layout.proofs.GapsLemmas.SplitLaw.{lines_are}
 use Rattle.hcl_layout.proofs.GapsLemmas.TokensKept.{set_alike_lines, equals_alike, split_again}
-use Rattle.hcl_scan.specs.Tokenization.{IsTokenization}
-use Rattle.hcl_layout.proofs.GapsLemmas.Few.{few_tokens}
-use Rattle.hcl_layout.proofs.GapsLemmas.Narrow.{bytes_joining, bytes, bytes_drop, utf8_drop, base_lines_bounded, widths_within, aligned_within_width, within_more}
+use Rattle.hcl_scan.specs.Tokenization.{IsTokenization, MAX_TEXT}
+use Rattle.hcl_scan.proofs.TokenCount.{few_tokens}
+use Rattle.hcl_layout.proofs.GapsLemmas.LineWidths.{BASE_WIDTH, bytes_joining, bytes, bytes_drop, utf8_drop, base_lines_bounded, widths_within, aligned_within_width, within_more}
 
 lens_length : (s : List ℕ) (b : List Kind) (lines : List Line) → length (all_gap_lens s b lines) ≡ length (pairs_in lines)
 lens_length s b [] = refl
@@ -57,7 +57,7 @@ first_size ps first gaps fits is =
       length-drop first ps,
     )
 
-pub first_stage : (ps : List Pair) (first : ℕ) (gaps : List ℕ) → first ≤ length ps → length ps ≤ 16777216 → gaps ≡ replicate first KEEP_GAP ++ all_gap_lens [] [] (lines_from 0 (drop first ps))
+pub first_stage : (ps : List Pair) (first : ℕ) (gaps : List ℕ) → first ≤ length ps → length ps ≤ MAX_TEXT → gaps ≡ replicate first KEEP_GAP ++ all_gap_lens [] [] (lines_from 0 (drop first ps))
     → with_gaps gaps ps ≡ take first ps ++ pairs_in (format_lines [] [] (lines_from 0 (drop first ps)))
 first_stage ps first gaps fits few is =
     let leading : length (take first ps) ≡ first = length-take-le first ps fits in
@@ -103,30 +103,30 @@ stages_make ps g0 g1 g2 fits s =
     s.two_prefix ∙ s.one_prefix ∙ ap (take first) s.zero_is ∙ take_at (take first ps) (pairs_in (format_lines [] [] (lines_from 0 (drop first ps)))) first (length-take-le first ps fits) in
     sym (take-append-drop first (with_gaps g2 ps)) ∙ ap₂ (λ (x y : List Pair). x ++ y) leading body ∙ sym (layout_first ps)
 
-pub zero_within_width : (ps : List Pair) (first : ℕ) (g0 : List ℕ) → AreUtf8 ps → length ps ≤ 16777216 → bytes ps ≤ 16777216 → lines_from 0 (drop first (with_gaps g0 ps)) ≡ format_lines [] [] (lines_from 0 (drop first ps))
-    → AreAtMost 1073741824 (widths assignment (lines_from 0 (drop first (with_gaps g0 ps))))
+pub zero_within_width : (ps : List Pair) (first : ℕ) (g0 : List ℕ) → AreUtf8 ps → length ps ≤ MAX_TEXT → bytes ps ≤ MAX_TEXT → lines_from 0 (drop first (with_gaps g0 ps)) ≡ format_lines [] [] (lines_from 0 (drop first ps))
+    → AreAtMost MAX_WIDTH (widths assignment (lines_from 0 (drop first (with_gaps g0 ps))))
 zero_within_width ps first g0 u few short lines =
     let widths_bounded = base_lines_bounded (drop first ps) (utf8_drop first ps u) (omega (arith, length-drop first ps, few)) (omega (arith, bytes_drop first ps, short)) in
-    subst (λ ls. AreAtMost 1073741824 (widths assignment ls)) (sym lines)
-    (within_more 536870911 1073741824 (widths assignment (format_lines [] [] (lines_from 0 (drop first ps)))) (omega arith) (widths_within 536870911 assignment (format_lines [] [] (lines_from 0 (drop first ps))) widths_bounded))
+    subst (λ ls. AreAtMost MAX_WIDTH (widths assignment ls)) (sym lines)
+    (within_more BASE_WIDTH MAX_WIDTH (widths assignment (format_lines [] [] (lines_from 0 (drop first ps)))) (omega arith) (widths_within BASE_WIDTH assignment (format_lines [] [] (lines_from 0 (drop first ps))) widths_bounded))
 
-pub one_within_width : (ps : List Pair) (first : ℕ) (g1 : List ℕ) → AreUtf8 ps → length ps ≤ 16777216 → bytes ps ≤ 16777216 → lines_from 0 (drop first (with_gaps g1 ps)) ≡ aligned assignment (format_lines [] [] (lines_from 0 (drop first ps)))
-    → AreAtMost 1073741824 (widths closing_comment (lines_from 0 (drop first (with_gaps g1 ps))))
+pub one_within_width : (ps : List Pair) (first : ℕ) (g1 : List ℕ) → AreUtf8 ps → length ps ≤ MAX_TEXT → bytes ps ≤ MAX_TEXT → lines_from 0 (drop first (with_gaps g1 ps)) ≡ aligned assignment (format_lines [] [] (lines_from 0 (drop first ps)))
+    → AreAtMost MAX_WIDTH (widths closing_comment (lines_from 0 (drop first (with_gaps g1 ps))))
 one_within_width ps first g1 u few short lines =
     let set : List Line = format_lines [] [] (lines_from 0 (drop first ps)) in
     let widths_bounded = base_lines_bounded (drop first ps) (utf8_drop first ps u) (omega (arith, length-drop first ps, few)) (omega (arith, bytes_drop first ps, short)) in
-    let moved = aligned_within_width 536870911 assignment set widths_bounded in
-    subst (λ ls. AreAtMost 1073741824 (widths closing_comment ls)) (sym lines)
-    (within_more (536870911 + (1 + 536870911)) 1073741824 (widths closing_comment (aligned assignment set)) (omega arith) (widths_within (536870911 + (1 + 536870911)) closing_comment (aligned assignment set) moved))
+    let moved = aligned_within_width BASE_WIDTH assignment set widths_bounded in
+    subst (λ ls. AreAtMost MAX_WIDTH (widths closing_comment ls)) (sym lines)
+    (within_more (BASE_WIDTH + (1 + BASE_WIDTH)) MAX_WIDTH (widths closing_comment (aligned assignment set)) (omega arith) (widths_within (BASE_WIDTH + (1 + BASE_WIDTH)) closing_comment (aligned assignment set) moved))
 
 pub stages_made : (ps : List Pair) (first : ℕ) (g0 g1 g2 : List ℕ) → first ≡ mark_count ps → first ≤ length ps → AreStages ps first g0 g1 g2 → with_gaps g2 ps ≡ layout_pairs ps
 stages_made ps first g0 g1 g2 is fits s =
     stages_make ps g0 g1 g2 (omega (arith, is, fits)) (subst (λ n. AreStages ps n g0 g1 g2) is s)
 
--- what is known of a text with its cut
+-- what is known of a text with its tokens
 pub record IsKnown (ps : List Pair) : Type 0 where
-  pub few : length ps ≤ 16777216
-  pub short : bytes ps ≤ 16777216
+  pub few : length ps ≤ MAX_TEXT
+  pub short : bytes ps ≤ MAX_TEXT
   pub utf8 : AreUtf8 ps
 
 pub known : (text : List ℕ) (ps : List Pair) (last : List ℕ) → IsTokenization text ps last → AreUtf8 ps → IsKnown ps

@@ -15,7 +15,7 @@ use Rattle.hcl_layout.proofs.GapsLemmas.GapLaw.{length_replicate}
 use Rattle.hcl_layout.proofs.GapsLemmas.CellGaps.{gaps_length}
 use Rattle.hcl_layout.proofs.GapsLemmas.LayoutPieces.{same_is}
 use Rattle.hcl_layout.proofs.GapsLemmas.LineLemmas.{token_here, spelling_is, gap_is}
-use Rattle.hcl_layout.proofs.GapsLemmas.Narrow.{bytes_joining}
+use Rattle.hcl_layout.proofs.GapsLemmas.LineWidths.{bytes_joining}
 use Rattle.hcl_layout.proofs.GapsLemmas.EditLemmas.{taken_more, text_step, last_at}
 
 -- where the gap before token i begins
@@ -131,7 +131,7 @@ gap_there ps i inside =
     let t = token_here ps i (length ps) inside (omega arith) in
     (t.pair.gap, sym (ap (option_map (λ (p : Pair). p.gap)) t.at))
 
--- at the front nothing is written, and nothing is copied
+-- at the start nothing is written, and nothing is copied
 pub nothing_yet : (source : List ℕ) (ps : List Pair) (out whole : List ℕ) → out ≡ [] → out ++ (slice_range source 0 (reached ps 0) ++ whole) ≡ whole
 unfolding reached
 nothing_yet source ps out whole none = ap (λ (x : List ℕ). x ++ (slice_range source 0 (reached ps 0) ++ whole)) none
@@ -152,7 +152,7 @@ stay_more ps ns from i gap there same stay = λ k g later before g_is. elim (cas
   | inr other ↦ stay k g later (omega arith) g_is
 ]
 
--- past gaps that stay
+-- across gaps that stay: what is written, what is to be copied and the rest are still the whole
 module _ (ps : List Pair) (last source : List ℕ) (source_is : source ≡ whole_text ps last) (ns : List ℕ) (size : length ns ≡ length ps) (a : ℕ) (out whole : List ℕ) where
   pub stay_to : (n from to : ℕ) → to ≡ from + n → to ≤ length ps → AreUnchanged ps ns from to → a ≤ reached ps from
       → out ++ (slice_range source a (reached ps from) ++ whole_text (drop from (with_gaps ns ps)) []) ≡ whole
@@ -231,7 +231,7 @@ item_step ns ps i item n size inside item_is n_is =
     let len = meant_len m item.gap_at item.start item.stop p.gap p.spelling (m == KEEP_GAP) refl start stop in
     omega (arith, whole, len, n_is, length-append (resolved_gap m p.gap) (p.spelling ++ rest), length-append p.spelling rest)
 
--- ---- room
+-- ---- capacity
 
 gap_most : (n : ℕ) (g : List ℕ) → length (resolved_gap n g) ≤ length g + space_count n
 gap_most n g = elim (n == KEEP_GAP) as (λ v. length (if v then g else spaces n) ≤ length g + (if v then 0 else n)) [

@@ -11,7 +11,7 @@ use Rattle.hcl_token.specs.TokenizedText.{spelling_of, gap_of}
 use Rattle.edit_record.specs.Lists.Pieces.{EditEntry, Piece, changed_entries}
 use Rattle.hcl_token.specs.declared.item.Item.{Item}
 use Rattle.hcl_token.specs.TokenizedText.{item_of, item_after}
-use Rattle.hcl_layout.proofs.GapsLemmas.Narrow.{bytes_joining}
+use Rattle.hcl_layout.proofs.GapsLemmas.LineWidths.{bytes_joining}
 use Rattle.edit_record.specs.Lists.Pieces.Piece.{Kept, Changed}
 use Rattle.hcl_layout.specs.Gaps.Space.{spaces}
 use Rattle.hcl_layout.specs.Gaps.Layout.{gap_piece, pieces}
@@ -173,7 +173,7 @@ remaining_push ps ns last i old new item g size inside item_is g_is is =
     ∙ append_assoc old (gap_edit ps ns i t.pair) (remaining_edits ps (with_gaps ns ps) last (i + 1))
     ∙ ap (λ (es : List EditEntry). old ++ es) (sym (remaining_step ps ns last i t size inside))
 
--- past a gap that stays
+-- after a gap that stays, the remaining edits are those from before it
 pub remaining_unchanged : (ps : List Pair) (ns last : List ℕ) (i : ℕ) (es : List EditEntry) (g : List ℕ) → length ns ≡ length ps → i < length ps → Some g ≡ gap_of ps i
     → bytes_eq g (resolved_gap (get_or ns i 0) g) ≡ true → es ++ remaining_edits ps (with_gaps ns ps) last (i + 1) ≡ es ++ remaining_edits ps (with_gaps ns ps) last i
 remaining_unchanged ps ns last i es g size inside g_is same =
@@ -186,7 +186,7 @@ remaining_unchanged ps ns last i es g size inside g_is same =
     remaining_step ps ns last i t size inside ∙ ap (λ (xs : List EditEntry). xs ++ remaining_edits ps (with_gaps ns ps) last (i + 1)) none in
     ap (λ (xs : List EditEntry). es ++ xs) (sym step)
 
--- past gaps that stay
+-- after gaps that stay, the remaining edits are those from before them
 pub remaining_unchanged_to : (ps : List Pair) (ns last : List ℕ) (es : List EditEntry) → length ns ≡ length ps → (n from to : ℕ) → to ≡ from + n → to ≤ length ps → AreUnchanged ps ns from to
     → es ++ remaining_edits ps (with_gaps ns ps) last to ≡ es ++ remaining_edits ps (with_gaps ns ps) last from
 remaining_unchanged_to ps ns last es size zero from to e within stay = ap (λ i. es ++ remaining_edits ps (with_gaps ns ps) last i) (omega arith)
@@ -237,7 +237,7 @@ pub no_bytes : (last : List ℕ) → (length last == 0) ≡ bytes_eq last []
 no_bytes [] = refl
 no_bytes (b ∷ last) = let test : (suc (length last) == 0) ≡ false = grind (arith, nat_tests) in test
 
--- past gaps that stay
+-- whether all is unchanged is the same from before gaps that stay and from after them
 pub still_to : (ps : List Pair) (ns last : List ℕ) → length ns ≡ length ps → (n from to : ℕ) → to ≡ from + n → to ≤ length ps → AreUnchanged ps ns from to
     → still_so ps (with_gaps ns ps) last from ≡ still_so ps (with_gaps ns ps) last to
 still_to ps ns last size zero from to e within stay = ap (still_so ps (with_gaps ns ps) last) (omega arith)

@@ -9,15 +9,16 @@ use Rattle.hcl_token.specs.declared.kind.Kind.TheVariants.{Mark, Star, Dot, Iden
 use Rattle.hcl_token.specs.Tokens.{Pair}
 use Rattle.hcl_token.specs.TokenizedText.{kind_of}
 use Rattle.hcl_token.specs.Joins.{joins_with}
+use Rattle.hcl_token.specs.Kinds.{is_line_end, is_line_comment}
 use Rattle.hcl_scan.specs.Follows.{has_no_gap_before}
-use Rattle.hcl_layout.specs.Gaps.Kinds.{among, is_line_end, is_line_comment, is_identifier}
+use Rattle.hcl_layout.specs.Gaps.Kinds.{among, is_identifier}
 use Rattle.hcl_layout.specs.Gaps.Space.{is_after_identifier, is_after_operand, is_splat_star}
 use Rattle.hcl_layout.specs.Gaps.Inner.Stages.{space_len, space_len_at}
 use Rattle.hcl_layout.specs.Gaps.Inner.SpacingFlags.{is_star, flags_after, flags_before}
 use Rattle.hcl_layout.proofs.GapsLemmas.LineLemmas.{token_here, kind_is}
 use Rattle.hcl_layout.proofs.GapsLemmas.RowLemmas.{no_splat}
 
--- the table, by what it asks of spellings and of the tokens before
+-- the table, by what it needs to know of spellings and of the tokens before
 abbrev by_rest : Bool → Bool → Bool → Kind → Kind → Bool
 by_rest in_for splat operand a b =
     if is_line_end b then false
@@ -39,7 +40,7 @@ by_rest in_for splat operand a b =
 abbrev flags_decide : Kind → Kind → ℕ
 flags_decide a b = bit_and (flags_after a) (flags_before b)
 
--- where two kinds share a flag, that tells the gap
+-- if two kinds share a flag, the flags that they share determine the gap
 abbrev HasFlagsOf : Bool → Bool → Bool → List ℕ → List ℕ → Kind → Kind → Type 0
 HasFlagsOf named splat operand s t a b =
     ◌≡◌ {A = ℕ}

@@ -4,14 +4,15 @@ use Rattle.std.proofs.lemmas.Bool.Decides.{nat_tests}
 use Rattle.hcl_token.specs.declared.kind.Kind.{Kind}
 use Rattle.hcl_token.specs.Tokens.{Pair}
 use Rattle.hcl_token.specs.Joins.{joins_with}
+use Rattle.hcl_token.specs.Kinds.{is_line_end}
 use Rattle.hcl_scan.specs.Follows.{has_no_gap_before}
-use Rattle.hcl_layout.specs.Gaps.Kinds.{is_line_end}
 use Rattle.hcl_layout.specs.Gaps.Lines.{Line, heredocs_after, ends_line, pairs_in}
 use Rattle.hcl_layout.specs.Gaps.Indent.{openings, closings}
 use Rattle.hcl_layout.specs.Gaps.Space.{prev_after, prev_after_all, is_spaced, spaces}
 use Rattle.hcl_layout.specs.Gaps.Layout.{with_spacing, with_indent, format_line, format_lines}
 use Rattle.hcl_layout.specs.Gaps.Inner.Stages.{prepend_to_first, lines_from, KEEP_GAP, resolved_gap, with_gaps, space_lens, line_gap_lens, base_gap_lens, all_gap_lens, close_brackets, close_earlier, open_after_line, format_lines_by_stack}
 use Rattle.hcl_layout.proofs.GapsLemmas.IndentLaw.{set_by_stack}
+use Rattle.hcl_scan.specs.Tokenization.{MAX_TEXT}
 
 -- ---- lists side by side
 
@@ -128,7 +129,7 @@ fewer_lines open_heredocs (p ∷ ps) = elim (ends_line open_heredocs p.kind) as 
 ]
 
 -- the gaps that the first stage finds are those of the lines, indented and spaced
-pub set_stage : (ps : List Pair) → length ps ≤ 16777216 → with_gaps (all_gap_lens [] [] (lines_from 0 ps)) ps ≡ pairs_in (format_lines [] [] (lines_from 0 ps))
+pub set_stage : (ps : List Pair) → length ps ≤ MAX_TEXT → with_gaps (all_gap_lens [] [] (lines_from 0 ps)) ps ≡ pairs_in (format_lines [] [] (lines_from 0 ps))
 set_stage ps few =
     let size = fewer_lines 0 ps in
     ap (with_gaps (all_gap_lens [] [] (lines_from 0 ps))) (sym (pairs_of_lines 0 ps))

@@ -14,7 +14,7 @@ use Rattle.hcl_layout.specs.Gaps.Inner.CodeViews.{AreSpaces}
 use Rattle.hcl_layout.specs.Gaps.Inner.Stages.{KEEP_GAP, resolved_gap, have_lengths, AreUnchanged}
 use Rattle.hcl_layout.proofs.GapsLemmas.LineLemmas.{token_here, gap_is}
 use Rattle.hcl_layout.proofs.GapsLemmas.LayoutPieces.{same_self_bytes}
-use Rattle.hcl_layout.proofs.GapsLemmas.Narrow.{bytes_joining}
+use Rattle.hcl_layout.proofs.GapsLemmas.LineWidths.{bytes_joining}
 use Rattle.hcl_layout.proofs.GapsLemmas.EditLemmas.{all_spaces}
 
 -- ---- one gap

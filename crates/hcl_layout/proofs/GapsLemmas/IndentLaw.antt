@@ -140,7 +140,7 @@ left_extends o c a b (d ∷ ds) h e =
     let value : a + d + o - c ≡ b + d = omega arith in
     rw (test, value) (ap (λ ss. (b + d) ∷ ss) (left_extends o c (a + d) (b + d) ds (omega arith) (omega arith)))
 
--- more closings than openings: what is taken off
+-- more closings than openings: what is removed
 left_shrink : (o c a m : ℕ) (ds : List ℕ) → a + o + m ≡ c → left_of o c (running a ds) ≡ running 0 (close_brackets m ds)
 left_shrink o c a m [] e = refl
 left_shrink o c a m (d ∷ ds) e = elim (cases_lt m d) [

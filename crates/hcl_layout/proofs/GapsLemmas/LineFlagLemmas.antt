@@ -3,12 +3,13 @@ use Rattle.std.proofs.Common.{◌≡◌, ℕ, ◌+◌, Bool, true, false, List, 
 use Rattle.std.specs.Option.{option_map}
 use Rattle.hcl_token.specs.declared.kind.Kind.{Kind}
 use Rattle.hcl_token.specs.Tokens.{Pair}
-use Rattle.hcl_layout.specs.Gaps.Inner.CodeViews.{is_comment, are_some}
+use Rattle.hcl_token.specs.Kinds.{is_line_comment, is_comment}
+use Rattle.hcl_layout.specs.Gaps.Inner.CodeViews.{are_some}
 use Rattle.std.proofs.Common.{◌||◌, ◌&&◌, None}
 use Rattle.std.specs.List.{list_any}
 use Rattle.hcl_token.specs.Place.{is_lf}
 use Rattle.hcl_token.specs.declared.kind.Kind.TheVariants.{LineComment, InlineComment}
-use Rattle.hcl_layout.specs.Gaps.Kinds.{is_line_comment, is_inline_comment}
+use Rattle.hcl_layout.specs.Gaps.Kinds.{is_inline_comment}
 use Rattle.hcl_layout.specs.Gaps.Cells.{index_of_first, index_after_first}
 
 pub some_if : (f : Kind → Bool) (p : Pair) (ps : List Pair) (b : Bool) → f p.kind ≡ b → are_some f (p ∷ ps) ≡ (b || are_some f ps)

@@ -13,9 +13,8 @@ use Rattle.hcl_token.specs.Tokens.{Pair}
 use Rattle.hcl_token.specs.TokenizedText.{kind_of, spelling_of, gap_of}
 use Rattle.hcl_layout.specs.Gaps.Lines.{Line, heredocs_after, ends_line}
 use Rattle.hcl_layout.specs.Gaps.Inner.Stages.{prepend_to_first, lines_from, line_len, open_heredocs_after, open_heredocs_of, SplitsLine, close_brackets}
-use Rattle.hcl_layout.specs.Gaps.Inner.CodeViews.{is_here_open, IsLine, AreLines}
+use Rattle.hcl_layout.specs.Gaps.Inner.CodeViews.{is_here_open}
 use Rattle.std.proofs.Common.{take-add}
-use Rattle.hcl_layout.specs.declared.gaps.lines.LineSpan.{LineSpan}
 use Rattle.std.proofs.lemmas.Bool.Decides.{nat_tests}
 
 -- token i, which is before token `to`
@@ -198,40 +197,3 @@ range_split ps a b c h g =
 
 pub none_there : (ps : List Pair) (a : ℕ) → slice_range ps a a ≡ []
 none_there ps a = let none : a - a ≡ 0 = omega arith in ap (λ n. take n (drop a ps)) none
-
--- ---- lines as spans
-
--- lines from one token up to another
-abbrev pub LinesTo : List Pair → ℕ → Bool → List LineSpan → ℕ → Bool → Type 0
-LinesTo pairs at frozen [] to next = (at ≡ to) × (frozen ≡ next)
-LinesTo pairs at frozen (line ∷ lines) to next = IsLine pairs at frozen line × LinesTo pairs line.past line.next_frozen lines to next
-
--- one more
-pub lines_push : (pairs : List Pair) (at : ℕ) (frozen : Bool) (lines : List LineSpan) (to : ℕ) (next : Bool) (line : LineSpan)
-    → LinesTo pairs at frozen lines to next → IsLine pairs to next line
-    → LinesTo pairs at frozen (lines ++ line ∷ []) line.past line.next_frozen
-lines_push pairs at frozen [] to next line (e, f) one =
-    (subst (λ a. IsLine pairs a frozen line) (sym e) (subst (λ b. IsLine pairs to b line) (sym f) one), (refl, refl))
-lines_push pairs at frozen (l ∷ lines) to next line (first, rest) one = (first, lines_push pairs l.past l.next_frozen lines to next line rest one)
-
--- up to the end of the text
-pub lines_whole : (pairs : List Pair) (at : ℕ) (frozen : Bool) (lines : List LineSpan) (to : ℕ) (next : Bool)
-    → LinesTo pairs at frozen lines to next → to ≡ length pairs → AreLines pairs at frozen lines
-lines_whole pairs at frozen [] to next (e, f) end = e ∙ end
-lines_whole pairs at frozen (l ∷ lines) to next (first, rest) end = (first, lines_whole pairs l.past l.next_frozen lines to next rest end)
-
--- what a list of spans answers past its end
-abbrev pub no_span : LineSpan
-no_span = record { past = 0; next_frozen = false; is_balanced = false; has_comment = false; has_equals = false }
-
--- the line of number i, and those after it
-pub line_at : (pairs : List Pair) (at : ℕ) (frozen : Bool) (lines : List LineSpan) (i : ℕ) → i < length lines
-    → AreLines pairs at frozen (drop i lines)
-    → IsLine pairs at frozen (get_or lines i no_span)
-    × AreLines pairs (get_or lines i no_span).past (get_or lines i no_span).next_frozen (drop (i + 1) lines)
-line_at pairs at frozen lines i h are = subst (AreLines pairs at frozen) (drop_more lines i no_span h) are
-
--- after the last
-pub no_line : (pairs : List Pair) (at : ℕ) (frozen : Bool) (lines : List LineSpan) (i : ℕ) → length lines ≤ i
-    → AreLines pairs at frozen (drop i lines) → at ≡ length pairs
-no_line pairs at frozen lines i h are = subst (AreLines pairs at frozen) (drop_all i lines h) are

@@ -7,17 +7,21 @@ use Rattle.hcl_token.specs.declared.kind.Kind.{Kind}
 use Rattle.hcl_token.specs.declared.kind.Kind.TheVariants.{HereOpen, HereClose}
 use Rattle.hcl_token.specs.Tokens.{Pair}
 use Rattle.hcl_token.specs.TokenizedText.{kind_of}
-use Rattle.hcl_layout.specs.Gaps.Kinds.{is_equal, is_line_end}
-use Rattle.hcl_layout.specs.Gaps.Indent.{is_opening, is_closing, openings, closings}
+use Rattle.hcl_token.specs.Kinds.{is_line_end, is_comment, is_opening, is_closing}
+use Rattle.hcl_layout.specs.Gaps.Kinds.{is_equal}
+use Rattle.hcl_layout.specs.Gaps.Indent.{openings, closings}
 use Rattle.hcl_layout.specs.Gaps.Lines.{heredocs_after, ends_line}
 use Rattle.hcl_layout.specs.Gaps.Cells.{is_balanced}
 use Rattle.hcl_layout.specs.Gaps.Space.{prev_after_all}
-use Rattle.hcl_layout.specs.Gaps.Inner.CodeViews.{is_comment, is_here_open, are_some, IsLine, gaps_left}
+use Rattle.hcl_layout.specs.Gaps.Inner.CodeViews.{is_here_open, are_some, IsLine, gaps_left}
 use Rattle.hcl_layout.specs.Gaps.Inner.Stages.{SplitsLine, lines_from, open_heredocs_of, KEEP_GAP, spaces_from, line_gap_lens, base_gap_lens, all_gap_lens}
 use Rattle.hcl_layout.specs.declared.gaps.lines.LineSpan.{LineSpan}
 use Rattle.std.proofs.lemmas.Bool.Decides.{nat_tests}
 use Rattle.hcl_layout.proofs.GapsLemmas.LineLemmas.{token_here, kind_is, range_split, none_there, counted, IsInLine, in_line_next, line_ends, text_ends}
 use Rattle.hcl_layout.proofs.GapsLemmas.LineFlagLemmas.{some_if}
+use Rattle.hcl_layout.specs.declared.gaps.indent.TheConstants.{CLOSING}
+use Rattle.hcl_layout.specs.declared.gaps.line_pass.TheConstants.{EQUALS, LINE_END}
+use Rattle.hcl_scan.specs.Tokenization.{MAX_TEXT}
 
 -- ---- what tokens say
 
@@ -28,8 +32,8 @@ number_of f ps = count_by (λ (p : Pair). f p.kind) ps
 -- what the numbers of the tokens from one up to another are in all, with the mark of a line's end,
 -- or without
 pub record CountsTo (pairs : List Pair) (at i brackets marks ends : ℕ) : Type 0 where
-  pub all_brackets : brackets ≡ openings (slice_range pairs at i) + 4294967296 * closings (slice_range pairs at i)
-  pub all_marks : marks ≡ number_of is_comment (slice_range pairs at i) + 1073741824 * number_of is_equal (slice_range pairs at i) + 9223372036854775808 * ends
+  pub all_brackets : brackets ≡ openings (slice_range pairs at i) + CLOSING * closings (slice_range pairs at i)
+  pub all_marks : marks ≡ number_of is_comment (slice_range pairs at i) + EQUALS * number_of is_equal (slice_range pairs at i) + LINE_END * ends
   pub few_opened : openings (slice_range pairs at i) + at ≤ i
   pub few_closed : closings (slice_range pairs at i) + at ≤ i
   pub few_comments : number_of is_comment (slice_range pairs at i) + at ≤ i
@@ -71,8 +75,8 @@ no_counts pairs at i e =
 
 -- one token more
 pub counts_more : (pairs : List Pair) (at i j : ℕ) (k : Kind) (brackets marks own mark : ℕ) → at ≤ i → i < length pairs → j ≡ i + 1 → Some k ≡ kind_of pairs i
-    → own ≡ (if is_opening k then 1 else 0) + 4294967296 * (if is_closing k then 1 else 0)
-    → mark ≡ (if is_comment k then 1 else 0) + 1073741824 * (if is_equal k then 1 else 0) + 9223372036854775808 * (if ends_line 0 k then 1 else 0)
+    → own ≡ (if is_opening k then 1 else 0) + CLOSING * (if is_closing k then 1 else 0)
+    → mark ≡ (if is_comment k then 1 else 0) + EQUALS * (if is_equal k then 1 else 0) + LINE_END * (if ends_line 0 k then 1 else 0)
     → CountsTo pairs at i brackets marks 0 → CountsTo pairs at j (brackets + own) (marks + mark) (if ends_line 0 k then 1 else 0)
 counts_more pairs at i j k brackets marks own mark later inside step is own_is mark_is counts =
     subst (λ n. CountsTo pairs at n (brackets + own) (marks + mark) (if ends_line 0 k then 1 else 0)) (sym step)
@@ -92,19 +96,19 @@ counts_more pairs at i j k brackets marks own mark later inside step is own_is m
     )
 
 -- it ends the line if and only if the mark of that is among them
-pub ends_if : (pairs : List Pair) (at i brackets marks : ℕ) (k : Kind) → i ≤ 16777216 → CountsTo pairs at i brackets marks (if ends_line 0 k then 1 else 0)
-    → 9223372036854775808 ≤ marks → ends_line 0 k ≡ true
+pub ends_if : (pairs : List Pair) (at i brackets marks : ℕ) (k : Kind) → i ≤ MAX_TEXT → CountsTo pairs at i brackets marks (if ends_line 0 k then 1 else 0)
+    → LINE_END ≤ marks → ends_line 0 k ≡ true
 ends_if pairs at i brackets marks k few counts most = by_test (ends_line 0 k) counts.all_marks
   where
-    by_test : (b : Bool) → marks ≡ number_of is_comment (slice_range pairs at i) + 1073741824 * number_of is_equal (slice_range pairs at i) + 9223372036854775808 * (if b then 1 else 0) → b ≡ true
+    by_test : (b : Bool) → marks ≡ number_of is_comment (slice_range pairs at i) + EQUALS * number_of is_equal (slice_range pairs at i) + LINE_END * (if b then 1 else 0) → b ≡ true
     by_test true e = refl
     by_test false e = absurd (omega (arith, e, most, few, counts.few_comments, counts.few_equals))
 
 pub counts_if : (pairs : List Pair) (at i brackets marks : ℕ) (k : Kind) → CountsTo pairs at i brackets marks (if ends_line 0 k then 1 else 0)
-    → marks < 9223372036854775808 → ends_line 0 k ≡ false
+    → marks < LINE_END → ends_line 0 k ≡ false
 counts_if pairs at i brackets marks k counts less = by_test (ends_line 0 k) counts.all_marks
   where
-    by_test : (b : Bool) → marks ≡ number_of is_comment (slice_range pairs at i) + 1073741824 * number_of is_equal (slice_range pairs at i) + 9223372036854775808 * (if b then 1 else 0) → b ≡ false
+    by_test : (b : Bool) → marks ≡ number_of is_comment (slice_range pairs at i) + EQUALS * number_of is_equal (slice_range pairs at i) + LINE_END * (if b then 1 else 0) → b ≡ false
     by_test true e = absurd (omega (arith, e, less))
     by_test false e = refl
 
@@ -162,15 +166,15 @@ ends_last pairs at i j k l begins end last is = subst (λ n. SplitsLine pairs at
         subst (λ b. SplitsLine pairs at false (length pairs) b) (sym (opens_none k e))
         (text_ends pairs at false (i + 1) (heredocs_after 0 k) (in_line_next pairs at false i 0 k l (omega arith) is e) begins end)
 
-pub line_passed : (pairs : List Pair) (at past brackets marks ends : ℕ) (next : Bool) (line : LineSpan) → past ≤ 16777216 → SplitsLine pairs at false past next → CountsTo pairs at past brackets marks ends
-    → line.past ≡ past → line.next_frozen ≡ next → line.is_balanced ≡ (brackets % 4294967296 == brackets / 4294967296) → line.has_comment ≡ not (marks % 1073741824 == 0) → line.has_equals ≡ not (marks / 1073741824 % 1073741824 == 0)
+pub line_passed : (pairs : List Pair) (at past brackets marks ends : ℕ) (next : Bool) (line : LineSpan) → past ≤ MAX_TEXT → SplitsLine pairs at false past next → CountsTo pairs at past brackets marks ends
+    → line.past ≡ past → line.next_frozen ≡ next → line.is_balanced ≡ (brackets % CLOSING == brackets / CLOSING) → line.has_comment ≡ not (marks % EQUALS == 0) → line.has_equals ≡ not (marks / EQUALS % EQUALS == 0)
     → IsLine pairs at false line
 line_passed pairs at past brackets marks ends next line few split counts past_is next_is balanced comment equal =
     let ps : List Pair = slice_range pairs at past in
-    let opened : brackets % 4294967296 ≡ openings ps = omega (arith, counts.all_brackets, few, counts.few_opened) in
-    let closed : brackets / 4294967296 ≡ closings ps = omega (arith, counts.all_brackets, few, counts.few_opened) in
-    let comments : marks % 1073741824 ≡ number_of is_comment ps = omega (arith, counts.all_marks, few, counts.few_comments, counts.few_equals) in
-    let equals : marks / 1073741824 % 1073741824 ≡ number_of is_equal ps = omega (arith, counts.all_marks, few, counts.few_comments, counts.few_equals) in
+    let opened : brackets % CLOSING ≡ openings ps = omega (arith, counts.all_brackets, few, counts.few_opened) in
+    let closed : brackets / CLOSING ≡ closings ps = omega (arith, counts.all_brackets, few, counts.few_opened) in
+    let comments : marks % EQUALS ≡ number_of is_comment ps = omega (arith, counts.all_marks, few, counts.few_comments, counts.few_equals) in
+    let equals : marks / EQUALS % EQUALS ≡ number_of is_equal ps = omega (arith, counts.all_marks, few, counts.few_comments, counts.few_equals) in
     record {
       split = subst (λ n. SplitsLine pairs at false n line.next_frozen) (sym past_is) (subst (λ b. SplitsLine pairs at false past b) (sym next_is) split);
       flags = λ h. record {
@@ -181,12 +185,12 @@ line_passed pairs at past brackets marks ends next line few split counts past_is
     }
 
 -- its brackets
-pub opened_is : (pairs : List Pair) (at past brackets marks ends opened to : ℕ) → past ≤ 16777216 → CountsTo pairs at past brackets marks ends → to ≡ past → opened ≡ brackets % 4294967296 → opened ≡ openings (slice_range pairs at to)
+pub opened_is : (pairs : List Pair) (at past brackets marks ends opened to : ℕ) → past ≤ MAX_TEXT → CountsTo pairs at past brackets marks ends → to ≡ past → opened ≡ brackets % CLOSING → opened ≡ openings (slice_range pairs at to)
 opened_is pairs at past brackets marks ends opened to few counts to_is is =
     let here : opened ≡ openings (slice_range pairs at past) = omega (arith, is, counts.all_brackets, few, counts.few_opened) in
     here ∙ ap (λ n. openings (slice_range pairs at n)) (sym to_is)
 
-pub closed_is : (pairs : List Pair) (at past brackets marks ends closed to : ℕ) → past ≤ 16777216 → CountsTo pairs at past brackets marks ends → to ≡ past → closed ≡ brackets / 4294967296 → closed ≡ closings (slice_range pairs at to)
+pub closed_is : (pairs : List Pair) (at past brackets marks ends closed to : ℕ) → past ≤ MAX_TEXT → CountsTo pairs at past brackets marks ends → to ≡ past → closed ≡ brackets / CLOSING → closed ≡ closings (slice_range pairs at to)
 closed_is pairs at past brackets marks ends closed to few counts to_is is =
     let here : closed ≡ closings (slice_range pairs at past) = omega (arith, is, counts.all_brackets, few, counts.few_opened) in
     here ∙ ap (λ n. closings (slice_range pairs at n)) (sym to_is)

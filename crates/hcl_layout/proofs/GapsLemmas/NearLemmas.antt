@@ -7,7 +7,8 @@ use Rattle.hcl_token.specs.declared.kind.Kind.{Kind}
 use Rattle.hcl_token.specs.declared.kind.Kind.TheVariants.{Dot, Star, Identifier, Number, DotIndex, Minus, Bang, DoubleColon, OpenBrace, CloseBrace, OpenBracket, CloseBracket, OpenParen, CloseParen, Comma, Ellipsis, SeqClose, QuoteClose, InterpOpen, DirectiveOpen}
 use Rattle.hcl_token.specs.Tokens.{Pair}
 use Rattle.hcl_token.specs.TokenizedText.{kind_of}
-use Rattle.hcl_layout.specs.Gaps.Kinds.{among, is_line_end, is_line_comment, is_identifier, ends_operand, is_skipped}
+use Rattle.hcl_token.specs.Kinds.{is_line_end, is_line_comment}
+use Rattle.hcl_layout.specs.Gaps.Kinds.{among, is_identifier, ends_operand, is_skipped_by_spacing}
 use Rattle.hcl_layout.specs.Gaps.Lines.{Line}
 use Rattle.hcl_layout.specs.Gaps.Indent.{openings, closings}
 use Rattle.hcl_layout.specs.Gaps.Space.{prev_after, prev_after_all, is_after_identifier, is_splat_star, is_after_operand, is_in_keyword, is_spaced}
@@ -20,7 +21,7 @@ use Rattle.hcl_layout.proofs.GapsLemmas.LineLemmas.{TokenHere, token_here, kind_
 abbrev pub AreNear : List Kind → List Kind → Type 0
 AreNear b c = take 2 b ≡ take 2 c
 
--- what the table asks of the tokens before
+-- what the table needs to know of the tokens before
 record SameContext (b c : List Kind) (k : Kind) : Type 0 where
   identifier : is_after_identifier b ≡ is_after_identifier c
   splat : is_splat_star b k ≡ is_splat_star c k
@@ -93,19 +94,19 @@ passed_one ps first i j t h e =
     let one : slice_range ps i j ≡ t.pair ∷ [] = t.range ∙ ap (λ n. t.pair ∷ slice_range ps n j) (sym e) ∙ ap (λ (qs : List Pair). t.pair ∷ qs) (none_there ps j) in
     passed_on ps first i j [] h (omega arith) ∙ ap (λ (qs : List Pair). prev_after_all qs (prev_after_all (slice_range ps first i) [])) one
 
--- the last token of some is passed over, or not
+-- the last token of some is skipped, or not
 passed_last : (ps : List Pair) (first past : ℕ) (k : Kind) → first < past → past ≤ length ps → Some k ≡ kind_of ps (past - 1)
-    → prev_after_all (slice_range ps first past) [] ≡ (if is_skipped k then prev_after_all (slice_range ps first (past - 1)) [] else k ∷ prev_after_all (slice_range ps first (past - 1)) [])
+    → prev_after_all (slice_range ps first past) [] ≡ (if is_skipped_by_spacing k then prev_after_all (slice_range ps first (past - 1)) [] else k ∷ prev_after_all (slice_range ps first (past - 1)) [])
 passed_last ps first past k some within is =
     let t = token_here ps (past - 1) past (omega arith) within in
     passed_one ps first (past - 1) past t (omega arith) (omega arith)
-    ∙ ap (λ j. if is_skipped j then prev_after_all (slice_range ps first (past - 1)) [] else j ∷ prev_after_all (slice_range ps first (past - 1)) []) (sym (kind_is ps (past - 1) past k t is))
+    ∙ ap (λ j. if is_skipped_by_spacing j then prev_after_all (slice_range ps first (past - 1)) [] else j ∷ prev_after_all (slice_range ps first (past - 1)) []) (sym (kind_is ps (past - 1) past k t is))
 
-pub is_over : (ps : List Pair) (first past : ℕ) (k : Kind) → first < past → past ≤ length ps → Some k ≡ kind_of ps (past - 1) → is_skipped k ≡ true
+pub is_over : (ps : List Pair) (first past : ℕ) (k : Kind) → first < past → past ≤ length ps → Some k ≡ kind_of ps (past - 1) → is_skipped_by_spacing k ≡ true
     → prev_after_all (slice_range ps first past) [] ≡ prev_after_all (slice_range ps first (past - 1)) []
 is_over ps first past k some within is h = passed_last ps first past k some within is ∙ rw h refl
 
-pub nearest_there : (ps : List Pair) (first to past : ℕ) (k : Kind) → first < past → past ≤ to → to ≤ length ps → Some k ≡ kind_of ps (past - 1) → is_skipped k ≡ false
+pub nearest_there : (ps : List Pair) (first to past : ℕ) (k : Kind) → first < past → past ≤ to → to ≤ length ps → Some k ≡ kind_of ps (past - 1) → is_skipped_by_spacing k ≡ false
     → prev_after_all (slice_range ps first past) [] ≡ prev_after_all (slice_range ps first to) [] → IsEndOfNearest ps first to past
 nearest_there ps first to past k some less within is h same = record {
   ordered = omega arith;

@@ -1,4 +1,4 @@
--- What the table asks of the tokens before.
+-- What the table needs to know of the tokens before.
 use Rattle.std.proofs.Common.{◌≡◌, ℕ, ◌-◌, ◌<◌, Bool, true, false, ◌||◌, List, [], ◌∷◌, length, take, Some, refl, sym, ap, ap₂, ◌∙◌, arith}
 use Rattle.std.specs.Option.{option_map}
 use Rattle.hcl_token.specs.declared.kind.Kind.{Kind}
@@ -12,7 +12,7 @@ use Rattle.hcl_layout.specs.Gaps.Inner.SpacingFlags.{is_star, needs_context, spa
 use Rattle.hcl_layout.proofs.GapsLemmas.LineLemmas.{token_here, kind_is, spelling_is}
 use Rattle.hcl_layout.proofs.GapsLemmas.NearLemmas.{space_same, kept_near}
 
--- ---- what is asked of the tokens before
+-- ---- what needs to be known of the tokens before
 
 record NeedsNoContext (a : Pair) : Type 0 where
   minus : among (Minus ∷ []) a.kind ≡ false

@@ -5,9 +5,10 @@ use Rattle.std.proofs.lemmas.Bool.{false≢true}
 use Rattle.hcl_token.specs.declared.kind.Kind.{Kind}
 use Rattle.hcl_token.specs.Tokens.{Pair}
 use Rattle.hcl_scan.specs.Follows.{tokens_of}
-use Rattle.hcl_layout.specs.Gaps.Kinds.{is_line_end, is_skipped}
+use Rattle.hcl_token.specs.Kinds.{is_line_end, is_opening, is_closing}
+use Rattle.hcl_layout.specs.Gaps.Kinds.{is_skipped_by_spacing}
 use Rattle.hcl_layout.specs.Gaps.Lines.{Line, heredocs_after, ends_line, lines_of, pairs_in}
-use Rattle.hcl_layout.specs.Gaps.Indent.{is_opening, is_closing, openings, closings}
+use Rattle.hcl_layout.specs.Gaps.Indent.{openings, closings}
 use Rattle.hcl_layout.specs.Gaps.Space.{prev_after, prev_after_all, spaces, gap_between}
 use Rattle.hcl_layout.specs.Gaps.Cells.{has_cells, assignment, closing_comment, with_gap, with_cell_gap, aligned}
 use Rattle.hcl_layout.specs.Gaps.Layout.{with_spacing, with_indent, format_line, format_lines, layout_lines, layout_body}
@@ -230,7 +231,7 @@ passed_tokens [] [] b h = refl
 passed_tokens [] (q ∷ qs) b h = absurd h
 passed_tokens (p ∷ ps) [] b h = absurd h
 passed_tokens (p ∷ ps) (q ∷ qs) b h =
-    ap (λ k. prev_after_all ps (if is_skipped k then b else k ∷ b)) h.0 ∙ passed_tokens ps qs (prev_after q b) h.2
+    ap (λ k. prev_after_all ps (if is_skipped_by_spacing k then b else k ∷ b)) h.0 ∙ passed_tokens ps qs (prev_after q b) h.2
 
 gap_fields : List Kind → Kind → List ℕ → Kind → List ℕ → List ℕ
 gap_fields b ak as' pk ps' = gap_between b (token ak as') (token pk ps')
@@ -245,7 +246,7 @@ spaced_alike b a a' (p ∷ ps) (q ∷ qs) h k e =
     let first : ◌≡◌ {A = Pair} (record p { gap = gap_between b a p }) (record q { gap = gap_between b a' q }) =
     ap (λ g. record p { gap = g }) gap ∙ pair_same (gap_between b a' q) p q e.0 e.1 in
     ap₂ (λ (x : Pair) (xs : List Pair). x ∷ xs) first
-    (ap (λ j. with_spacing (if is_skipped j then b else j ∷ b) p ps) h ∙ spaced_alike (prev_after a' b) p q ps qs e.0 e.1 e.2)
+    (ap (λ j. with_spacing (if is_skipped_by_spacing j then b else j ∷ b) p ps) h ∙ spaced_alike (prev_after a' b) p q ps qs e.0 e.1 e.2)
 
 indented_alike : (deep : ℕ) (b : List Kind) (ps qs : List Pair) → SameTokens ps qs → with_indent deep b ps ≡ with_indent deep b qs
 indented_alike deep b [] [] e = refl

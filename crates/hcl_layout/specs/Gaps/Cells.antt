@@ -7,7 +7,8 @@ use Rattle.std.specs.Prelude.{ℕ, zero, suc, ◌+◌, ◌-◌, ◌==◌, Bool, 
 use Rattle.std.specs.List.{list_any}
 use Rattle.hcl_token.specs.Tokens.{Pair}
 use Rattle.hcl_token.specs.Place.{clusters, is_lf}
-use Rattle.hcl_layout.specs.Gaps.Kinds.{is_line_comment, is_inline_comment, is_equal}
+use Rattle.hcl_token.specs.Kinds.{is_line_comment}
+use Rattle.hcl_layout.specs.Gaps.Kinds.{is_inline_comment, is_equal}
 use Rattle.hcl_layout.specs.Gaps.Lines.{Line, prepend}
 use Rattle.hcl_layout.specs.Gaps.Indent.{openings, closings}
 use Rattle.hcl_layout.specs.Gaps.Space.{spaces}

@@ -2,28 +2,10 @@
 -- many brackets that one opens.
 -- Terraform style conventions (two spaces for each level of nesting); which lines count is this
 -- project's own profile.
-use Rattle.std.specs.Prelude.{ℕ, ◌+◌, Bool, true, false, ◌&&◌, nat_lt, List, [], ◌∷◌, ◌++◌, count_by, if◌then◌else◌}
-use Rattle.hcl_token.specs.declared.kind.Kind.{Kind}
-use Rattle.hcl_token.specs.declared.kind.Kind.TheVariants.{OpenBrace, CloseBrace, OpenBracket, CloseBracket, OpenParen, CloseParen, InterpOpen, DirectiveOpen, SeqClose}
+use Rattle.std.specs.Prelude.{ℕ, ◌+◌, Bool, true, ◌&&◌, nat_lt, List, [], ◌∷◌, ◌++◌, count_by, if◌then◌else◌}
+use Rattle.hcl_token.specs.Kinds.{is_opening, is_closing}
 use Rattle.hcl_token.specs.Tokens.{Pair}
 use Rattle.hcl_layout.specs.Gaps.Lines.{Line}
-
--- `(`, `[`, `{`, `${`, `%{`
-abbrev pub is_opening : Kind → Bool
-is_opening OpenParen = true
-is_opening OpenBracket = true
-is_opening OpenBrace = true
-is_opening InterpOpen = true
-is_opening DirectiveOpen = true
-is_opening kind = false
-
--- `)`, `]`, `}`, and the `}` that closes a template sequence
-abbrev pub is_closing : Kind → Bool
-is_closing CloseParen = true
-is_closing CloseBracket = true
-is_closing CloseBrace = true
-is_closing SeqClose = true
-is_closing kind = false
 
 -- how many of the tokens open
 abbrev pub openings : List Pair → ℕ

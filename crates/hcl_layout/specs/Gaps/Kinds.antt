@@ -11,14 +11,6 @@ abbrev pub among : List Kind → Kind → Bool
 among [] kind = false
 among (one ∷ others) kind = sameb the_type one kind || among others kind
 
-abbrev pub is_line_end : Kind → Bool
-is_line_end LineEnd = true
-is_line_end kind = false
-
-abbrev pub is_line_comment : Kind → Bool
-is_line_comment LineComment = true
-is_line_comment kind = false
-
 abbrev pub is_inline_comment : Kind → Bool
 is_inline_comment InlineComment = true
 is_inline_comment kind = false
@@ -45,9 +37,9 @@ is_equal kind = false
 
 -- comments, line ends and the byte order mark, which the spacing skips when it looks for the token
 -- before another
-abbrev pub is_skipped : Kind → Bool
-is_skipped LineComment = true
-is_skipped InlineComment = true
-is_skipped LineEnd = true
-is_skipped Mark = true
-is_skipped kind = false
+abbrev pub is_skipped_by_spacing : Kind → Bool
+is_skipped_by_spacing LineComment = true
+is_skipped_by_spacing InlineComment = true
+is_skipped_by_spacing LineEnd = true
+is_skipped_by_spacing Mark = true
+is_skipped_by_spacing kind = false

@@ -8,7 +8,7 @@ use Rattle.hcl_token.specs.TokenizedText.{TokenizedText}
 use Rattle.hcl_token.specs.Place.{is_mark}
 use Rattle.edit_record.specs.Lists.Pieces.{EditList, Piece, changed_entries}
 use Rattle.edit_record.specs.Lists.Pieces.Piece.{Kept, Changed}
-use Rattle.hcl_layout.specs.Gaps.Kinds.{is_line_end}
+use Rattle.hcl_token.specs.Kinds.{is_line_end}
 use Rattle.hcl_layout.specs.Gaps.Lines.{Line, lines_of, pairs_in}
 use Rattle.hcl_layout.specs.Gaps.Indent.{level}
 use Rattle.hcl_layout.specs.Gaps.Space.{prev_after, prev_after_all, spaces, gap_between}

@@ -6,15 +6,17 @@ use Rattle.std.specs.Prelude.{ℕ, Bool, true, false, not, ◌&&◌, ◌||◌, L
 use Rattle.std.specs.Str.{bytes_eq}
 use Rattle.hcl_token.specs.declared.kind.Kind.{Kind}
 use Rattle.hcl_token.specs.declared.kind.Kind.TheVariants.{Identifier, Number, DotIndex, Minus, Star, Bang, DoubleColon, OpenBrace, CloseBrace, OpenBracket, CloseBracket, OpenParen, CloseParen, Comma, Dot, Ellipsis, SeqClose, QuoteClose, InterpOpen, DirectiveOpen}
+use Rattle.hcl_token.specs.Bytes.{space}
 use Rattle.hcl_token.specs.Tokens.{Pair}
 use Rattle.hcl_token.specs.Joins.{joins_with}
+use Rattle.hcl_token.specs.Kinds.{is_line_end, is_line_comment}
 use Rattle.hcl_scan.specs.Follows.{has_no_gap_before}
-use Rattle.hcl_layout.specs.Gaps.Kinds.{among, is_line_end, is_line_comment, is_identifier, ends_operand, is_skipped}
+use Rattle.hcl_layout.specs.Gaps.Kinds.{among, is_identifier, ends_operand, is_skipped_by_spacing}
 
 -- The kinds of the tokens before a place, the nearest first, without comments, line ends and the
 -- byte order mark: after one more token,
 abbrev pub prev_after : Pair → List Kind → List Kind
-prev_after p before = if is_skipped p.kind then before else p.kind ∷ before
+prev_after p before = if is_skipped_by_spacing p.kind then before else p.kind ∷ before
 
 -- and after several
 abbrev pub prev_after_all : List Pair → List Kind → List Kind
@@ -105,7 +107,7 @@ is_spaced before a b = apply_rows (rows before a b)
 
 -- a gap of n spaces
 abbrev pub spaces : ℕ → List ℕ
-spaces n = replicate n 32
+spaces n = replicate n space
 
 -- The gap between neighbors: none in literal text; else one space if the table says so, or if the
 -- two, with none between them, could be read as other tokens (`1 .0` is no number).

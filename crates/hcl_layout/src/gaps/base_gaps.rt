@@ -2,20 +2,20 @@
 
 ghost use Rattle.std.specs.Prelude.{◌≡◌, ◌+◌, ◌-◌, ◌*◌, ◌<◌, ◌≤◌, ◌++◌, [], true, false, drop, length, replicate, take, if◌then◌else◌, OnOk, IfOk};
 ghost use Rattle.hcl_scan.specs.Tokenization.{MAX_TEXT};
-ghost use Rattle.hcl_layout.specs.Gaps.Kinds.{is_line_end};
-ghost use Rattle.hcl_layout.specs.Gaps.Inner.CodeViews.{IsLine, AreLines, gaps_left};
+ghost use Rattle.hcl_token.specs.Kinds.{is_line_end};
+ghost use Rattle.hcl_layout.specs.Gaps.Inner.CodeViews.{IsLine, gaps_left};
+ghost use Rattle.hcl_layout.specs.Gaps.Inner.LineSpans.{AreSpans};
 ghost use Rattle.hcl_layout.specs.Gaps.Inner.Stages.{lines_from, KEEP_GAP, all_gap_lens};
 
+use crate::gaps::gap_numbers::KEEP_GAP;
 use crate::gaps::indent::{close_earlier, count_brackets, push_opened};
 use crate::gaps::kinds::is_line_end;
 use crate::gaps::line_pass::fill_line;
+use crate::gaps::line_spans::{add_span, span_of_line};
 use crate::gaps::lines::{LineSpan, line_at};
 use hcl_scan::Scanned;
 use hcl_token::Kind;
 use std::alloc::{AllocError, Global};
-
-/// The number of a gap that stays as it is; any other is the number of spaces of a gap.
-pub(crate) const KEEP_GAP: u32 = u32::MAX;
 
 /// Sets the gaps of the tokens `from..to` of a frozen line. For the proof: `kept_gaps` made them so
 /// already, but no contract says what the list has after the lines that were passed.
@@ -31,6 +31,7 @@ fn fill_kept(gaps: &mut Vec<u32>, from: usize, to: usize)
     }
 }
 
+/// Returns the width of the indentation before the first token of a line: 0 before its line end.
 fn indent_len(kind: Kind, level: u32) -> u32
     requires { level ≤ MAX_TEXT }
     ensures { result ≡ (if is_line_end kind then 0 else 2 * level) }
@@ -127,7 +128,7 @@ fn fill_line_gaps(
 }
 
 /// Sets the gaps of a text, indented and spaced, whose first line begins at token `first`, and
-/// returns its lines.
+/// returns its lines, of which those in turn that can have no cell are one span.
 pub(crate) fn fill_base_gaps(
     alloc: Global,
     scanned: &Scanned<'_>,
@@ -137,27 +138,21 @@ pub(crate) fn fill_base_gaps(
     requires within_limit { length scanned.now.pairs ≤ MAX_TEXT }
     requires within { first ≤ length scanned.now.pairs }
     requires same { length gaps.old.items ≡ length scanned.now.pairs }
-    ensures lines { IfOk result (λ lines. AreLines scanned.now.pairs first false lines.items) }
+    ensures spans { IfOk result (λ spans. AreSpans scanned.now.pairs first false spans.items) }
     ensures gaps { OnOk result
         (gaps.new.items ≡ take first gaps.old.items
         ++ all_gap_lens [] [] (lines_from 0 (drop first scanned.now.pairs))) }
 {
-    let mut lines = Vec::new(alloc);
+    let mut spans = Vec::new(alloc);
     let mut surplus: Vec<u32> = Vec::new(alloc);
     let mut frozen = false;
     let mut at = first;
     while at < scanned.len() {
         let line = fill_line_gaps(scanned, gaps, &mut surplus, first, at, frozen)?;
-        lines.push(line)?;
+        let span = span_of_line(scanned, at, line);
+        add_span(&mut spans, span)?;
         frozen = line.next_frozen;
         at = line.past as usize;
     }
-    Ok(lines)
-}
-
-/// Returns a number for each token, by which all gaps stay.
-pub(crate) fn kept_gaps(alloc: Global, scanned: &Scanned<'_>) -> Result<Vec<u32>, AllocError>
-    ensures { IfOk result (λ gaps. gaps.items ≡ replicate (length scanned.now.pairs) KEEP_GAP) }
-{
-    vec![in alloc; KEEP_GAP; scanned.len()]
+    Ok(spans)
 }

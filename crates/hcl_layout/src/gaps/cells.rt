@@ -1,21 +1,23 @@
 //! Alignment: the cells of a run of lines in one column.
 
-ghost use Rattle.std.specs.Prelude.{take, true, false, [], ◌∷◌, Some, None, slice_get, ◌≡◌, ◌==◌, ◌&&◌, ◌+◌, ◌-◌, ◌*◌, ◌<◌, ◌≤◌, ◌^◌, ◌++◌, length, drop, slice_range, option_map, OnOk, IfOk, IfSome};
+ghost use Rattle.std.specs.Prelude.{take, false, [], ◌∷◌, Some, slice_get, ◌≡◌, ◌&&◌, ◌+◌, ◌<◌, ◌≤◌, ◌^◌, length, drop, slice_range, option_map, OnOk, IfSome};
 ghost use Rattle.hcl_scan.specs.Tokenization.{MAX_TEXT};
 ghost use Rattle.std.specs.List.{list_any};
 ghost use Rattle.hcl_token.specs.Place.{is_lf};
 ghost use Rattle.hcl_token.specs.Tokens.{Pair};
-ghost use Rattle.hcl_token.specs.TokenizedText.{clusters_of};
 ghost use Rattle.hcl_layout.specs.Gaps.Kinds.{is_inline_comment};
 ghost use Rattle.hcl_layout.specs.Gaps.Lines.{pairs_in};
-ghost use Rattle.hcl_layout.specs.Gaps.Cells.{index_after_first, is_balanced, width, width_before, aligned};
-ghost use Rattle.hcl_layout.specs.Gaps.Inner.Stages.{widths, greatest, lines_from, with_gaps, AreAtMost, set_cell_gaps, cell_gaps_from_width};
-ghost use Rattle.hcl_layout.specs.Gaps.Inner.CodeViews.{starts_cell, cell_of, is_valid_cell, is_cell, without_repeats, AreStarts, widths_of, tokens_in, width_in, token_in, can_have_cell, is_comment, LackCell, CanHaveCell, are_some, HasFlags, AreInside, AreLines, AreByteClusters};
+ghost use Rattle.hcl_layout.specs.Gaps.Cells.{index_after_first, width, width_before, aligned};
+ghost use Rattle.hcl_layout.specs.Gaps.Inner.Stages.{widths, greatest, lines_from, with_gaps, AreAtMost, MAX_WIDTH, set_cell_gaps, cell_gaps_from_width};
+ghost use Rattle.hcl_layout.specs.Gaps.Inner.CodeViews.{starts_cell, cell_of, is_valid_cell, widths_of, tokens_in, width_in, token_in, HasFlags, AreInside, AreByteClusters};
+ghost use Rattle.hcl_layout.specs.Gaps.Inner.LineSpans.{AreSpans};
 
-use crate::gaps::base_gaps::KEEP_GAP;
-use crate::gaps::indent::count_brackets;
+use crate::gaps::cell_starts::cell_starts;
+use crate::gaps::gap_numbers::current_gap_len;
 use crate::gaps::kinds::{is_equal, is_inline_comment, is_line_comment};
+use crate::gaps::line_flags::{is_balanced, is_broken_by_comment};
 use crate::gaps::lines::LineSpan;
+use crate::gaps::text_bytes::cluster_count;
 use hcl_scan::Scanned;
 use hcl_token::Kind;
 use std::alloc::{AllocError, Global};
@@ -36,6 +38,7 @@ pub(crate) struct CellStart {
     pub width: u32,
 }
 
+/// Whether there is a line feed among the bytes.
 fn has_lf(bytes: &[u8]) -> bool
     ensures { result ≡ list_any is_lf bytes.now }
 {
@@ -55,19 +58,14 @@ fn is_multiline_comment_at(scanned: &Scanned<'_>, i: usize) -> bool
     false
 }
 
-/// Returns whether a line has an inline comment with a line end; it has none if it has no comment.
-fn has_multiline_comment(scanned: &Scanned<'_>, at: usize, past: usize, has_comment: bool) -> bool
+/// Returns whether a line has an inline comment with a line end.
+pub(crate) fn has_multiline_comment(scanned: &Scanned<'_>, at: usize, past: usize) -> bool
     requires ordered { at ≤ past }
     requires within { past ≤ length scanned.now.pairs }
-    requires has_comment { has_comment ≡ false
-        → are_some is_comment (slice_range scanned.now.pairs at past) ≡ false }
     ensures { result ≡ list_any
         (λ (p : Pair). is_inline_comment p.kind && list_any is_lf p.spelling)
         (slice_range scanned.now.pairs at past) }
 {
-    if !has_comment {
-        return false;
-    }
     for i in at..past {
         if is_multiline_comment_at(scanned, i) {
             return true;
@@ -76,6 +74,7 @@ fn has_multiline_comment(scanned: &Scanned<'_>, at: usize, past: usize, has_comm
     false
 }
 
+/// Whether a token of this kind begins such a cell.
 fn starts_cell(cell: Cell, kind: Kind) -> bool
     ensures { result ≡ starts_cell cell kind }
 {
@@ -85,36 +84,20 @@ fn starts_cell(cell: Cell, kind: Kind) -> bool
     }
 }
 
-/// Returns whether a line can have a token that begins such a cell.
-fn can_have_cell(cell: Cell, line: LineSpan) -> bool
-    ensures { result ≡ can_have_cell cell line }
-{
-    match cell {
-        Cell::Assignment => line.has_equals,
-        Cell::ClosingComment => line.has_comment,
-    }
-}
-
-/// Returns the first token after token `at` that begins such a cell, if one of these can.
+/// Returns the first token after token `at` that begins such a cell.
 fn cell_token_after_first(
     scanned: &Scanned<'_>,
     cell: Cell,
     at: usize,
     past: usize,
-    can_have_cell: bool,
 ) -> Option<usize>
     requires ordered { at < past }
     requires within { past ≤ length scanned.now.pairs }
-    requires none { can_have_cell ≡ false
-        → are_some (starts_cell cell) (slice_range scanned.now.pairs at past) ≡ false }
     ensures found { result
         ≡ option_map (λ n. at + n)
         (index_after_first (λ (p : Pair). starts_cell cell p.kind) (slice_range scanned.now.pairs at past)) }
     ensures inside { IfSome result (λ i. (at < i) × (i < past)) }
 {
-    if !can_have_cell {
-        return None;
-    }
     for i in at + 1..past {
         if starts_cell(cell, scanned.kind(i)) {
             return Some(i);
@@ -123,48 +106,17 @@ fn cell_token_after_first(
     None
 }
 
-/// Returns whether what begins at token `i` of a line closes what it opens. What is before, mostly
-/// one token, is counted: if it is balanced, the rest is as the line is.
-fn is_balanced(
-    scanned: &Scanned<'_>,
-    at: usize,
-    i: usize,
-    past: usize,
-    is_line_balanced: bool,
-) -> bool
-    requires later { at ≤ i }
-    requires ordered { i ≤ past }
-    requires within { past ≤ length scanned.now.pairs }
-    requires within_limit { length scanned.now.pairs ≤ MAX_TEXT }
-    requires line { is_line_balanced ≡ is_balanced (slice_range scanned.now.pairs at past) }
-    ensures { result ≡ is_balanced (slice_range scanned.now.pairs i past) }
-{
-    let (opened_before, closed_before) = count_brackets(scanned, at, i);
-    if opened_before == closed_before {
-        return is_line_balanced;
-    }
-    let (opened, closed) = count_brackets(scanned, i, past);
-    opened == closed
-}
-
 /// Returns whether a cell that begins at token `i` of a line counts.
-fn is_valid_cell(
-    scanned: &Scanned<'_>,
-    cell: Cell,
-    at: usize,
-    i: usize,
-    past: usize,
-    is_line_balanced: bool,
-) -> bool
+fn is_valid_cell(scanned: &Scanned<'_>, cell: Cell, at: usize, i: usize, line: LineSpan) -> bool
     requires later { at ≤ i }
-    requires ordered { i ≤ past }
-    requires within { past ≤ length scanned.now.pairs }
+    requires ordered { i ≤ line.past }
+    requires within { line.past ≤ length scanned.now.pairs }
     requires within_limit { length scanned.now.pairs ≤ MAX_TEXT }
-    requires line { is_line_balanced ≡ is_balanced (slice_range scanned.now.pairs at past) }
-    ensures { result ≡ is_valid_cell cell (slice_range scanned.now.pairs i past) }
+    requires flags { HasFlags scanned.now.pairs at line }
+    ensures { result ≡ is_valid_cell cell (slice_range scanned.now.pairs i line.past) }
 {
     match cell {
-        Cell::Assignment => is_balanced(scanned, at, i, past, is_line_balanced),
+        Cell::Assignment => is_balanced(scanned, at, i, line),
         Cell::ClosingComment => true,
     }
 }
@@ -192,42 +144,14 @@ fn cell_of(
     if frozen {
         return None;
     }
-    let past = line.past as usize;
-    let i = cell_token_after_first(scanned, cell, at, past, can_have_cell(cell, line))?;
-    if has_multiline_comment(scanned, at, past, line.has_comment) {
+    let i = cell_token_after_first(scanned, cell, at, line.past as usize)?;
+    if is_broken_by_comment(scanned, at, line) {
         return None;
     }
-    if is_valid_cell(scanned, cell, at, i, past, line.is_balanced) {
+    if is_valid_cell(scanned, cell, at, i, line) {
         return Some(i);
     }
     None
-}
-
-/// Returns the number of bytes of the gap before token `i`, as it is set up to here.
-fn current_gap_len(scanned: &Scanned<'_>, gaps: &[u32], i: usize) -> usize
-    requires same { length gaps.now ≡ length scanned.now.pairs }
-    requires within { i < length scanned.now.pairs }
-    ensures { Some result
-        ≡ option_map (λ (p : Pair). length p.gap)
-        (slice_get (with_gaps gaps.now scanned.now.pairs) i) }
-{
-    let len = gaps[i];
-    if len == KEEP_GAP {
-        return scanned.gap(i).len();
-    }
-    len as usize
-}
-
-/// Returns how many clusters token `i` has; the token is not read if each byte is known to be one.
-fn cluster_count(scanned: &Scanned<'_>, i: usize, byte_clusters: bool) -> usize
-    requires within { i < length scanned.now.pairs }
-    requires bytes { AreByteClusters byte_clusters scanned.now.pairs }
-    ensures { Some result ≡ clusters_of scanned.now.pairs i }
-{
-    if byte_clusters {
-        return scanned.spelling(i).len();
-    }
-    scanned.clusters(i)
 }
 
 /// Returns the width of the tokens `at..to`.
@@ -247,7 +171,7 @@ fn width(scanned: &Scanned<'_>, gaps: &[u32], at: usize, to: usize, byte_cluster
 }
 
 /// Returns the cell of a line, if it has one.
-fn cell_start(
+pub(crate) fn cell_start(
     scanned: &Scanned<'_>,
     cell: Cell,
     gaps: &[u32],
@@ -262,7 +186,7 @@ fn cell_start(
     requires within { line.past ≤ length scanned.now.pairs }
     requires flags { frozen ≡ false → HasFlags scanned.now.pairs at line }
     requires within_limit { length scanned.now.pairs ≤ MAX_TEXT }
-    requires bounded { AreAtMost 1073741824
+    requires bounded { AreAtMost MAX_WIDTH
         (width_before (cell_of cell)
         (record {
           frozen = frozen;
@@ -291,89 +215,6 @@ fn cell_start(
     }
 }
 
-/// Returns the first line from number `from` on that can have such a cell, or the number of lines.
-fn next_with_cell(cell: Cell, lines: &[LineSpan], from: usize) -> usize
-    requires { from ≤ length lines.now }
-    ensures later { from ≤ result }
-    ensures within { result ≤ length lines.now }
-    ensures lacking { LackCell cell lines.now from result }
-    ensures found { result < length lines.now → CanHaveCell cell lines.now result }
-{
-    for i in from..lines.len() {
-        if can_have_cell(cell, lines[i]) {
-            return i;
-        }
-    }
-    lines.len()
-}
-
-fn is_cell(start: Option<CellStart>) -> bool
-    ensures { result ≡ is_cell start }
-{
-    start.is_some()
-}
-
-/// Pushes the cell of a line, if it has one or the line before it had one.
-fn push_start(
-    starts: &mut Vec<Option<CellStart>>,
-    in_run: bool,
-    start: Option<CellStart>,
-) -> Result<(), AllocError>
-    ensures { OnOk result
-        (starts.new.items ≡ starts.old.items ++ without_repeats in_run (start ∷ [])) }
-{
-    if in_run | is_cell(start) {
-        starts.push(start)?;
-    }
-    Ok(())
-}
-
-/// Returns the cells of these lines, the first of which begins at token `first`. Of several lines
-/// without a cell there is one, or none before the first cell.
-fn cell_starts(
-    alloc: Global,
-    scanned: &Scanned<'_>,
-    cell: Cell,
-    gaps: &[u32],
-    lines: &[LineSpan],
-    first: usize,
-    byte_clusters: bool,
-) -> Result<Vec<Option<CellStart>>, AllocError>
-    requires same { length gaps.now ≡ length scanned.now.pairs }
-    requires bytes { AreByteClusters byte_clusters scanned.now.pairs }
-    requires within_limit { length scanned.now.pairs ≤ MAX_TEXT }
-    requires within { first ≤ length scanned.now.pairs }
-    requires lines { AreLines scanned.now.pairs first false lines.now }
-    requires bounded { AreAtMost 1073741824
-        (widths (cell_of cell) (lines_from 0 (drop first (with_gaps gaps.now scanned.now.pairs)))) }
-    ensures { IfOk result (λ starts.
-        AreStarts cell gaps.now scanned.now.pairs first starts.items) }
-{
-    let mut starts = Vec::with_capacity(alloc, lines.len())?;
-    let mut in_run = false;
-    let mut at = first;
-    let mut frozen = false;
-    let mut i = 0;
-    while i < lines.len() {
-        // often several lines in turn have no such cell
-        let next = next_with_cell(cell, lines, i);
-        if i < next {
-            push_start(&mut starts, in_run, None)?;
-            in_run = false;
-            i = next;
-        } else {
-            let start = cell_start(scanned, cell, gaps, at, frozen, lines[i], byte_clusters);
-            push_start(&mut starts, in_run, start)?;
-            in_run = is_cell(start);
-            i += 1;
-        }
-        let before = lines[i - 1];
-        at = before.past as usize;
-        frozen = before.next_frozen;
-    }
-    Ok(starts)
-}
-
 /// Returns the greatest width up to the first line without a cell.
 fn greatest(starts: &[Option<CellStart>]) -> u32
     ensures { result ≡ greatest (widths_of starts.now) }
@@ -388,6 +229,7 @@ fn greatest(starts: &[Option<CellStart>]) -> u32
     greatest
 }
 
+/// Returns where the cell of line `i` begins, if it has one.
 fn start_at(starts: &[Option<CellStart>], i: usize) -> Option<CellStart>
     requires { i < length starts.now }
     ensures { Some result ≡ slice_get starts.now i }
@@ -395,6 +237,7 @@ fn start_at(starts: &[Option<CellStart>], i: usize) -> Option<CellStart>
     starts[i]
 }
 
+/// Returns where the cells of the lines from line `i` on begin.
 fn starts_from(starts: &[Option<CellStart>], i: usize) -> &[Option<CellStart>]
     requires { i ≤ length starts.now }
     ensures { result.now ≡ drop i starts.now }
@@ -407,13 +250,13 @@ fn starts_from(starts: &[Option<CellStart>], i: usize) -> &[Option<CellStart>]
 fn set_cell_gap(gaps: &mut Vec<u32>, starts: &[Option<CellStart>], i: usize, run_width: u32) -> u32
     requires within { i < length starts.now }
     requires inside { AreInside (length gaps.old.items) starts.now }
-    requires bounded { AreAtMost 1073741824 (widths_of starts.now) }
-    requires run_width { run_width ≤ 1073741824 }
+    requires bounded { AreAtMost MAX_WIDTH (widths_of starts.now) }
+    requires run_width { run_width ≤ MAX_WIDTH }
     ensures filled { set_cell_gaps gaps.new.items (tokens_in (drop (i + 1) starts.now))
         (cell_gaps_from_width result (widths_of (drop (i + 1) starts.now)))
         ≡ set_cell_gaps gaps.old.items (tokens_in (drop i starts.now))
         (cell_gaps_from_width run_width (widths_of (drop i starts.now))) }
-    ensures run_width { result ≤ 1073741824 }
+    ensures run_width { result ≤ MAX_WIDTH }
     ensures same { length gaps.new.items ≡ length gaps.old.items }
 {
     match start_at(starts, i) {
@@ -428,7 +271,7 @@ fn set_cell_gap(gaps: &mut Vec<u32>, starts: &[Option<CellStart>], i: usize, run
 /// Sets the gaps before cells, from the greatest width of each run.
 fn set_cell_gaps(gaps: &mut Vec<u32>, starts: &[Option<CellStart>])
     requires inside { AreInside (length gaps.old.items) starts.now }
-    requires bounded { AreAtMost 1073741824 (widths_of starts.now) }
+    requires bounded { AreAtMost MAX_WIDTH (widths_of starts.now) }
     ensures filled { gaps.new.items
         ≡ set_cell_gaps gaps.old.items (tokens_in starts.now)
         (cell_gaps_from_width (greatest (widths_of starts.now)) (widths_of starts.now)) }
@@ -445,7 +288,7 @@ pub(crate) fn align(
     alloc: Global,
     scanned: &Scanned<'_>,
     cell: Cell,
-    lines: &[LineSpan],
+    spans: &[LineSpan],
     gaps: &mut Vec<u32>,
     first: usize,
     byte_clusters: bool,
@@ -454,8 +297,8 @@ pub(crate) fn align(
     requires bytes { AreByteClusters byte_clusters scanned.now.pairs }
     requires within_limit { length scanned.now.pairs ≤ MAX_TEXT }
     requires within { first ≤ length scanned.now.pairs }
-    requires lines { AreLines scanned.now.pairs first false lines.now }
-    requires bounded { AreAtMost 1073741824
+    requires spans { AreSpans scanned.now.pairs first false spans.now }
+    requires bounded { AreAtMost MAX_WIDTH
         (widths (cell_of cell)
         (lines_from 0 (drop first (with_gaps gaps.old.items scanned.now.pairs)))) }
     ensures aligned { OnOk result
@@ -467,7 +310,7 @@ pub(crate) fn align(
         ≡ take first (with_gaps gaps.old.items scanned.now.pairs)) }
     ensures same { OnOk result (length gaps.new.items ≡ length scanned.now.pairs) }
 {
-    let starts = cell_starts(alloc, scanned, cell, gaps, lines, first, byte_clusters)?;
+    let starts = cell_starts(alloc, scanned, cell, gaps, spans, first, byte_clusters)?;
     set_cell_gaps(gaps, &starts);
     Ok(())
 }

@@ -10,14 +10,14 @@ ghost use Rattle.hcl_layout.specs.Gaps.Layout.{gap_piece, pieces};
 ghost use Rattle.hcl_layout.specs.Gaps.Inner.CodeViews.{AreSpaces};
 ghost use Rattle.hcl_layout.specs.Gaps.Inner.Stages.{unchanged, resolved_gap, with_gaps, have_lengths};
 
-use crate::gaps::base_gaps::KEEP_GAP;
 use crate::gaps::changes::{first_change, next_change};
+use crate::gaps::gap_numbers::KEEP_GAP;
 use crate::gaps::text_bytes::are_spaces;
 use edit_record::lists::Edit;
 use hcl_scan::Scanned;
 use std::alloc::{AllocError, Global};
 
-/// Returns whether a gap is that many spaces. Its bytes are not read if it is known to be spaces.
+/// Returns whether a gap is `len` spaces. Its bytes are not read if it is known to be spaces.
 fn is_spaces(gap: &[u8], len: u32, all_spaces: bool) -> bool
     requires { all_spaces ≡ true → gap.now ≡ spaces (length gap.now) }
     ensures { result ≡ bytes_eq gap.now (spaces len) }
@@ -48,6 +48,7 @@ pub(crate) fn is_unchanged(gap: &[u8], new: u32, all_spaces: bool) -> bool
     new == KEEP_GAP
 }
 
+/// Returns `len` spaces.
 fn spaces(alloc: Global, len: u32) -> Result<Vec<u8>, AllocError>
     ensures { IfOk result (λ gap. gap.items ≡ spaces len) }
 {

@@ -3,6 +3,7 @@
 ghost use Rattle.std.specs.Prelude.{◌≡◌};
 ghost use Rattle.hcl_layout.specs.declared.gaps.fault.LayoutFault.TheVariants.{Memory};
 
+use hcl_scan::MAX_TEXT;
 use std::alloc::{AllocError, AllocFailed};
 use thiserror::Error;
 
@@ -10,7 +11,7 @@ use thiserror::Error;
 #[derive(Clone, Copy, Debug, PartialEq, Eq, Error)]
 pub enum LayoutFault {
     /// The layout has more than `MAX_TEXT` bytes.
-    #[error("the text has more than 16777216 bytes")]
+    #[error("the text has more than {} bytes", MAX_TEXT)]
     TooLong,
     /// An allocation failed.
     #[error("out of memory")]

@@ -79,7 +79,7 @@ pub fn layout(alloc: Global, scanned: &Scanned<'_>) -> Result<Edits, LayoutFault
 {
     let text = scanned.text();
     let edits = edits_of(alloc, scanned)?;
-    edit_record::lists::laws::pieces_make_valid_edits();
+    edit_record::laws::pieces_make_valid_edits();
     match Edits::make(text.len(), edits) {
         Ok(edits) => Ok(edits),
         Err(_) => unreachable!(),
@@ -99,6 +99,7 @@ pub fn formatted_text(alloc: Global, scanned: &Scanned<'_>) -> Result<Vec<u8>, L
     ensures err { IfErr result
         (IsMemoryOrTooLong (MAX_TEXT < length (layout_text scanned.now))) }
 {
+    // for the proof: the clauses of `text` say that these are the tokens of the text
     let _text = scanned.text();
     let is_plain = is_plain_text(scanned);
     let gaps = layout_gaps(alloc, scanned, is_plain)?;
@@ -117,6 +118,7 @@ pub fn is_laid_out(alloc: Global, scanned: &Scanned<'_>) -> Result<bool, LayoutF
     ensures err { IfErr result
         (IsMemoryOrTooLong (MAX_TEXT < length (layout_text scanned.now))) }
 {
+    // for the proof: the clauses of `text` say that these are the tokens of the text
     let _text = scanned.text();
     let is_plain = is_plain_text(scanned);
     let gaps = layout_gaps(alloc, scanned, is_plain)?;

@@ -7,8 +7,9 @@ ghost use Rattle.hcl_layout.specs.Gaps.Layout.{layout_pairs};
 ghost use Rattle.hcl_layout.specs.Gaps.Inner.CodeViews.{AreByteClusters};
 ghost use Rattle.hcl_layout.specs.Gaps.Inner.Stages.{with_gaps, mark_count};
 
-use crate::gaps::base_gaps::{fill_base_gaps, kept_gaps};
+use crate::gaps::base_gaps::fill_base_gaps;
 use crate::gaps::cells::{Cell, align};
+use crate::gaps::gap_numbers::kept_gaps;
 use hcl_scan::Scanned;
 use hcl_token::Kind;
 use std::alloc::{AllocError, Global};
@@ -42,12 +43,12 @@ pub(crate) fn layout_gaps(
 {
     let first = mark_count(scanned);
     let mut gaps = kept_gaps(alloc, scanned)?;
-    let lines = fill_base_gaps(alloc, scanned, &mut gaps, first)?;
+    let spans = fill_base_gaps(alloc, scanned, &mut gaps, first)?;
     align(
         alloc,
         scanned,
         Cell::Assignment,
-        &lines,
+        &spans,
         &mut gaps,
         first,
         is_plain,
@@ -56,7 +57,7 @@ pub(crate) fn layout_gaps(
         alloc,
         scanned,
         Cell::ClosingComment,
-        &lines,
+        &spans,
         &mut gaps,
         first,
         is_plain,

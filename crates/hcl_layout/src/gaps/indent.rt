@@ -2,21 +2,23 @@
 
 ghost use Rattle.std.specs.Prelude.{◌≡◌, ◌∷◌, ◌+◌, ◌-◌, ◌*◌, nat_lt, if◌then◌else◌, OnOk, ◌<◌, ◌≤◌, length, reverse, slice_range};
 ghost use Rattle.hcl_scan.specs.Tokenization.{MAX_TEXT};
-ghost use Rattle.hcl_layout.specs.Gaps.Indent.{is_opening, is_closing, openings, closings};
+ghost use Rattle.hcl_token.specs.Kinds.{is_opening, is_closing};
+ghost use Rattle.hcl_layout.specs.Gaps.Indent.{openings, closings};
 ghost use Rattle.hcl_layout.specs.Gaps.Inner.Stages.{close_brackets, close_earlier};
 
 use hcl_scan::Scanned;
 use hcl_token::Kind;
 use std::alloc::AllocError;
 
-/// A closing bracket or template sequence counts so much, an opening one 1.
+/// What a closing bracket or template sequence adds to the brackets of a line; an opening one adds
+/// 1.
 pub(crate) const CLOSING: u64 = 4_294_967_296;
 
 /// Returns what a token counts among brackets and template sequences: those that open, and
 /// `CLOSING` times those that close, are one number.
 pub(crate) fn bracket_number(kind: Kind) -> u64
     ensures { result ≡ (if is_opening kind then 1 else 0)
-        + 4294967296 * (if is_closing kind then 1 else 0) }
+        + CLOSING * (if is_closing kind then 1 else 0) }
 {
     match kind {
         Kind::OpenParen

@@ -6,12 +6,13 @@ ghost use Rattle.hcl_token.specs.Tokens.{whole_text};
 ghost use Rattle.hcl_layout.specs.declared.gaps.fault.LayoutFault.TheVariants.{TooLong};
 ghost use Rattle.hcl_layout.specs.Gaps.Inner.Stages.{resolved_len, space_count, with_gaps};
 
-use crate::gaps::base_gaps::KEEP_GAP;
 use crate::gaps::fault::LayoutFault;
+use crate::gaps::gap_numbers::KEEP_GAP;
 use hcl_scan::{MAX_TEXT, Scanned};
 use hcl_token::Item;
 
-/// Returns the number of bytes of a token with the gap before it that a number means.
+/// Returns the number of bytes of a token with the gap before it that a number means: at most twice
+/// 2^32, since each of the two has 32 bits.
 fn token_len(item: Item, new: u32) -> usize
     requires gap { item.gap_at ≤ item.start }
     requires token { item.start ≤ item.stop }

@@ -7,7 +7,8 @@ ghost use Rattle.hcl_layout.specs.Gaps.Indent.{openings, closings};
 ghost use Rattle.hcl_layout.specs.Gaps.Kinds.{is_equal};
 ghost use Rattle.hcl_layout.specs.Gaps.Lines.{ends_line};
 ghost use Rattle.hcl_layout.specs.Gaps.Space.{prev_after_all};
-ghost use Rattle.hcl_layout.specs.Gaps.Inner.CodeViews.{is_comment, IsLine};
+ghost use Rattle.hcl_token.specs.Kinds.{is_comment};
+ghost use Rattle.hcl_layout.specs.Gaps.Inner.CodeViews.{IsLine};
 ghost use Rattle.hcl_layout.specs.Gaps.Inner.Stages.{spaces_from};
 
 use crate::gaps::indent::{CLOSING, bracket_number};
@@ -17,10 +18,10 @@ use crate::gaps::spacing_flags::gap_len;
 use hcl_scan::Scanned;
 use hcl_token::Kind;
 
-/// A `=` counts so much, a comment 1.
+/// What a `=` adds to the marks of a line; a comment adds 1.
 const EQUALS: u64 = 1_073_741_824;
 
-/// What ends a line counts so much, which is more than all comments and `=` of a text.
+/// What the end of a line adds to its marks: more than all comments and `=` of a text.
 const LINE_END: u64 = 9_223_372_036_854_775_808;
 
 /// A line, and its brackets.
@@ -34,8 +35,8 @@ pub(crate) struct PassedLine {
 /// Returns what a token counts among the marks of a line: comments, `EQUALS` times the `=`, and
 /// `LINE_END` for its end are one number.
 fn mark_number(kind: Kind) -> u64
-    ensures { result ≡ (if is_comment kind then 1 else 0) + 1073741824 * (if is_equal kind then 1 else 0)
-        + 9223372036854775808 * (if ends_line 0 kind then 1 else 0) }
+    ensures { result ≡ (if is_comment kind then 1 else 0) + EQUALS * (if is_equal kind then 1 else 0)
+        + LINE_END * (if ends_line 0 kind then 1 else 0) }
 {
     match kind {
         Kind::LineComment | Kind::InlineComment => 1,
@@ -45,16 +46,16 @@ fn mark_number(kind: Kind) -> u64
     }
 }
 
-/// Returns the line before token `past` whose tokens count so much.
+/// Returns the line that ends before token `past`, by what its tokens add up to.
 fn passed_line(brackets: u64, marks: u64, past: usize, next_frozen: bool) -> PassedLine
     requires { past ≤ MAX_TEXT }
     ensures past { result.line.past ≡ past }
     ensures next_frozen { result.line.next_frozen ≡ next_frozen }
-    ensures is_balanced { result.line.is_balanced ≡ (brackets % 4294967296 == brackets / 4294967296) }
-    ensures has_comment { result.line.has_comment ≡ not (marks % 1073741824 == 0) }
-    ensures has_equals { result.line.has_equals ≡ not (marks / 1073741824 % 1073741824 == 0) }
-    ensures opened { result.opened ≡ brackets % 4294967296 }
-    ensures closed { result.closed ≡ brackets / 4294967296 }
+    ensures is_balanced { result.line.is_balanced ≡ (brackets % CLOSING == brackets / CLOSING) }
+    ensures has_comment { result.line.has_comment ≡ not (marks % EQUALS == 0) }
+    ensures has_equals { result.line.has_equals ≡ not (marks / EQUALS % EQUALS == 0) }
+    ensures opened { result.opened ≡ brackets % CLOSING }
+    ensures closed { result.closed ≡ brackets / CLOSING }
 {
     PassedLine {
         line: LineSpan {

@@ -1,6 +1,6 @@
 //! The lines of a text.
 
-ghost use Rattle.std.specs.Prelude.{true, ◌≡◌, ◌+◌, ◌<◌, ◌≤◌, length};
+ghost use Rattle.std.specs.Prelude.{true, ◌≡◌, ◌<◌, ◌≤◌, length};
 ghost use Rattle.hcl_scan.specs.Tokenization.{MAX_TEXT};
 ghost use Rattle.hcl_layout.specs.Gaps.Lines.{heredocs_after, ends_line};
 ghost use Rattle.hcl_layout.specs.Gaps.Inner.CodeViews.{IsLine};
@@ -9,7 +9,7 @@ use crate::gaps::kinds::is_here_open;
 use hcl_scan::Scanned;
 use hcl_token::Kind;
 
-/// A line, which begins where the line before it ends.
+/// A line, or several in turn that have no cell. It begins where the one before it ends.
 #[derive(Clone, Copy)]
 pub(crate) struct LineSpan {
     /// The number after that of its last token.
@@ -24,8 +24,9 @@ pub(crate) struct LineSpan {
     pub has_equals: bool,
 }
 
+/// Returns how many heredocs are open after a token of this kind.
 fn heredocs_after(open_heredocs: usize, kind: Kind) -> usize
-    requires { open_heredocs < 16777217 }
+    requires { open_heredocs ≤ MAX_TEXT }
     ensures { result ≡ heredocs_after open_heredocs kind }
 {
     match kind {
@@ -35,6 +36,7 @@ fn heredocs_after(open_heredocs: usize, kind: Kind) -> usize
     }
 }
 
+/// Whether a token of this kind ends its line, with `open_heredocs` heredocs open before it.
 fn ends_line(open_heredocs: usize, kind: Kind) -> bool
     ensures { result ≡ ends_line open_heredocs kind }
 {

@@ -12,7 +12,7 @@ use crate::gaps::kinds::{
     can_be_indexed, closes_tight, ends_operand, is_bang, is_close_brace, is_comma,
     is_comma_or_ellipsis, is_dot, is_dot_or_index, is_double_colon, is_identifier, is_line_comment,
     is_line_end, is_minus, is_open_brace, is_open_bracket, is_open_paren, is_seq_close,
-    is_sequence_open, is_skipped, is_star, opens_tight,
+    is_sequence_open, is_skipped_by_spacing, is_star, opens_tight,
 };
 use hcl_scan::Scanned;
 use hcl_token::Kind;
@@ -24,13 +24,14 @@ pub(crate) struct PrevKinds {
     pub second: Option<Kind>,
 }
 
-/// There are none.
+/// The tokens before the first one: none.
 const NO_PREV: PrevKinds = PrevKinds {
     nearest: None,
     second: None,
 };
 
 impl PrevKinds {
+    /// Returns whether the nearest token is an identifier.
     fn is_after_identifier(self) -> bool
         ensures { result ≡ is_after_identifier (prev_kinds self) }
     {
@@ -50,6 +51,7 @@ impl PrevKinds {
         }
     }
 
+    /// Returns whether the nearest token ends an operand; the `*` of a splat does.
     fn is_after_operand(self) -> bool
         ensures { result ≡ is_after_operand (prev_kinds self) }
     {
@@ -60,6 +62,7 @@ impl PrevKinds {
     }
 }
 
+/// Returns whether a token of this kind is the `*` of a splat, after this second one.
 fn is_splat_star_after(second: Option<Kind>, kind: Kind) -> bool
     ensures { result ≡ is_splat_star (prev_kinds_of second None) kind }
 {
@@ -69,6 +72,7 @@ fn is_splat_star_after(second: Option<Kind>, kind: Kind) -> bool
     }
 }
 
+/// Returns whether a token of this kind never has a gap before it.
 pub(crate) fn has_no_gap_before(kind: Kind) -> bool
     ensures { result ≡ has_no_gap_before kind }
 {
@@ -84,6 +88,7 @@ pub(crate) fn has_no_gap_before(kind: Kind) -> bool
     )
 }
 
+/// Returns whether a token is the keyword `in`.
 pub(crate) fn is_in_keyword(kind: Kind, spelling: &[u8]) -> bool
     ensures { result ≡ is_in_keyword (token kind spelling.now) }
 {
@@ -159,7 +164,7 @@ fn end_of_nearest(scanned: &Scanned<'_>, first: usize, to: usize) -> usize
 {
     let mut past = to;
     while past > first {
-        if !is_skipped(scanned.kind(past - 1)) {
+        if !is_skipped_by_spacing(scanned.kind(past - 1)) {
             return past;
         }
         past -= 1;

@@ -15,28 +15,28 @@ use hcl_token::Kind;
 /// A flag that a token shares with the one after it: there is a space between the two.
 const SPACE: u16 = 1;
 
-/// There is a space after an opening brace.
+/// A flag of a space after an opening brace.
 const IN_BRACES: u16 = 2;
 
-/// There is a space before `(` and `[` that call and index nothing.
+/// A flag of a space before `(` and `[` that call and index nothing.
 const OPENS: u16 = 4;
 
-/// There is none before literal text.
+/// A flag of no space before literal text.
 const LITERAL: u16 = 8;
 
-/// There is none before a line end, `,` and the like.
+/// A flag of no space before a line end, `,` and the like.
 const CLOSE: u16 = 16;
 
-/// There is none after an opening that has none inside.
+/// A flag of no space after an opening that has none inside.
 const INSIDE: u16 = 32;
 
-/// There is none in `.name`.
+/// A flag of no space in `.name`.
 const NAME: u16 = 64;
 
-/// There is none in `name(`.
+/// A flag of no space in `name(`.
 const CALL: u16 = 128;
 
-/// There is none before a closing, or an index.
+/// A flag of no space before a closing, or an index.
 const END: u16 = 256;
 
 /// The flags by which there is a space; by the others there is none.

@@ -7,11 +7,12 @@ ghost use Rattle.hcl_layout.specs.Gaps.Space.{spaces};
 ghost use Rattle.hcl_layout.specs.Gaps.Inner.CodeViews.{AreSpaces};
 ghost use Rattle.hcl_layout.specs.Gaps.Inner.Stages.{resolved_gap, with_gaps};
 
-use crate::gaps::base_gaps::KEEP_GAP;
 use crate::gaps::changes::next_change;
+use crate::gaps::gap_numbers::KEEP_GAP;
 use hcl_scan::Scanned;
 use std::alloc::{AllocError, Global};
 
+/// Pushes `len` spaces.
 fn push_spaces(out: &mut Vec<u8>, len: u32) -> Result<(), AllocError>
     ensures { OnOk result (out.new.items ≡ out.old.items ++ spaces len) }
 {

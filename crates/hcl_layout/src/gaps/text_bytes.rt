@@ -1,7 +1,8 @@
 //! What all bytes of a text say of its gaps and tokens. For speed alone: the processor tests many
 //! bytes of a text at once, and those of a gap or a token one by one.
 
-ghost use Rattle.std.specs.Prelude.{◌≡◌, ◌&&◌, ◌||◌, true};
+ghost use Rattle.std.specs.Prelude.{◌≡◌, ◌&&◌, ◌||◌, ◌<◌, Some, length};
+ghost use Rattle.hcl_token.specs.TokenizedText.{clusters_of};
 ghost use Rattle.hcl_layout.specs.Gaps.Inner.CodeViews.{has_short_tokens, is_plain, is_without_tab, AreSpaces, AreByteClusters};
 
 use hcl_scan::Scanned;
@@ -18,6 +19,7 @@ fn is_plain(text: &[u8]) -> bool
     plain
 }
 
+/// Returns whether there is no tab among the bytes.
 fn is_without_tab(text: &[u8]) -> bool
     ensures { result ≡ is_without_tab text.now }
 {
@@ -86,4 +88,16 @@ pub(crate) fn are_spaces(scanned: &Scanned<'_>, all_spaces: bool) -> bool
         return false;
     }
     has_no_tab(scanned)
+}
+
+/// Returns how many clusters token `i` has; the token is not read if each byte is known to be one.
+pub(crate) fn cluster_count(scanned: &Scanned<'_>, i: usize, byte_clusters: bool) -> usize
+    requires within { i < length scanned.now.pairs }
+    requires bytes { AreByteClusters byte_clusters scanned.now.pairs }
+    ensures { Some result ≡ clusters_of scanned.now.pairs i }
+{
+    if byte_clusters {
+        return scanned.spelling(i).len();
+    }
+    scanned.clusters(i)
 }

@@ -53,7 +53,7 @@ impl Read for Hashes {
 /// Takes `capacity` bytes in all, at most `step` a write, and then nothing; one write and one flush
 /// fail, and the later ones work.
 #[derive(Drop)]
-pub struct Narrow {
+pub struct ShortWrites {
     pub written: Vec<u8>,
     pub capacity: usize,
     pub step: usize,
@@ -63,9 +63,9 @@ pub struct Narrow {
     pub flush_fails_at: u64,
 }
 
-impl Narrow {
+impl ShortWrites {
     pub fn new(written: Vec<u8>, capacity: usize, step: usize) -> Self {
-        Narrow {
+        ShortWrites {
             written,
             capacity,
             step,
@@ -77,7 +77,7 @@ impl Narrow {
     }
 }
 
-impl Write for Narrow {
+impl Write for ShortWrites {
     fn write(&mut self, buf: &[u8]) -> io::Result<usize> {
         self.writes = self.writes.wrapping_add(1);
         if self.writes == self.write_fails_at {

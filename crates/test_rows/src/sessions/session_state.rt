@@ -1,4 +1,4 @@
-//! The commands of rows, over a session that lies on the desk.
+//! The commands of rows, over a session that lies on the state.
 
 use crate::sessions::expected::{Outcome, Reading};
 use crate::sessions::failing_streams::{Bounded, Slow};
@@ -11,14 +11,14 @@ use tf_session::{
 
 /// What lies there.
 #[derive(Drop)]
-pub struct Desk {
+pub struct SessionState {
     pub row: Reading,
     session: Session,
 }
 
-impl Desk {
-    pub fn new(alloc: Global) -> Desk {
-        Desk {
+impl SessionState {
+    pub fn new(alloc: Global) -> SessionState {
+        SessionState {
             row: Reading {
                 alloc,
                 is_lost: false,
@@ -123,7 +123,7 @@ impl Desk {
         self.row.kept(journal, Vec::new(alloc))
     }
 
-    /// What lies on the desk.
+    /// What lies on the state.
     fn lies(&mut self, reply: String) -> Outcome {
         Outcome {
             reply,
@@ -202,7 +202,7 @@ impl Desk {
         }
     }
 
-    /// Where a run ends: its session lies on the desk no longer than to be seen.
+    /// Where a run ends: its session lies on the state no longer than to be seen.
     fn ended(&mut self, ended: (Session, Vec<Reply>)) -> Outcome {
         let alloc = self.row.alloc;
         let (end, replies) = ended;

@@ -7,17 +7,7 @@ use tf_lint::{Issue, Rule};
 
 /// How many texts a rule is to have an issue in that can be fixed; one without a fix, an issue.
 fn wanted(rule: Rule) -> u64 {
-    match rule {
-        Rule::CommentSyntax
-        | Rule::DeprecatedIndex
-        | Rule::DeprecatedInterpolation
-        | Rule::EmptyListEquality
-        | Rule::DeprecatedLookup => 5,
-        Rule::NamingConvention
-        | Rule::TypedVariables
-        | Rule::DocumentedVariables
-        | Rule::DocumentedOutputs => 1,
-    }
+    if rule.has_fix() { 5 } else { 1 }
 }
 
 /// The rule's name without what all begin with.
@@ -47,7 +37,7 @@ pub struct Tally {
 
 /// Whether the issue is one of the rule, and can be fixed if the rule has a fix.
 fn counts_for(issue: &Issue, rule: Rule) -> bool {
-    issue.rule == rule && (issue.fixable || wanted(rule) == 1)
+    issue.rule == rule && (issue.fixable || !rule.has_fix())
 }
 
 impl Tally {

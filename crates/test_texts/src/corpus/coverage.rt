@@ -135,7 +135,7 @@ const FORMS: [&str; 78] = [
 
 /// What has occurred up to there, in the order of `KINDS` and of `FORMS`.
 #[derive(Drop)]
-pub struct Seen {
+pub struct Coverage {
     kinds: [bool; 44],
     forms: [bool; 78],
     /// What occurred and is not in these lists.
@@ -156,9 +156,9 @@ fn note(seen: &mut [bool], at: Option<usize>) -> bool {
     }
 }
 
-impl Seen {
-    pub fn new() -> Seen {
-        Seen {
+impl Coverage {
+    pub fn new() -> Coverage {
+        Coverage {
             kinds: [false; 44],
             forms: [false; 78],
             unlisted: false,

@@ -1,6 +1,6 @@
 //! A text fixed until nothing can be fixed, then formatted, and all that reverted.
 
-use crate::corpus::coverage::Seen;
+use crate::corpus::coverage::Coverage;
 use crate::corpus::sessions::{is_one_list, reverts_to, step};
 use crate::corpus::take_command;
 use crate::report::Report;
@@ -11,7 +11,7 @@ use tf_session::{Command, RuleSet, Session};
 const FIXES: usize = 10;
 
 /// Does all that, and answers how many issues are left.
-pub fn run(text: &[u8], seen: &mut Seen, report: &mut Report) -> usize {
+pub fn run(text: &[u8], seen: &mut Coverage, report: &mut Report) -> usize {
     let mut session = start(text, report);
     let left = fix(&mut session, report);
     format(&mut session, report);

@@ -1,6 +1,6 @@
 //! Each command of a session undone out of order, in a copy of the session.
 
-use crate::corpus::coverage::Seen;
+use crate::corpus::coverage::Coverage;
 use crate::corpus::sessions::{is_one_list, reverts_to};
 use crate::report::Report;
 use crate::state::State;
@@ -8,7 +8,7 @@ use edit_record::{Edit, Record};
 use tf_session::{Command, Done, Fault, Session};
 
 /// Undoes each command out of order, and two that are not there.
-pub fn take_each(session: &Session, first: &[u8], seen: &mut Seen, report: &mut Report) {
+pub fn take_each(session: &Session, first: &[u8], seen: &mut Coverage, report: &mut Report) {
     let state = State::of(session, report);
     for number in 0..=session.journal().records().len().saturating_add(1) {
         take(session, &state, first, number, seen, report);
@@ -20,7 +20,7 @@ fn take(
     state: &State,
     first: &[u8],
     number: usize,
-    seen: &mut Seen,
+    seen: &mut Coverage,
     report: &mut Report,
 ) {
     let mut copy = state.session(report);

@@ -1,10 +1,10 @@
 //! The kinds of tokens, and the forms of some.
 
-use crate::corpus::coverage::Seen;
+use crate::corpus::coverage::Coverage;
 use hcl_scan::{Kind, Scanned};
 
 /// Notes the tokens of a text.
-pub fn see(scanned: &Scanned<'_>, seen: &mut Seen) {
+pub fn see(scanned: &Scanned<'_>, seen: &mut Coverage) {
     for i in 0..scanned.len() {
         see_token(scanned.kind(i), scanned.spelling(i), seen);
     }
@@ -18,7 +18,7 @@ pub fn see(scanned: &Scanned<'_>, seen: &mut Seen) {
     }
 }
 
-fn see_token(kind: Kind, spelling: &[u8], seen: &mut Seen) {
+fn see_token(kind: Kind, spelling: &[u8], seen: &mut Coverage) {
     seen.kind(kind);
     if let Some(form) = form_of(kind, spelling) {
         seen.form(form);
@@ -43,7 +43,7 @@ fn form_of(kind: Kind, spelling: &[u8]) -> Option<&'static str> {
 }
 
 /// Notes where letters that are not ASCII occur; the byte order mark is none.
-fn see_letters(kind: Kind, seen: &mut Seen) {
+fn see_letters(kind: Kind, seen: &mut Coverage) {
     match kind {
         Kind::Identifier => seen.form("a name with letters that are not ASCII"),
         Kind::LineComment | Kind::InlineComment => {

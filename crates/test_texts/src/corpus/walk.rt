@@ -1,6 +1,6 @@
 //! A walk over a tree, which notes each production that it meets.
 
-use crate::corpus::coverage::Seen;
+use crate::corpus::coverage::Coverage;
 use crate::report::Report;
 use hcl_scan::{Kind, Scanned};
 use hcl_tree::{
@@ -30,7 +30,7 @@ struct Left<'t> {
 }
 
 /// Notes the nodes of a text's tree.
-pub fn see(scanned: &Scanned<'_>, tree: &Tree, seen: &mut Seen, report: &mut Report) {
+pub fn see(scanned: &Scanned<'_>, tree: &Tree, seen: &mut Coverage, report: &mut Report) {
     let mut left = Left {
         nodes: Vec::new(report.alloc),
         is_whole: true,
@@ -46,7 +46,7 @@ pub fn see(scanned: &Scanned<'_>, tree: &Tree, seen: &mut Seen, report: &mut Rep
     report.hold(is_whole, "it has too many nodes");
 }
 
-fn see_node<'t>(scanned: &Scanned<'_>, node: Node<'t>, left: &mut Left<'t>, seen: &mut Seen) {
+fn see_node<'t>(scanned: &Scanned<'_>, node: Node<'t>, left: &mut Left<'t>, seen: &mut Coverage) {
     match node {
         Node::Member(Member::Attribute(attribute)) => left.attribute(attribute, seen),
         Node::Member(Member::Block(block)) => left.block(block, seen),
@@ -83,7 +83,7 @@ impl<'t> Left<'t> {
         }
     }
 
-    fn block(&mut self, block: &'t Block, seen: &mut Seen) {
+    fn block(&mut self, block: &'t Block, seen: &mut Coverage) {
         see_labels(&block.labels, seen);
         match &block.content {
             Content::Body(body) => {
@@ -98,13 +98,13 @@ impl<'t> Left<'t> {
         }
     }
 
-    fn attribute(&mut self, attribute: &'t Attribute, seen: &mut Seen) {
+    fn attribute(&mut self, attribute: &'t Attribute, seen: &mut Coverage) {
         seen.form("NAME = A");
         self.expr(attribute.value.get());
     }
 
-    fn form(&mut self, form: &'t ExprKind, seen: &mut Seen) {
-        match form {
+    fn form(&mut self, kind: &'t ExprKind, seen: &mut Coverage) {
+        match kind {
             ExprKind::Conditional(condition, met, unmet) => {
                 seen.form("A ? B : C");
                 self.expr(condition.get());
@@ -127,7 +127,7 @@ impl<'t> Left<'t> {
         }
     }
 
-    fn links(&mut self, links: &'t Items<Operation>, seen: &mut Seen) {
+    fn links(&mut self, links: &'t Items<Operation>, seen: &mut Coverage) {
         for link in links.as_slice() {
             seen.form(name_of(link.operator));
             self.expr(&link.operand);
@@ -140,7 +140,7 @@ impl<'t> Left<'t> {
         }
     }
 
-    fn tail(&mut self, tail: &'t Tail, seen: &mut Seen) {
+    fn tail(&mut self, tail: &'t Tail, seen: &mut Coverage) {
         match tail {
             Tail::Name(_) => seen.form("A.NAME"),
             Tail::LegacyIndex(_) => seen.form("A.0"),
@@ -153,9 +153,9 @@ impl<'t> Left<'t> {
         }
     }
 
-    fn shape(&mut self, shape: &'t Primary, seen: &mut Seen) {
-        seen.form(name_of_shape(shape));
-        match shape {
+    fn shape(&mut self, kind: &'t Primary, seen: &mut Coverage) {
+        seen.form(name_of_shape(kind));
+        match kind {
             Primary::Number | Primary::Identifier => {}
             Primary::Call(call) => self.call(call.get(), seen),
             Primary::Tuple(exprs) => self.exprs(exprs.get()),
@@ -173,13 +173,13 @@ impl<'t> Left<'t> {
         }
     }
 
-    fn call(&mut self, call: &'t Call, seen: &mut Seen) {
+    fn call(&mut self, call: &'t Call, seen: &mut Coverage) {
         seen.form_if(call.arguments.is_empty(), "a call without arguments");
         seen.form_if(call.expand_final, "a call with ...");
         self.exprs(&call.arguments);
     }
 
-    fn intro(&mut self, intro: &'t Intro, seen: &mut Seen) {
+    fn intro(&mut self, intro: &'t Intro, seen: &mut Coverage) {
         seen.form(match intro.second_name {
             Some(_) => "for NAME, NAME in A",
             None => "for NAME in A",
@@ -193,14 +193,14 @@ impl<'t> Left<'t> {
         }
     }
 
-    fn for_tuple(&mut self, each: &'t ForTuple, seen: &mut Seen) {
+    fn for_tuple(&mut self, each: &'t ForTuple, seen: &mut Coverage) {
         seen.form_if(each.filter.is_some(), "[for with if");
         self.intro(&each.intro, seen);
         self.expr(&each.value);
         self.filter(&each.filter);
     }
 
-    fn for_object(&mut self, each: &'t ForObject, seen: &mut Seen) {
+    fn for_object(&mut self, each: &'t ForObject, seen: &mut Coverage) {
         seen.form_if(each.filter.is_some(), "{for with if");
         seen.form_if(each.grouped, "{for with ...");
         self.intro(&each.intro, seen);
@@ -215,7 +215,7 @@ impl<'t> Left<'t> {
         }
     }
 
-    fn part(&mut self, part: &'t Part, seen: &mut Seen) {
+    fn part(&mut self, part: &'t Part, seen: &mut Coverage) {
         match part {
             Part::Literal(_) => seen.form("literal text"),
             Part::Interp(expr) => {
@@ -227,7 +227,7 @@ impl<'t> Left<'t> {
         }
     }
 
-    fn if_directive(&mut self, choice: &'t IfDirective, seen: &mut Seen) {
+    fn if_directive(&mut self, choice: &'t IfDirective, seen: &mut Coverage) {
         self.expr(&choice.condition);
         self.parts(&choice.then_branch);
         match &choice.else_branch {
@@ -239,18 +239,18 @@ impl<'t> Left<'t> {
         }
     }
 
-    fn for_directive(&mut self, each: &'t ForDirective, seen: &mut Seen) {
+    fn for_directive(&mut self, each: &'t ForDirective, seen: &mut Coverage) {
         seen.form("%{for");
         self.intro(&each.intro, seen);
         self.parts(&each.body);
     }
 }
 
-fn see_elem(scanned: &Scanned<'_>, elem: &Elem, seen: &mut Seen) {
-    let (between, first) = (elem.key.past as usize, elem.value.first as usize);
+fn see_elem(scanned: &Scanned<'_>, elem: &Elem, seen: &mut Coverage) {
+    let (between, first) = (elem.key.past, elem.value.first);
     let is_colon = is_there(scanned, Kind::Colon, between, first);
     seen.form(if is_colon { "KEY : A" } else { "KEY = A" });
-    let past = elem.value.past as usize;
+    let past = elem.value.past;
     let following = past.saturating_add(1);
     let is_comma = is_there(scanned, Kind::Comma, past, following);
     seen.form_if(is_comma, "elements after a comma");
@@ -259,16 +259,16 @@ fn see_elem(scanned: &Scanned<'_>, elem: &Elem, seen: &mut Seen) {
 }
 
 /// Whether a token of this kind is among these of the text.
-fn is_there(scanned: &Scanned<'_>, kind: Kind, first: usize, past: usize) -> bool {
+fn is_there(scanned: &Scanned<'_>, kind: Kind, first: u32, past: u32) -> bool {
     let mut is_there = false;
     for i in first..past {
-        is_there = is_there || (i < scanned.len() && scanned.kind(i) == kind);
+        is_there = is_there || (i < scanned.count() && scanned.kind(i as usize) == kind);
     }
     is_there
 }
 
-fn name_of_shape(shape: &Primary) -> &'static str {
-    match shape {
+fn name_of_shape(kind: &Primary) -> &'static str {
+    match kind {
         Primary::Number => "a number",
         Primary::Identifier => "a name",
         Primary::Call(call) if call.get().names.len() > 1 => "a call of a name with ::",
@@ -287,7 +287,7 @@ fn name_of_shape(shape: &Primary) -> &'static str {
     }
 }
 
-fn see_labels(labels: &Items<Label>, seen: &mut Seen) {
+fn see_labels(labels: &Items<Label>, seen: &mut Coverage) {
     for label in labels.as_slice() {
         seen.form(if label.name == Some(label.first) {
             "a label that is a name"

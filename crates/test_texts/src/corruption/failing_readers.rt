@@ -18,7 +18,7 @@ pub fn hold(state: &State, report: &mut Report) {
     for len in 0..=text.len() {
         let prefix = Drops::new(&text[..len], After::Failure);
         alone(prefix, RunFault::Read, report);
-        beside(
+        fail_both(
             prefix,
             Drops::new(journal, After::Nothing),
             RunFault::Read,
@@ -27,7 +27,7 @@ pub fn hold(state: &State, report: &mut Report) {
     }
     for len in 0..=journal.len() {
         let prefix = Drops::new(&journal[..len], After::Failure);
-        beside(
+        fail_both(
             Drops::new(text, After::Nothing),
             prefix,
             RunFault::Read,
@@ -40,7 +40,7 @@ pub fn hold(state: &State, report: &mut Report) {
 pub fn hold_endless(report: &mut Report) {
     let endless = Drops::new(b"", After::Hashes);
     alone(endless, RunFault::Endless, report);
-    beside(
+    fail_both(
         endless,
         Drops::new(b"", After::Nothing),
         RunFault::Endless,
@@ -112,7 +112,7 @@ fn steps(text: Drops<'_>, wanted: RunFault, report: &mut Report) {
 }
 
 /// The calls over a text and its journal.
-fn beside(text: Drops<'_>, journal: Drops<'_>, wanted: RunFault, report: &mut Report) {
+fn fail_both(text: Drops<'_>, journal: Drops<'_>, wanted: RunFault, report: &mut Report) {
     let (mut text_in, mut journal_in) = (text, journal);
     let loaded = load(
         report.alloc,

@@ -6,7 +6,9 @@ use crate::corruption::streams::{After, Drops, Full, LimitedWriter};
 use crate::report::Report;
 use crate::state::State;
 use std::alloc::Global;
-use tf_session::{Command, Part, RuleSet, RunFault, Told, lint_stream, put_journal, put_text};
+use tf_session::{
+    Command, RuleSet, RunFault, SessionPart, Told, lint_stream, put_journal, put_text,
+};
 
 /// A writer that fails in some way after a number of bytes.
 #[derive(Clone, Copy)]
@@ -37,7 +39,7 @@ impl FailingWriter {
     /// to it as this part.
     fn is_reported(
         self,
-        part: Part,
+        part: SessionPart,
         right: &[u8],
         fault: Option<RunFault>,
         received: &[u8],
@@ -56,8 +58,8 @@ impl FailingWriter {
 pub fn hold(text: &[u8], state: &State, report: &mut Report) {
     for way in [Full::Fails, Full::TakesNothing, Full::FailsToFlush] {
         lines(text, way, report);
-        puts(&state.journal, Part::Journal, way, report);
-        puts(&state.text, Part::Text, way, report);
+        puts(&state.journal, SessionPart::Journal, way, report);
+        puts(&state.text, SessionPart::Text, way, report);
         for command in [Command::Fmt, Command::Fix(RuleSet::all()), Command::Revert] {
             let right = outside(command, &state.text, &state.journal, report.alloc).written;
             journals(state, command, &right, way, report);
@@ -76,7 +78,7 @@ fn lines(text: &[u8], way: Full, report: &mut Report) {
         let failing = FailingWriter { limit, way };
         let mut out = failing.writer(report.alloc);
         let fault = lint(text, &mut out, report.alloc);
-        let is_reported = failing.is_reported(Part::Text, &right, fault, &out.received);
+        let is_reported = failing.is_reported(SessionPart::Text, &right, fault, &out.received);
         report.hold(is_reported, "lines are reported otherwise");
     }
 }
@@ -86,13 +88,13 @@ fn lint(text: &[u8], out: &mut LimitedWriter, alloc: Global) -> Option<RunFault>
     lint_stream(alloc, "f", &mut reader, &mut Told::new(out), RuleSet::all()).err()
 }
 
-fn puts(bytes: &[u8], part: Part, way: Full, report: &mut Report) {
+fn puts(bytes: &[u8], part: SessionPart, way: Full, report: &mut Report) {
     for limit in 0..=bytes.len() {
         let failing = FailingWriter { limit, way };
         let mut out = failing.writer(report.alloc);
         let answer = match part {
-            Part::Journal => put_journal(bytes, &mut Told::new(&mut out)),
-            Part::Text => put_text(bytes, &mut Told::new(&mut out)),
+            SessionPart::Journal => put_journal(bytes, &mut Told::new(&mut out)),
+            SessionPart::Text => put_text(bytes, &mut Told::new(&mut out)),
         };
         let is_reported = failing.is_reported(part, bytes, answer.err(), &out.received);
         report.hold(is_reported, "bytes are reported otherwise");
@@ -113,7 +115,7 @@ fn journals(state: &State, command: Command, right: &State, way: Full, report: &
         );
         let fault = outcome.answer.err();
         let is_reported = failing.is_reported(
-            Part::Journal,
+            SessionPart::Journal,
             &right.journal,
             fault,
             &outcome.written.journal,
@@ -141,7 +143,7 @@ fn texts(state: &State, command: Command, right: &State, way: Full, report: &mut
             report.alloc,
         );
         let is_reported = failing.is_reported(
-            Part::Text,
+            SessionPart::Text,
             &right.text,
             outcome.answer.err(),
             &outcome.written.text,

@@ -3,9 +3,9 @@ use Rattle.std.specs.Prelude.{◌≡◌, ℕ, ◌≤◌, ◌<◌, List, true, fa
 use Rattle.hcl_token.specs.TokenizedText.{kind_of}
 use Rattle.hcl_token.specs.Tokens.{Pair}
 use Rattle.hcl_token.specs.declared.kind.Kind.{Kind}
-use Rattle.tf_rules.specs.Rules.CommentSyntax.{is_line_comment}
+use Rattle.hcl_token.specs.Kinds.{is_line_comment, is_comment}
 use Rattle.tf_rules.specs.declared.rule.Rule.{Rule}
-use Rattle.tf_findings.specs.Comments.{is_comment, silences}
+use Rattle.tf_findings.specs.Comments.{silences}
 
 -- at a token of this kind the rule on comments finds nothing, and it silences nothing
 pub record IsNoComment (kind : Kind) : Type 0 where

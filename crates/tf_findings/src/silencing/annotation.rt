@@ -16,6 +16,7 @@ pub struct Annotation {
     pub rules: RuleSet,
 }
 
+/// Whether a comment that begins on line `comment` silences on this line: it and the next.
 fn covers_line(line: usize, comment: usize) -> bool
     ensures { result ≡ covers_line line comment }
 {

@@ -37,6 +37,7 @@ fn add_annotation(
     }
 }
 
+/// Adds an annotation at the end.
 fn push_annotation(
     annotations: &mut Vec<Annotation>,
     annotation: Annotation,

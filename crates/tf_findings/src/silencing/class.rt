@@ -16,6 +16,7 @@ pub enum ByteClass {
     NotHash,
 }
 
+/// Whether a byte is of the class.
 pub fn is_in_class(class: ByteClass, b: u8) -> bool
     ensures { result ≡ is_in_class class b }
 {

@@ -5,32 +5,36 @@ ghost use Rattle.std.specs.List.{list_all, list_any};
 ghost use Rattle.std.specs.Str.{bytes_eq};
 ghost use Rattle.tf_rules.specs.declared.rule.Rule.{Rule};
 ghost use Rattle.tf_rules.specs.RuleSets.{has_rule};
-ghost use Rattle.tf_rules.specs.Rules.CommentSyntax.{is_line_comment};
-ghost use Rattle.tf_findings.specs.Comments.{is_comment, skip_whitespace, is_all_whitespace, ends_in_whitespace, split_commas, leading_name, is_name, names_rule, list_names, body_silences, comment_body, silences};
+ghost use Rattle.hcl_token.specs.Kinds.{is_line_comment, is_comment};
+ghost use Rattle.tf_findings.specs.Comments.{skip_whitespace, is_all_whitespace, ends_in_whitespace, split_commas, leading_name, is_name, names_rule, list_names, body_silences, comment_body, silences};
 ghost use Rattle.tf_findings.specs.Inner.Annotations.{option_has};
 
 use crate::silencing::class::{ByteClass, class_prefix_len, is_in_class};
 use hcl_token::Kind;
 use tf_rules::RuleSet;
 
+/// Returns the text without the spaces and tabs that it begins with.
 fn skip_whitespace(t: &[u8]) -> &[u8]
     ensures { result.now ≡ skip_whitespace t.now }
 {
     &t[class_prefix_len(ByteClass::Whitespace, t)..]
 }
 
+/// Whether a part has spaces and tabs alone, or nothing.
 fn is_all_whitespace(t: &[u8]) -> bool
     ensures { result ≡ is_all_whitespace t.now }
 {
     class_prefix_len(ByteClass::Whitespace, t) == t.len()
 }
 
+/// Whether a part ends in a space or a tab.
 fn ends_in_whitespace(t: &[u8]) -> bool
     ensures { result ≡ ends_in_whitespace t.now }
 {
     !t.is_empty() && is_in_class(ByteClass::Whitespace, t[t.len() - 1])
 }
 
+/// Returns the name that a part begins with, after whitespace.
 fn leading_name(part: &[u8]) -> &[u8]
     ensures { result.now ≡ leading_name part.now }
 {
@@ -38,6 +42,7 @@ fn leading_name(part: &[u8]) -> &[u8]
     &trimmed[..class_prefix_len(ByteClass::NameByte, trimmed)]
 }
 
+/// Whether a part is one name, with or without whitespace around it.
 fn is_name(part: &[u8]) -> bool
     ensures { result ≡ is_name part.now }
 {
@@ -46,6 +51,7 @@ fn is_name(part: &[u8]) -> bool
     n > 0 && is_all_whitespace(&trimmed[n..])
 }
 
+/// Whether a name is `all`, which means every rule.
 fn is_all(name: &[u8]) -> bool
     ensures { result ≡ bytes_eq name.now (codes "all") }
 {
@@ -85,6 +91,7 @@ fn listed_rules(t: &[u8]) -> Option<RuleSet>
     }
 }
 
+/// Returns the first `n` bytes.
 fn first_bytes(t: &[u8], n: usize) -> &[u8]
     requires { n ≤ length t.now }
     ensures { result.now ≡ take n t.now }
@@ -92,6 +99,7 @@ fn first_bytes(t: &[u8], n: usize) -> &[u8]
     &t[..n]
 }
 
+/// Returns the text after the byte that follows the first `n`.
 fn after_separator(t: &[u8], n: usize) -> &[u8]
     requires { n < length t.now }
     ensures value { result.now ≡ drop (n + 1) t.now }
@@ -113,6 +121,7 @@ fn list_rules(t: &[u8]) -> Option<RuleSet>
     None
 }
 
+/// The rules that a comment silences, by its text without what opens and closes it.
 fn body_rules(t: &[u8]) -> Option<RuleSet>
     ensures { (rule : Rule) → option_has result rule ≡ body_silences rule t.now }
 {

@@ -62,6 +62,7 @@ fn annotations_at<'m>(
     annotations_from(rest, line)
 }
 
+/// Whether the first annotation silences what the rule finds on this line.
 fn first_covers(annotations: &[Annotation], rule: Rule, line: usize) -> bool
     ensures { result ≡ is_silenced_by rule line (take 1 annotations.now) }
 {
@@ -118,7 +119,7 @@ fn retain_unsilenced(
     let mut lines = scanned.lines();
     for i in 0..found.len() {
         let f = found[i];
-        let line = lines.of(f.first());
+        let line = lines.of(f.first() as usize);
         rest = annotations_at(annotations, rest, last_line, line);
         last_line = line;
         kept = retain_one(found, kept, f, is_silenced_by(rest, f.rule(), line));

@@ -1,9 +1,8 @@
--- For proofs: the place that a number represents.
-use Rattle.std.specs.Prelude.{ℕ, ◌==◌, ◌/◌, ◌%◌, if◌then◌else◌}
+-- For proofs: the place that a packed replacement stores.
+use Rattle.std.specs.Prelude.{ℕ, Bool, if◌then◌else◌}
 use Rattle.tf_fix.specs.declared.boundary.Boundary.{Boundary}
 use Rattle.tf_fix.specs.declared.boundary.Boundary.TheVariants.{Gap as BeforeGap, Token as BeforeToken}
 
--- the place before which there are n gaps and tokens
-abbrev pub boundary_at : ℕ → Boundary
-boundary_at place =
-    if place % 2 == 0 then BeforeGap (place / 2) else BeforeToken (place / 2)
+-- directly before the token of this number, or before its gap
+abbrev pub boundary_at : Bool → ℕ → Boundary
+boundary_at is_token i = if is_token then BeforeToken i else BeforeGap i

@@ -21,7 +21,35 @@ use Rattle.tf_rules.specs.SingleRule.{only}
 use Rattle.tf_rules.specs.RuleSets.{has_rule}
 use Rattle.tf_rules.specs.Table.{has_fix}
 use Rattle.tf_fix.specs.OneStep.{RulesFind, step_text_of, step_edits_of, step_count_of}
-use Rattle.tf_lint.specs.Steps.{IsRemainingCount, texts_differ, Steps, no_steps, StepThen, Rewrite}
+use Rattle.tf_lint.specs.Steps.{IsRemainingCount, texts_differ, Steps, no_steps, prepend_step, StepBreaks, Rewrite}
+
+-- ---- the steps, by recursion on the rules
+
+-- the step of a rule that found this, and then the others over its text; the first that can't be
+-- done ends all
+abbrev pub FoundThen : Rule → Parsed → List Finding → (Parsed → Result Steps FixFault → Type 0)
+    → Result Steps FixFault → Type 0
+FoundThen rule p found Others (Ok steps) =
+    (length (step_text_of p found) ≤ MAX_TEXT) × (next : Parsed) × (more : Steps)
+    × IsParseOf (step_text_of p found) next
+    × Others next (Ok more) × (steps ≡ prepend_step rule p found more)
+FoundThen rule p found Others (Err fault) =
+    StepBreaks rule p found fault
+    ⊎ ((length (step_text_of p found) ≤ MAX_TEXT) × (next : Parsed) × IsParseOf (step_text_of p found) next
+    × Others next (Err fault))
+
+-- the step of the rule, over what it alone finds, and then the others
+abbrev pub StepThen : Rule → Parsed → (Parsed → Result Steps FixFault → Type 0)
+    → Result Steps FixFault → Type 0
+StepThen rule p Others answer =
+    (found : List Finding) × RulesFind (only rule) p found × FoundThen rule p found Others answer
+
+-- what RunSteps says
+abbrev pub RunsInOrder : RuleSet → List Rule → Parsed → Result Steps FixFault → Type 0
+RunsInOrder rules [] p answer = answer ≡ Ok (no_steps p.scanned.text)
+RunsInOrder rules (rule ∷ others) p answer =
+    MatchBool (has_rule rules rule) (StepThen rule p (RunsInOrder rules others) answer)
+    (RunsInOrder rules others p answer)
 
 -- ---- one step
 
@@ -29,7 +57,7 @@ use Rattle.tf_lint.specs.Steps.{IsRemainingCount, texts_differ, Steps, no_steps,
 abbrev pub has_step : RuleSet → Rule → Bool
 has_step rules rule = has_fix rule && has_rule rules rule
 
--- the steps of a fix by these rules, as far as a list of all rules goes
+-- the same of a list that also has rules without a fix
 abbrev pub RunFixable : RuleSet → List Rule → Parsed → Result Steps FixFault → Type 0
 RunFixable rules [] p answer = answer ≡ Ok (no_steps p.scanned.text)
 RunFixable rules (rule ∷ others) p answer =

@@ -15,5 +15,5 @@ pub record IsFixState (order : List Rule) (count : ℕ) (p : Parsed) (turned : F
   pub reads : IsParseOf turned.text.items p
   pub previous : IsPreviousOf p turned.previous
   pub findings_are : RulesFind turned.previous.rules p turned.found.items
-  pub sound : AreValidFindings (length p.scanned.pairs) turned.found.items
+  pub valid : AreValidFindings (length p.scanned.pairs) turned.found.items
   pub passes : IsFirstChange turned.previous.rules order p count turned.found_change

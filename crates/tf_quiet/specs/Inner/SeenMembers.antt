@@ -11,7 +11,7 @@ use Rattle.hcl_scan.specs.Follows.{tokens_of}
 use Rattle.hcl_token.specs.TokenizedText.{kind_of}
 use Rattle.hcl_token.specs.Tokens.{Pair}
 use Rattle.hcl_token.specs.declared.kind.Kind.TheVariants as k
-use Rattle.tf_rules.specs.Attributes.{member_attributes, has_attribute}
+use Rattle.tf_rules.specs.Attributes.{member_attributes, has_attribute, has_empty_attribute}
 use Rattle.tf_rules.specs.Rules.Naming.{local_findings}
 
 -- a line without a member, from token n on: a line end, perhaps after a comment
@@ -36,9 +36,9 @@ is_right_attribute pairs n typed described =
 -- attributes among which there is one `type` and one `description`, if so it is said, and no empty
 -- description; if their names are of interest, each is in snake_case
 pub record AreSeen (pairs : List Pair) (names typed described : Bool) (all : List Attribute) : Type 0 where
-  pub has_type : typed ≡ true → has_attribute pairs (codes "type") false all ≡ true
-  pub has_description : described ≡ true → has_attribute pairs (codes "description") false all ≡ true
-  pub none_empty : has_attribute pairs (codes "description") true all ≡ false
+  pub has_type : typed ≡ true → has_attribute pairs (codes "type") all ≡ true
+  pub has_description : described ≡ true → has_attribute pairs (codes "description") all ≡ true
+  pub none_empty : has_empty_attribute pairs (codes "description") all ≡ false
   pub named : names ≡ true → flat_map (local_findings pairs) all ≡ []
 
 -- of the members of a body some are left from number `to` on, and what is seen of these, with what

@@ -6,7 +6,7 @@ use Rattle.hcl_grammar.specs.declared.tree.Operation.{Operation}
 use Rattle.hcl_token.specs.Tokens.{Pair}
 use Rattle.tf_rules.specs.declared.rule.Rule.TheVariants.{EmptyListEquality}
 use Rattle.tf_rules.specs.Rules.Equality.{is_equality, is_equal, is_empty_list, is_comparison_fixable, length_fix, operation_findings, chain_findings, equality_findings}
-use Rattle.tf_rules.specs.TreeLayers.{ExprKindLayer}
+use Rattle.hcl_grammar.specs.TreeLayers.{ExprKindLayer}
 use Rattle.tf_rules.proofs.AllFoundBy.{From, none, choose, both, maybe}
 
 link : (pairs : List Pair) (first : ℕ) (is_first : Bool) (left : Expr) (l : Operation) → From pairs EmptyListEquality (operation_findings pairs first is_first left l)

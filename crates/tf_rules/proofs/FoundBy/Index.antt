@@ -6,7 +6,7 @@ use Rattle.tf_rules.specs.declared.fix.Insertion.TheVariants as insertion
 use Rattle.tf_rules.specs.declared.rule.Rule.TheVariants.{DeprecatedIndex}
 use Rattle.tf_rules.specs.Fixes.{insert_only}
 use Rattle.tf_rules.specs.Rules.Index.{index_findings}
-use Rattle.tf_rules.specs.TreeLayers.{TailLayer}
+use Rattle.hcl_grammar.specs.TreeLayers.{TailLayer}
 use Rattle.tf_rules.proofs.AllFoundBy.{From, none, maybe}
 
 pub of_rule : (pairs : List Pair) (splat : Bool) (t : TailLayer) → From pairs DeprecatedIndex (index_findings pairs splat t)

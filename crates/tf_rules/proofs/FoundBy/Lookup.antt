@@ -7,7 +7,7 @@ use Rattle.hcl_token.specs.Tokens.{Pair}
 use Rattle.tf_rules.specs.declared.fix.Insertion.TheVariants as insertion
 use Rattle.tf_rules.specs.declared.rule.Rule.TheVariants.{DeprecatedLookup}
 use Rattle.tf_rules.specs.Fixes.{kept, keep_two}
-use Rattle.tf_rules.specs.TreeLayers.{PrimaryLayer, CallLayer}
+use Rattle.hcl_grammar.specs.TreeLayers.{PrimaryLayer, CallLayer}
 use Rattle.tf_rules.specs.Arguments.{two_arguments}
 use Rattle.tf_rules.specs.Rules.Lookup.{is_lookup, is_lookup_fixable, pair_findings, call_findings, lookup_findings}
 use Rattle.tf_rules.proofs.AllFoundBy.{From, none, choose, maybe}

@@ -15,7 +15,7 @@ use Rattle.tf_rules.specs.Fixes.{kept, keep_one, when}
 use Rattle.tf_rules.specs.declared.rule.Rule.TheVariants.{EmptyListEquality}
 use Rattle.tf_rules.specs.Findings.{plain_message, finding_at}
 use Rattle.tf_rules.specs.declared.finding.Finding.{Finding}
-use Rattle.tf_rules.specs.TreeLayers.{ExprKindLayer, PrimaryLayer}
+use Rattle.hcl_grammar.specs.TreeLayers.{ExprKindLayer, PrimaryLayer}
 use Rattle.tf_rules.specs.Trivia.{token_range, has_trivia, is_here_close}
 
 -- `==` or `!=`
@@ -53,20 +53,24 @@ is_equal _ = false
 abbrev pub length_fix : ℕ → ℕ → Bool → Fix
 length_fix from to zero = keep_one Length (kept from to (if zero then IsZero else IsPositive))
 
+-- The finding at an operator in a chain that begins at token first: of the empty list, which is one
+-- of the expressions next to it, and the operand from token `from` to token `to` (exclusive).
+abbrev pub comparison_findings : List Pair → ℕ → Expr → Operation → Expr → ℕ → ℕ → List Finding
+comparison_findings pairs first left link empty from to =
+    finding_at EmptyListEquality first link.operand.past plain_message
+    (when (is_comparison_fixable pairs empty to left.past link.operand.first)
+    (length_fix from to (is_equal link.operator)))
+
 -- The comparison at an operator with these expressions next to it, in a chain that begins at token
--- first. What is compared on the left is all of the chain before the operator; at the first
--- operator that is the expression next to it.
+-- first. The one on the right decides. What it is compared with is all of the chain before the
+-- operator; at the first operator that is the expression next to it, which may be the list too.
 abbrev pub operation_findings : List Pair → ℕ → Bool → Expr → Operation → List Finding
 operation_findings pairs first is_first left link =
     if is_equality link.operator
     then (if is_empty_list link.operand
-    then finding_at EmptyListEquality first link.operand.past plain_message
-    (when (is_comparison_fixable pairs link.operand left.past left.past link.operand.first)
-    (length_fix first left.past (is_equal link.operator)))
+    then comparison_findings pairs first left link link.operand first left.past
     else (if is_first && is_empty_list left
-    then finding_at EmptyListEquality first link.operand.past plain_message
-    (when (is_comparison_fixable pairs left link.operand.past left.past link.operand.first)
-    (length_fix link.operand.first link.operand.past (is_equal link.operator)))
+    then comparison_findings pairs first left link left link.operand.first link.operand.past
     else []))
     else []
 

@@ -7,7 +7,7 @@ use Rattle.tf_rules.specs.declared.fix.Insertion.TheVariants.{Index}
 use Rattle.tf_rules.specs.Fixes.{insert_only, when}
 use Rattle.tf_rules.specs.declared.rule.Rule.TheVariants.{DeprecatedIndex}
 use Rattle.tf_rules.specs.Findings.{plain_message, finding_at}
-use Rattle.tf_rules.specs.TreeLayers.{TailLayer}
+use Rattle.hcl_grammar.specs.TreeLayers.{TailLayer}
 
 -- One at each legacy index. It can be written with brackets where one does not come to `.*` going
 -- back from it.

@@ -13,8 +13,8 @@ use Rattle.tf_rules.specs.declared.rule.Rule.TheVariants.{DeprecatedInterpolatio
 use Rattle.tf_rules.specs.Findings.{plain_message, finding_at}
 use Rattle.tf_rules.specs.declared.role.Role.{Role}
 use Rattle.tf_rules.specs.declared.role.Role.TheVariants.{ObjectKey, Elsewhere}
-use Rattle.tf_rules.specs.TreeLayers.{ExprKindLayer, PrimaryLayer, PartLayer}
-use Rattle.tf_rules.specs.Trivia.{token_range, has_line_break}
+use Rattle.hcl_grammar.specs.TreeLayers.{ExprKindLayer, PrimaryLayer, PartLayer}
+use Rattle.tf_rules.specs.Trivia.{token_range, has_line_end}
 
 -- a term with its tails, if any: no operator and no conditional
 abbrev pub is_post_kind : ExprKindLayer → Bool
@@ -55,7 +55,7 @@ is_elsewhere _ = false
 -- then be outside of brackets, and if it is a term with its tails, or the whole value at its place.
 abbrev pub is_interpolation_fixable : List Pair → Role → ℕ → ℕ → Expr → Bool
 is_interpolation_fixable pairs role first past e =
-    not (has_line_break false 0 (token_range pairs (first + 2) (past - 2)))
+    not (has_line_end (token_range pairs (first + 2) (past - 2)))
     && (is_post e || not (is_elsewhere role))
 
 -- One at quoted text that is one interpolation, but for the key of an object.

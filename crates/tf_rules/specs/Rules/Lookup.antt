@@ -16,8 +16,8 @@ use Rattle.tf_rules.specs.Findings.{plain_message, finding_at}
 use Rattle.tf_rules.specs.declared.finding.Finding.{Finding}
 use Rattle.std.specs.List.{list_any}
 use Rattle.tf_rules.specs.Arguments.{two_arguments}
-use Rattle.tf_rules.specs.TreeLayers.{ExprKindLayer, PrimaryLayer, TailLayer, CallLayer}
-use Rattle.tf_rules.specs.Trivia.{token_range, has_trivia, has_line_break}
+use Rattle.hcl_grammar.specs.TreeLayers.{ExprKindLayer, PrimaryLayer, TailLayer, CallLayer}
+use Rattle.tf_rules.specs.Trivia.{token_range, has_trivia, has_line_end_or_comment}
 
 abbrev pub is_splat_tail : TailLayer → Bool
 is_splat_tail Tail-F.AttributeSplat = true
@@ -49,7 +49,8 @@ is_lookup pairs _ = false
 -- first argument.
 abbrev pub is_lookup_fixable : List Pair → ℕ → ℕ → Expr → Expr → Bool
 is_lookup_fixable pairs first past a b =
-    is_indexable_kind (out-ExprKind a.kind) && (not (has_line_break true 0 (token_range pairs a.first a.past))
+    is_indexable_kind (out-ExprKind a.kind)
+    && (not (has_line_end_or_comment (token_range pairs a.first a.past))
     && (not (has_trivia (token_range pairs first a.first))
     && (not (has_trivia (token_range pairs a.past b.first))
     && not (has_trivia (token_range pairs b.past past)))))

@@ -13,14 +13,14 @@ use Rattle.tf_rules.specs.declared.rule.Rule.TheVariants.{TypedVariables, Docume
 use Rattle.tf_rules.specs.declared.rule_set.RuleSet.{RuleSet}
 use Rattle.tf_rules.specs.Findings.{finding_at}
 use Rattle.tf_rules.specs.RuleSets.{has_rule}
-use Rattle.tf_rules.specs.Attributes.{attributes, has_attribute}
+use Rattle.tf_rules.specs.Attributes.{attributes, has_attribute, has_empty_attribute}
 use Rattle.tf_rules.specs.Spelling.{token_text}
 
 -- no description, or one that is `""`
 abbrev pub is_undocumented : List Pair → List Attribute → Bool
 is_undocumented pairs all =
-    not (has_attribute pairs (codes "description") false all)
-    || has_attribute pairs (codes "description") true all
+    not (has_attribute pairs (codes "description") all)
+    || has_empty_attribute pairs (codes "description") all
 
 -- the finding at the word that the block begins with
 abbrev pub missing_finding : Rule → Block → Option ℕ → List Finding
@@ -31,7 +31,7 @@ abbrev pub untyped_findings : RuleSet → List Pair → Block → Label → List
 untyped_findings rules pairs b l =
     if has_rule rules TypedVariables
     && (bytes_eq (token_text pairs b.block_type) (codes "variable")
-    && not (has_attribute pairs (codes "type") false (attributes b)))
+    && not (has_attribute pairs (codes "type") (attributes b)))
     then missing_finding TypedVariables b l.name else []
 
 -- of the rule on blocks that begin with this word

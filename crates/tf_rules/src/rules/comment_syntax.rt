@@ -11,6 +11,7 @@ use hcl_scan::Scanned;
 use hcl_token::Kind;
 use std::alloc::AllocError;
 
+/// Whether a comment begins with `//`.
 fn begins_with_slashes(spelling: &[u8]) -> bool
     ensures { result ≡ (slice_index spelling.now 0 == 47 && slice_index spelling.now 1 == 47) }
 {
@@ -25,6 +26,7 @@ fn is_slash_comment(scanned: &Scanned<'_>, i: usize) -> bool
     scanned.kind(i) == Kind::LineComment && begins_with_slashes(scanned.spelling(i))
 }
 
+/// Adds the finding at token `i`, if `has_slashes` says that it is such a comment.
 fn add_comment_finding(
     scanned: &Scanned<'_>,
     i: usize,
@@ -36,12 +38,13 @@ fn add_comment_finding(
         (found.new.items ≡ found.old.items
         ++ valid_findings (length scanned.now.pairs) (comment_finding i has_slashes)) }
 {
-    let count = scanned.len();
+    let count = scanned.count();
     if !has_slashes {
         return Ok(());
     }
+    let first = i as u32;
     let fix = Some(Fix::CommentMarker);
-    let finding = Finding::new(Rule::CommentSyntax, i, i + 1, Message::PLAIN, fix)?;
+    let finding = Finding::new(Rule::CommentSyntax, first, first + 1, Message::PLAIN, fix);
     add_finding(found, count, finding)
 }
 

@@ -16,13 +16,7 @@ use hcl_scan::Scanned;
 use std::alloc::AllocError;
 
 /// Whether the comparison with the empty list can be written as a length.
-fn is_comparison_fixable(
-    scanned: &Scanned<'_>,
-    empty: &Expr,
-    past: usize,
-    from: usize,
-    to: usize,
-) -> bool
+fn is_comparison_fixable(scanned: &Scanned<'_>, empty: &Expr, past: u32, from: u32, to: u32) -> bool
     ensures { result ≡ is_comparison_fixable scanned.now.pairs empty.now past from to }
 {
     empty.past >= 2
@@ -31,6 +25,7 @@ fn is_comparison_fixable(
         && !is_here_close(scanned, past.saturating_sub(1))
 }
 
+/// Whether an operator is `==` or `!=`.
 fn is_equality(operator: BinaryOperator) -> bool
     ensures { result ≡ is_equality operator }
 {
@@ -40,6 +35,7 @@ fn is_equality(operator: BinaryOperator) -> bool
     }
 }
 
+/// Whether an operator is `==`.
 fn is_equal(operator: BinaryOperator) -> bool
     ensures { result ≡ is_equal operator }
 {
@@ -49,6 +45,7 @@ fn is_equal(operator: BinaryOperator) -> bool
     }
 }
 
+/// Whether an expression is an empty list by itself, without tails and parentheses.
 fn is_empty_list(e: &Expr) -> bool
     ensures { result ≡ is_empty_list e.now }
 {
@@ -62,7 +59,7 @@ fn is_empty_list(e: &Expr) -> bool
 }
 
 /// `length(`, the tokens of the operand, `) == 0` or `) > 0`
-fn length_fix(from: usize, to: usize, is_zero_test: bool) -> Fix
+fn length_fix(from: u32, to: u32, is_zero_test: bool) -> Fix
     ensures { result ≡ length_fix from to is_zero_test }
 {
     let after = if is_zero_test {
@@ -80,7 +77,7 @@ fn length_fix(from: usize, to: usize, is_zero_test: bool) -> Fix
 /// The comparison at an operator, with the expressions beside it.
 fn check_operation(
     cx: &LintContext<'_, '_>,
-    first: usize,
+    first: u32,
     is_first: bool,
     left: &Expr,
     operation: &Operation,
@@ -95,8 +92,8 @@ fn check_operation(
         return Ok(());
     }
     let right = &operation.operand;
-    let left_past = left.past as usize;
-    let (right_first, right_past) = (right.first as usize, right.past as usize);
+    let left_past = left.past;
+    let (right_first, right_past) = (right.first, right.past);
     let is_zero_test = is_equal(operation.operator);
     if is_empty_list(right) {
         let fixable = is_comparison_fixable(cx.scanned, right, left_past, left_past, right_first);
@@ -114,10 +111,10 @@ fn check_operation(
 /// A comparison of the tokens of `operand` with an empty list.
 fn add_comparison(
     cx: &LintContext<'_, '_>,
-    first: usize,
-    past: usize,
+    first: u32,
+    past: u32,
     fixable: bool,
-    operand: (usize, usize),
+    operand: (u32, u32),
     is_zero_test: bool,
     found: &mut Vec<Finding>,
 ) -> Result<(), AllocError>
@@ -133,9 +130,10 @@ fn add_comparison(
     cx.report(rule, first, past, Message::PLAIN, fix, found)
 }
 
+/// Adds the comparisons at the operators of a chain that begins at token `first`.
 fn check_chain(
     cx: &LintContext<'_, '_>,
-    first: usize,
+    first: u32,
     head: &Expr,
     operations: &[Operation],
     found: &mut Vec<Finding>,
@@ -155,9 +153,10 @@ fn check_chain(
     Ok(())
 }
 
+/// Adds the comparisons in an expression of this kind, which begins at token `first`.
 fn check_kind(
     cx: &LintContext<'_, '_>,
-    first: usize,
+    first: u32,
     kind: &ExprKind,
     found: &mut Vec<Finding>,
 ) -> Result<(), AllocError>
@@ -193,5 +192,5 @@ pub fn check(cx: &LintContext<'_, '_>, e: &Expr, found: &mut Vec<Finding>) -> Re
     if !cx.rules.has(Rule::EmptyListEquality) {
         return Ok(());
     }
-    check_kind(cx, e.first as usize, &e.kind, found)
+    check_kind(cx, e.first, &e.kind, found)
 }

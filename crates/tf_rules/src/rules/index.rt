@@ -13,6 +13,7 @@ use crate::{Finding, Fix, Insertion, Message, Rule};
 use hcl_grammar::tree::Tail;
 use std::alloc::AllocError;
 
+/// Adds a tail that is a legacy index. `splat` says that it follows `.*`.
 fn check_tail(
     cx: &LintContext<'_, '_>,
     splat: bool,
@@ -33,10 +34,11 @@ fn check_tail(
     }
 }
 
+/// Adds the legacy index that is token `n`.
 fn check_legacy_index(
     cx: &LintContext<'_, '_>,
     splat: bool,
-    n: usize,
+    n: u32,
     found: &mut Vec<Finding>,
 ) -> Result<(), AllocError>
     ensures { OnOk result
@@ -44,7 +46,7 @@ fn check_legacy_index(
         ++ valid_findings (length cx.now.scanned.now.pairs)
         (index_findings cx.now.scanned.now.pairs splat (Tail-F.LegacyIndex n))) }
 {
-    if n >= cx.scanned.len() {
+    if n >= cx.scanned.count() {
         return Ok(());
     }
     let fix = Fix::Tokens {

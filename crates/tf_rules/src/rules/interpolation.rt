@@ -4,7 +4,7 @@ ghost use Rattle.std.specs.Prelude.{◌≡◌, ◌++◌, ◌+◌, ◌-◌, false
 ghost use Rattle.hcl_grammar.specs.declared.tree.Part.{out-Part};
 ghost use Rattle.hcl_grammar.specs.declared.tree.Primary.{out-Primary};
 ghost use Rattle.tf_rules.specs.Rules.Interpolation.{is_post, is_object_key, is_elsewhere, sole_part, sole_interpolation, part_interpolation, is_interpolation_fixable, interpolation_findings};
-ghost use Rattle.tf_rules.specs.Trivia.{token_range, has_line_break};
+ghost use Rattle.tf_rules.specs.Trivia.{token_range, has_line_end};
 ghost use Rattle.tf_rules.specs.Unbroken.{AreUnbroken};
 ghost use Rattle.tf_rules.specs.RuleSets.{has_rule};
 ghost use Rattle.tf_rules.specs.Findings.{plain_message, finding_at, valid_findings};
@@ -17,6 +17,7 @@ use crate::{Finding, Fix, Insertion, KeptTokens, Message, Rule};
 use hcl_grammar::tree::{Expr, ExprKind, Part, Primary, Term};
 use std::alloc::AllocError;
 
+/// Whether an expression of this role is the key of an object.
 fn is_object_key(role: Role) -> bool
     ensures { result ≡ is_object_key role }
 {
@@ -26,6 +27,7 @@ fn is_object_key(role: Role) -> bool
     }
 }
 
+/// Whether an expression of this role is a part of a larger one.
 fn is_elsewhere(role: Role) -> bool
     ensures { result ≡ is_elsewhere role }
 {
@@ -36,10 +38,10 @@ fn is_elsewhere(role: Role) -> bool
 }
 
 /// The expression of the interpolation that is all of quoted text.
-fn sole_interpolation(shape: &Primary) -> Option<&Expr>
-    ensures { option_map (λ e. e.now) result ≡ sole_interpolation (out-Primary shape.now) }
+fn sole_interpolation(primary: &Primary) -> Option<&Expr>
+    ensures { option_map (λ e. e.now) result ≡ sole_interpolation (out-Primary primary.now) }
 {
-    match shape {
+    match primary {
         Primary::Number => None,
         Primary::Identifier => None,
         Primary::Call(_) => None,
@@ -53,6 +55,7 @@ fn sole_interpolation(shape: &Primary) -> Option<&Expr>
     }
 }
 
+/// The expression of the interpolation that is all of these parts.
 fn sole_part(parts: &[Part]) -> Option<&Expr>
     ensures { option_map (λ e. e.now) result ≡ sole_part parts.now }
 {
@@ -62,6 +65,7 @@ fn sole_part(parts: &[Part]) -> Option<&Expr>
     }
 }
 
+/// The expression of a part that is an interpolation.
 fn interpolated_expr(part: &Part) -> Option<&Expr>
     ensures { option_map (λ e. e.now) result ≡ part_interpolation (out-Part part.now) }
 {
@@ -73,6 +77,7 @@ fn interpolated_expr(part: &Part) -> Option<&Expr>
     }
 }
 
+/// Whether an expression is a term with its tails, if any: no operator and no conditional.
 fn is_post(e: &Expr) -> bool
     ensures { result ≡ is_post e.now }
 {
@@ -83,10 +88,11 @@ fn is_post(e: &Expr) -> bool
     }
 }
 
+/// Adds a finding of the rule at these tokens.
 fn report(
     cx: &LintContext<'_, '_>,
-    first: usize,
-    past: usize,
+    first: u32,
+    past: u32,
     fix: Option<Fix>,
     found: &mut Vec<Finding>,
 ) -> Result<(), AllocError>
@@ -99,6 +105,7 @@ fn report(
     cx.report(rule, first, past, Message::PLAIN, fix, found)
 }
 
+/// Adds a term that is quoted text with one interpolation and nothing else.
 fn check_term(
     cx: &LintContext<'_, '_>,
     unbroken: &mut Unbroken,
@@ -117,18 +124,19 @@ fn check_term(
     match sole_interpolation(&t.kind) {
         None => Ok(()),
         Some(e) => {
-            let (first, past) = (t.first as usize, t.past as usize);
+            let (first, past) = (t.first, t.past);
             check_interpolation(cx, unbroken, role, first, past, e, found)
         }
     }
 }
 
+/// Adds the quoted text that is the interpolation of `e`, but for the key of an object.
 fn check_interpolation(
     cx: &LintContext<'_, '_>,
     unbroken: &mut Unbroken,
     role: Role,
-    first: usize,
-    past: usize,
+    first: u32,
+    past: u32,
     e: &Expr,
     found: &mut Vec<Finding>,
 ) -> Result<(), AllocError>
@@ -160,12 +168,14 @@ fn check_interpolation(
     report(cx, first, past, Some(fix), found)
 }
 
+/// Whether the quotes and braces can go: no line end would then be outside of brackets, and what
+/// is inside is a term with its tails or the whole value at its place.
 fn is_interpolation_fixable(
     cx: &LintContext<'_, '_>,
     unbroken: &mut Unbroken,
     role: Role,
-    first: usize,
-    past: usize,
+    first: u32,
+    past: u32,
     e: &Expr,
 ) -> bool
     requires { AreUnbroken cx.now.scanned.now.pairs unbroken.old.first unbroken.old.past }
@@ -178,15 +188,16 @@ fn is_interpolation_fixable(
     is_post(e) || !is_elsewhere(role)
 }
 
+/// Whether a line end is between the braces, outside of brackets.
 fn has_line_break_inside(
     cx: &LintContext<'_, '_>,
     unbroken: &mut Unbroken,
-    first: usize,
-    past: usize,
+    first: u32,
+    past: u32,
 ) -> bool
     requires { AreUnbroken cx.now.scanned.now.pairs unbroken.old.first unbroken.old.past }
-    ensures value { result ≡ has_line_break false 0
-        (token_range cx.now.scanned.now.pairs (first + 2) (past - 2)) }
+    ensures value { result
+        ≡ has_line_end (token_range cx.now.scanned.now.pairs (first + 2) (past - 2)) }
     ensures unbroken { AreUnbroken cx.now.scanned.now.pairs unbroken.new.first unbroken.new.past }
 {
     if past <= 2 || first >= past - 2 {

@@ -20,6 +20,7 @@ use hcl_grammar::tree::{Call, Expr, ExprKind, Primary, Tail, Term};
 use hcl_scan::Scanned;
 use std::alloc::AllocError;
 
+/// Whether a tail is `.*` or `[*]`.
 fn is_splat(t: &Tail) -> bool
     ensures { result ≡ is_splat t.now }
 {
@@ -32,16 +33,18 @@ fn is_splat(t: &Tail) -> bool
     }
 }
 
+/// Whether one of the tails is a splat.
 fn has_splat(tails: &[Tail]) -> bool
     ensures { result ≡ has_splat tails.now }
 {
     tails.iter().any(|t| is_splat(t))
 }
 
-fn is_indexable(form: &ExprKind) -> bool
-    ensures { result ≡ is_indexable_kind (out-ExprKind form.now) }
+/// Whether an index can follow: a term with tails, if any, of which none is a splat.
+fn is_indexable(kind: &ExprKind) -> bool
+    ensures { result ≡ is_indexable_kind (out-ExprKind kind.now) }
 {
-    match form {
+    match kind {
         ExprKind::Conditional(_, _, _) => false,
         ExprKind::Binary(_, _) => false,
         ExprKind::Unary(_, _) => false,
@@ -50,7 +53,8 @@ fn is_indexable(form: &ExprKind) -> bool
     }
 }
 
-fn is_lookup(scanned: &Scanned<'_>, names: &[usize]) -> bool
+/// Whether the name of a call is `lookup`, by itself.
+fn is_lookup(scanned: &Scanned<'_>, names: &[u32]) -> bool
     ensures { result ≡ is_lookup scanned.now.pairs names.now }
 {
     match names {
@@ -59,12 +63,14 @@ fn is_lookup(scanned: &Scanned<'_>, names: &[usize]) -> bool
     }
 }
 
-fn is_lookup_token(scanned: &Scanned<'_>, n: usize) -> bool
+/// Whether a token is spelled `lookup`.
+fn is_lookup_token(scanned: &Scanned<'_>, n: u32) -> bool
     ensures { result ≡ is_lookup_token (spelling_of scanned.now.pairs n) }
 {
-    n < scanned.len() && scanned.spelling(n) == b"lookup".as_slice()
+    n < scanned.count() && scanned.spelling(n as usize) == b"lookup".as_slice()
 }
 
+/// The arguments of a call that has just two.
 fn two_arguments(es: &[Expr]) -> Option<(&Expr, &Expr)>
     ensures { option_map (λ p. (p.0.now, p.1.now)) result ≡ two_arguments es.now }
 {
@@ -74,11 +80,13 @@ fn two_arguments(es: &[Expr]) -> Option<(&Expr, &Expr)>
     }
 }
 
+/// Whether the call can be written with brackets: no comment and no line end is in it outside of
+/// its arguments, and an index can follow the first of them.
 fn is_lookup_fixable(
     unbroken: &mut Unbroken,
     scanned: &Scanned<'_>,
-    first: usize,
-    past: usize,
+    first: u32,
+    past: u32,
     a: &Expr,
     b: &Expr,
 ) -> bool
@@ -87,12 +95,13 @@ fn is_lookup_fixable(
     ensures unbroken { AreUnbroken scanned.now.pairs unbroken.new.first unbroken.new.past }
 {
     is_indexable(&a.kind)
-        && !has_line_break_beyond(unbroken, scanned, true, a.first as usize, a.past as usize)
-        && !has_trivia(scanned, first, a.first as usize)
-        && !has_trivia(scanned, a.past as usize, b.first as usize)
-        && !has_trivia(scanned, b.past as usize, past)
+        && !has_line_break_beyond(unbroken, scanned, true, a.first, a.past)
+        && !has_trivia(scanned, first, a.first)
+        && !has_trivia(scanned, a.past, b.first)
+        && !has_trivia(scanned, b.past, past)
 }
 
+/// Adds a term that is a call of `lookup` with two arguments.
 fn check_term(
     cx: &LintContext<'_, '_>,
     unbroken: &mut Unbroken,
@@ -111,7 +120,7 @@ fn check_term(
         Primary::Number => Ok(()),
         Primary::Identifier => Ok(()),
         Primary::Call(c) => {
-            let (first, past) = (t.first as usize, t.past as usize);
+            let (first, past) = (t.first, t.past);
             check_call(cx, unbroken, first, past, c.get(), found)
         }
         Primary::Tuple(_) => Ok(()),
@@ -124,11 +133,12 @@ fn check_term(
     }
 }
 
+/// Adds a call, if it is one of `lookup` with two arguments.
 fn check_call(
     cx: &LintContext<'_, '_>,
     unbroken: &mut Unbroken,
-    first: usize,
-    past: usize,
+    first: u32,
+    past: u32,
     c: &Call,
     found: &mut Vec<Finding>,
 ) -> Result<(), AllocError>
@@ -148,11 +158,12 @@ fn check_call(
     }
 }
 
+/// Adds the call of `lookup` with these arguments, `a[b]`.
 fn check_arguments(
     cx: &LintContext<'_, '_>,
     unbroken: &mut Unbroken,
-    first: usize,
-    past: usize,
+    first: u32,
+    past: u32,
     a: &Expr,
     b: &Expr,
     found: &mut Vec<Finding>,
@@ -166,13 +177,13 @@ fn check_arguments(
 {
     let fixable = is_lookup_fixable(unbroken, cx.scanned, first, past, a, b);
     let kept = KeptTokens {
-        from: a.first as usize,
-        to: a.past as usize,
+        from: a.first,
+        to: a.past,
         after: Insertion::OpenBracket,
     };
     let key = KeptTokens {
-        from: b.first as usize,
-        to: b.past as usize,
+        from: b.first,
+        to: b.past,
         after: Insertion::CloseBracket,
     };
     let fix = Fix::Tokens {

@@ -5,7 +5,7 @@ ghost use Rattle.tf_rules.specs.Attributes.{attributes};
 ghost use Rattle.tf_rules.specs.Rules.Missing.{is_undocumented, missing_finding, untyped_findings, undocumented_findings, missing_findings};
 ghost use Rattle.tf_rules.specs.Findings.{valid_findings};
 
-use crate::attributes::has_attribute;
+use crate::attributes::{has_attribute, has_empty_attribute};
 use crate::context::LintContext;
 use crate::spelling::{is_spelled, token_text};
 use crate::{Finding, Message, Rule};
@@ -13,32 +13,34 @@ use hcl_grammar::tree::{Block, Label};
 use hcl_scan::Scanned;
 use std::alloc::AllocError;
 
+/// Whether a block has no description, or one that is `""`.
 fn is_undocumented(scanned: &Scanned<'_>, b: &Block) -> bool
     ensures { result ≡ is_undocumented scanned.now.pairs (attributes b.now) }
 {
-    !has_attribute(scanned, b"description", false, b)
-        || has_attribute(scanned, b"description", true, b)
+    !has_attribute(scanned, b"description", b) || has_empty_attribute(scanned, b"description", b)
 }
 
+/// Adds a finding at the word that a block begins with. Its message names `name`.
 fn add_missing(
     cx: &LintContext<'_, '_>,
     rule: Rule,
     b: &Block,
-    name: Option<usize>,
+    name: Option<u32>,
     found: &mut Vec<Finding>,
 ) -> Result<(), AllocError>
     ensures { OnOk result
         (found.new.items ≡ found.old.items
         ++ valid_findings (length cx.now.scanned.now.pairs) (missing_finding rule b.now name)) }
 {
-    let word = b.block_type as usize;
-    if word >= cx.scanned.len() {
+    let word = b.block_type;
+    if word >= cx.scanned.count() {
         return Ok(());
     }
     let message = Message { kind: None, name };
     cx.report(rule, word, word + 1, message, None, found)
 }
 
+/// Adds a variable that has no type.
 fn check_type(
     cx: &LintContext<'_, '_>,
     b: &Block,
@@ -53,15 +55,16 @@ fn check_type(
     if !cx.rules.has(Rule::TypedVariables) {
         return Ok(());
     }
-    if !is_spelled(token_text(cx.scanned, b.block_type as usize), b"variable") {
+    if !is_spelled(token_text(cx.scanned, b.block_type), b"variable") {
         return Ok(());
     }
-    if has_attribute(cx.scanned, b"type", false, b) {
+    if has_attribute(cx.scanned, b"type", b) {
         return Ok(());
     }
     add_missing(cx, Rule::TypedVariables, b, l.name, found)
 }
 
+/// Adds a block that begins with this word and has no description, for the rule on such blocks.
 fn check_description(
     cx: &LintContext<'_, '_>,
     rule: Rule,
@@ -79,7 +82,7 @@ fn check_description(
     if !cx.rules.has(rule) {
         return Ok(());
     }
-    if !is_spelled(token_text(cx.scanned, b.block_type as usize), block_type) {
+    if !is_spelled(token_text(cx.scanned, b.block_type), block_type) {
         return Ok(());
     }
     if !is_undocumented(cx.scanned, b) {
@@ -88,6 +91,7 @@ fn check_description(
     add_missing(cx, rule, b, l.name, found)
 }
 
+/// Adds what a block lacks whose first label is `l`.
 fn check_labelled(
     cx: &LintContext<'_, '_>,
     b: &Block,

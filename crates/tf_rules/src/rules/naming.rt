@@ -39,12 +39,13 @@ fn declared_name(block_type: &[u8]) -> Option<(NameKind, usize)>
     None
 }
 
+/// Adds these tokens, if the name is not in snake_case.
 fn check_name(
     cx: &LintContext<'_, '_>,
     named: NameKind,
-    name: Option<usize>,
-    first: usize,
-    past: usize,
+    name: Option<u32>,
+    first: u32,
+    past: u32,
     found: &mut Vec<Finding>,
 ) -> Result<(), AllocError>
     ensures { OnOk result
@@ -62,6 +63,7 @@ fn check_name(
     cx.report(Rule::NamingConvention, first, past, message, None, found)
 }
 
+/// Adds a label, if there is one and its name is not in snake_case.
 fn check_label(
     cx: &LintContext<'_, '_>,
     named: NameKind,
@@ -79,6 +81,7 @@ fn check_label(
     }
 }
 
+/// Adds the label that names what a block declares, if it is not in snake_case.
 fn check_declaration(
     cx: &LintContext<'_, '_>,
     b: &Block,
@@ -90,12 +93,13 @@ fn check_declaration(
         (declared_findings cx.now.scanned.now.pairs b.now
         (declared_name (token_text cx.now.scanned.now.pairs b.now.block_type)))) }
 {
-    match declared_name(token_text(cx.scanned, b.block_type as usize)) {
+    match declared_name(token_text(cx.scanned, b.block_type)) {
         None => Ok(()),
         Some((named, i)) => check_label(cx, named, b.labels.as_slice().get(i), found),
     }
 }
 
+/// Adds the name of an attribute, if it is not in snake_case.
 fn check_local(
     cx: &LintContext<'_, '_>,
     a: &Attribute,
@@ -106,12 +110,13 @@ fn check_local(
         ++ valid_findings (length cx.now.scanned.now.pairs)
         (local_findings cx.now.scanned.now.pairs a.now)) }
 {
-    if a.name >= cx.scanned.len() {
+    if a.name >= cx.scanned.count() {
         return Ok(());
     }
     check_name(cx, NameKind::Local, Some(a.name), a.name, a.name + 1, found)
 }
 
+/// As `check_local`, of the attribute that a block on one line may have.
 fn check_optional_local(
     cx: &LintContext<'_, '_>,
     a: &Option<Boxed<Attribute>>,
@@ -128,6 +133,7 @@ fn check_optional_local(
     }
 }
 
+/// As `check_local`, of a member that is an attribute.
 fn check_local_member(
     cx: &LintContext<'_, '_>,
     m: &Member,
@@ -144,6 +150,7 @@ fn check_local_member(
     }
 }
 
+/// As `check_local`, of each member that is an attribute.
 fn check_local_members(
     cx: &LintContext<'_, '_>,
     members: &[Member],
@@ -161,6 +168,7 @@ fn check_local_members(
     Ok(())
 }
 
+/// As `check_local`, of each attribute of a block.
 fn check_local_attributes(
     cx: &LintContext<'_, '_>,
     b: &Block,
@@ -177,6 +185,7 @@ fn check_local_attributes(
     }
 }
 
+/// Adds the names in a block `locals` that are not in snake_case.
 fn check_locals(
     cx: &LintContext<'_, '_>,
     b: &Block,
@@ -187,7 +196,7 @@ fn check_locals(
         ++ valid_findings (length cx.now.scanned.now.pairs)
         (locals_findings cx.now.scanned.now.pairs b.now)) }
 {
-    if !is_spelled(token_text(cx.scanned, b.block_type as usize), b"locals") {
+    if !is_spelled(token_text(cx.scanned, b.block_type), b"locals") {
         return Ok(());
     }
     check_local_attributes(cx, b, found)

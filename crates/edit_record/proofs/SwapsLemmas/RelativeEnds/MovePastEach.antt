@@ -50,7 +50,7 @@ moved_len others [] (o ∷ olds) news h = elim h [ ]
 moved_len others (y ∷ xs) [] news h = elim h [ ]
 moved_len others (y ∷ xs) (o ∷ olds) [] h = elim h [ ]
 
--- edits with the texts of others, cut where these are cut
+-- Edits with the texts of others, split at the same index: the others have x at n.
 pub record SplitAt (n : ℕ) (x : EditEntry) (ys : List EditEntry) : Type 0 where
   pub leading : List EditEntry
   pub y : EditEntry

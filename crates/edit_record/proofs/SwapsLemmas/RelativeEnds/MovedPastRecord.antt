@@ -1,5 +1,6 @@
 -- One record has gone before the edits.
-use Rattle.std.proofs.Common.{◌≡◌, ℕ, ◌+◌, ◌-◌, ◌≤◌, ◌<◌, List, [], ◌∷◌, length, refl, arith, sym, ap, ◌∙◌, subst}
+use Rattle.std.proofs.Common.{◌≡◌, ◌↔◌, ℕ, ◌+◌, ◌-◌, ◌≤◌, List, [], ◌∷◌, length, Bool, true, false, refl, arith, sym, ap, ◌∙◌, subst}
+use Rattle.std.proofs.lemmas.Bool.{false≢true}
 use Rattle.edit_record.specs.declared.lists.edits.TheConstants.{MAX_TEXT}
 use Rattle.edit_record.specs.Lists.Pieces.{EditEntry, EditList, as_list, removed_len, added_len}
 use Rattle.edit_record.specs.Lists.Validity.{AreValidEdits, new_len}
@@ -15,13 +16,11 @@ use Rattle.edit_record.proofs.SwapsLemmas.RelativeEnds.SetPlaces.{SameTexts, mov
 pub moving_follows : (m : MovingEdits) (b : EditList) (k : ℕ) → IsWellFormed m → k ≡ b.old_len → m.new_len ≡ k → new_len (edits_now m) ≡ b.old_len
 moving_follows m b k h is same = let n = h.made.new in omega (arith, n, is, same)
 
--- whether a text would be too long, by the lengths
-module _ (m : MovingEdits) (b : EditList) (x y : ℕ) (x_is : x + removed_len b.entries ≡ b.old_len + added_len b.entries) (y_is : y ≡ b.old_len) where
-  pub too_long : MAX_TEXT + y < m.old_len + x → ExceedsLimit (edits_now m) b
-  too_long lt = omega (arith, lt, x_is, y_is)
-
-  pub short_enough : m.old_len + x ≤ MAX_TEXT + y → IsWithinLimit (edits_now m) b
-  short_enough le = omega (arith, le, x_is, y_is)
+-- a text that is not too long
+pub short_enough : (m : MovingEdits) (b : EditList) (over : Bool) → (over ≡ true) ↔ ExceedsLimit (edits_now m) b → over ≡ false → IsWithinLimit (edits_now m) b
+short_enough m b over is e =
+    let none : ExceedsLimit (edits_now m) b → ⊥ = λ l. false≢true (sym e ∙ is.1 l) in
+    omega arith
 
 module _ (m n : MovingEdits) (b : EditList) (us : List EditEntry) (moving : IsWellFormed m) (follows : new_len (edits_now m) ≡ b.old_len) (w : HasMovedPast (edits_now m) b us m n) (x y : ℕ) (x_is : x + removed_len b.entries ≡ b.old_len + added_len b.entries) (y_is : y ≡ b.old_len) where
   within : n.old_len + x ≤ MAX_TEXT + y → IsWithinLimit (edits_now m) b

@@ -22,7 +22,7 @@ abbrev head_or : EndOffset → List EndOffset → EndOffset
 head_or d [] = d
 head_or d (e ∷ es) = e
 
--- edits that are still to come, where they are in the other order if nothing more goes before them
+-- edits that are still to come, at their places in the other order if no further edit precedes them
 abbrev pub later : ℕ → ℕ → List EditEntry → List EditEntry
 later old other [] = []
 later old other (x ∷ xs) = relocate old x other ∷ later old other xs
@@ -154,7 +154,7 @@ done_last other bound deleted_len a r (v ∷ w ∷ vs) [] last d e = let l = ap 
 done_last other bound deleted_len a r (v ∷ w ∷ vs) (i ∷ init) last d e =
     let k = done_last other bound deleted_len (a + length v.added) (r + length v.removed) (w ∷ vs) init last d.1 (ap (drop 1) e) in omega (arith, k)
 
--- two cuts of one list: the second is after the first or at it, or it is before
+-- two splits of one list: the second is after the first or at it, or it is before
 pub data SplitOrder (xs ys leading back : List EndOffset) : Type 0 where
   following : (mids : List EndOffset) → leading ≡ xs ++ mids → ys ≡ mids ++ back → SplitOrder xs ys leading back
   is_before : (z : EndOffset) (zs : List EndOffset) → xs ≡ leading ++ z ∷ zs → back ≡ z ∷ zs ++ ys → SplitOrder xs ys leading back

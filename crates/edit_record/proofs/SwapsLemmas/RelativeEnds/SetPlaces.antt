@@ -1,4 +1,4 @@
--- Edits and where they end: each goes back to its place.
+-- Edits and where they end: the end of each sets its place.
 use Rattle.std.proofs.Common.{◌≡◌, ℕ, ◌+◌, ◌-◌, ◌≤◌, ◌<◌, List, [], ◌∷◌, ◌++◌, length, take, drop, set, get_or, refl, arith, sym, ap, ◌∙◌, subst, append_assoc}
 use Rattle.std.proofs.lemmas.List.{length-take-le, take-append-drop, take_more, drop_more}
 use Rattle.std.proofs.Math.Seq.{get_or-append_seam, set-append_seam}

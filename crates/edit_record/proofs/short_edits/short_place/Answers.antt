@@ -3,6 +3,8 @@ use Rattle.std.proofs.Math.Nat.{pow-le-pow_right}
 use Rattle.std.proofs.lemmas.Bool.{le-leb}
 use Rattle.std.proofs.lemmas.Grind.{pow_more}
 use Rattle.std.proofs.lemmas.List.{drop_more}
+use Rattle.edit_record.specs.declared.columns.TheConstants.{QUICK_DIGITS}
+use Rattle.edit_record.specs.declared.digits.TheConstants.{EIGHT_DIGITS}
 use Rattle.edit_record.specs.Text.{max_number, space}
 use Rattle.edit_record.specs.Parsing.{is_digit, with_digit, number_on, number_at}
 use Rattle.edit_record.proofs.Numbers.{one_digit, not_zero, digit_bounds}
@@ -12,16 +14,16 @@ use Rattle.edit_record.proofs.short_edits.short_place.Goals as goal
 stop_read : (left value : ℕ) (rest : List ℕ) → number_on left 0 max_number space true value (space ∷ rest) ≡ Ok (value, rest)
 stop_read left value rest = rw (le-leb 0 value (omega arith)) refl
 
--- seven digits are within the limit
+-- the digits that are read at once are no number over the limit
 small_more : (value d i : ℕ) → value < 10 ^ i → d ≤ 57 → with_digit value d < 10 ^ (i + 1)
 small_more value d i small high = omega (arith, small, high, pow_more 10 i)
 
-below : (n i : ℕ) → n < 10 ^ i → i ≤ 7 → n < 10000000
+below : (n i : ℕ) → n < 10 ^ i → i ≤ QUICK_DIGITS → n < EIGHT_DIGITS
 below n i small le =
-    let p : 10 ^ i ≤ 10000000 = pow-le-pow_right {n = 10} (omega arith) le in
+    let p : 10 ^ i ≤ EIGHT_DIGITS = pow-le-pow_right {n = 10} (omega arith) le in
     omega (arith, small, p)
 
-within_limit : (n i : ℕ) → n < 10 ^ i → i ≤ 7 → n ≤ max_number
+within_limit : (n i : ℕ) → n < 10 ^ i → i ≤ QUICK_DIGITS → n ≤ max_number
 within_limit n i small le = omega (arith, below n i small le)
 
 pub returns-then-digit-eq32-clause-read : goal.returns-then-digit-eq32-clause-read
@@ -61,11 +63,11 @@ returns-clause-read c =
     let text = c.args.text.now in
     let left = length text in
     let value = c.loop-i.value in
-    let last : c.loop-i.i ≡ 7 = omega (arith, c.loop-i-test.false, c.loop-i.invariant.most) in
-    let split = drop_more text 7 0 (omega (arith, c.if-text-lt-QUICK_BYTES.false)) in
+    let last : c.loop-i.i ≡ QUICK_DIGITS = omega (arith, c.loop-i-test.false, c.loop-i.invariant.most) in
+    let split = drop_more text QUICK_DIGITS 0 (omega (arith, c.if-text-lt-QUICK_BYTES.false)) in
     sym (rw last at c.loop-i.invariant.same)
-    ∙ ap (number_on left 0 max_number space true value) (split ∙ ap (λ d. d ∷ drop 8 text) c.if-text-ne32.false)
-    ∙ stop_read left value (drop 8 text)
+    ∙ ap (number_on left 0 max_number space true value) (split ∙ ap (λ d. d ∷ drop (QUICK_DIGITS + 1) text) c.if-text-ne32.false)
+    ∙ stop_read left value (drop (QUICK_DIGITS + 1) text)
 
 pub returns-then-digit-eq32-clause-near : goal.returns-then-digit-eq32-clause-near
 returns-then-digit-eq32-clause-near c = below c.loop-i.value c.loop-i.i c.loop-i.invariant.small c.loop-i.invariant.most

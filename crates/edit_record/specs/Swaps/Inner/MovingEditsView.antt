@@ -5,13 +5,12 @@ use Rattle.edit_record.specs.Lists.Journal.{JournalEntry}
 use Rattle.edit_record.specs.Lists.Pieces.{EditEntry, EditList, as_list}
 use Rattle.edit_record.specs.Lists.Validity.{AreValidEdits}
 use Rattle.edit_record.specs.Swaps.Swap.{SwapTo}
-use Rattle.edit_record.specs.Swaps.MoveToEndResult.{CanSwap, LengthMismatch, SomeMeet, SwapIsTooLong}
 use Rattle.edit_record.specs.Swaps.Inner.SwapState.{State, IsSwapDone}
 use Rattle.edit_record.specs.Swaps.Inner.RelativeEnds.{ends_of}
 use Rattle.edit_record.specs.Swaps.Inner.EditEnds.{with_ends, ends_at}
+use Rattle.edit_record.specs.Swaps.Inner.MovePastResult.{IsMovePastResult}
 use Rattle.edit_record.specs.declared.swaps.moving_edits.MovingEdits.{MovingEdits}
 use Rattle.edit_record.specs.declared.swaps.reorder.MoveFault.{MoveFault}
-use Rattle.edit_record.specs.declared.swaps.reorder.MoveFault.TheVariants.{Length, Blocked, TooLong, Memory}
 
 -- the edits where they are now
 abbrev pub edits_now : MovingEdits → EditList
@@ -33,12 +32,9 @@ pub record HasMovedPast (a b : EditList) (us : List EditEntry) (m n : MovingEdit
   pub old_len : n.old_len ≡ m.old_len
   pub new_len : n.new_len ≡ m.new_len
 
--- what moving edits after one record returns
+-- what moving edits after one record returns; its errors are those of `IsMovePastResult`
 abbrev pub MovesPastRecord : EditList → JournalEntry → ℕ → MovingEdits → Result Record MoveFault
     → Type 0
 MovesPastRecord a r k n (Ok before) =
     SwapTo a r.edits before.edits (edits_now n) × (before.word ≡ r.word) × IsWellFormed n
-MovesPastRecord a r k n (Err (Length expected found)) = LengthMismatch a r.edits expected found
-MovesPastRecord a r k n (Err (Blocked number)) = (number ≡ k) × SomeMeet a r.edits
-MovesPastRecord a r k n (Err TooLong) = SwapIsTooLong a r.edits
-MovesPastRecord a r k n (Err Memory) = CanSwap a r.edits
+MovesPastRecord a r k n (Err fault) = IsMovePastResult a r k (Err fault)

@@ -1,4 +1,4 @@
-use Rattle.hcl_layout.proofs.LaidTexts.{text_is_layout, text_parses, text_is_short, refused}
+use Rattle.hcl_layout.proofs.LayoutTexts.{text_is_layout, text_parses, text_is_short, refused}
 use Rattle.hcl_layout.proofs.format.formatted_text.Goals as goal
 
 pub returns-clause-layout : goal.returns-clause-layout

@@ -1,5 +1,5 @@
 use Rattle.std.specs.Prelude.{Bool}
-use Rattle.hcl_layout.proofs.LaidTexts.{answered, not_too_long, refused}
+use Rattle.hcl_layout.proofs.LayoutTexts.{answered, not_too_long, refused}
 use Rattle.hcl_layout.proofs.format.is_parsed_laid_out.Goals as goal
 
 pub returns-clause-answer : goal.returns-clause-answer

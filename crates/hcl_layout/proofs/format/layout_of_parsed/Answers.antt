@@ -1,5 +1,5 @@
 use Rattle.edit_record.specs.Lists.Pieces.{EditList}
-use Rattle.hcl_layout.proofs.LaidTexts.{layout_exists, refused}
+use Rattle.hcl_layout.proofs.LayoutTexts.{layout_exists, refused}
 use Rattle.hcl_layout.proofs.format.layout_of_parsed.Goals as goal
 
 pub returns-clause-edits : goal.returns-clause-edits

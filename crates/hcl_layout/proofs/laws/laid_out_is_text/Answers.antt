@@ -1,4 +1,4 @@
-use Rattle.hcl_layout.proofs.LaidCut.{laid_out_is_text}
+use Rattle.hcl_layout.proofs.LayoutTokens.{laid_out_is_text}
 use Rattle.hcl_layout.proofs.laws.laid_out_is_text.Goals as goal
 
 pub returns : goal.returns

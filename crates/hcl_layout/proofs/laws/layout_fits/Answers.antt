@@ -1,4 +1,4 @@
-use Rattle.hcl_layout.proofs.LaidCut.{layout_fits}
+use Rattle.hcl_layout.proofs.LayoutTokens.{layout_fits}
 use Rattle.hcl_layout.proofs.laws.layout_fits.Goals as goal
 
 pub returns : goal.returns

@@ -1,4 +1,4 @@
-use Rattle.hcl_layout.proofs.LaidTexts.{layout_is_laid_out}
+use Rattle.hcl_layout.proofs.LayoutTexts.{layout_is_laid_out}
 use Rattle.hcl_layout.proofs.laws.layout_is_laid_out.Goals as goal
 
 pub returns : goal.returns

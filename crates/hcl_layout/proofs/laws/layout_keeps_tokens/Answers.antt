@@ -1,4 +1,4 @@
-use Rattle.hcl_layout.proofs.LaidTexts.{layout_keeps_tokens}
+use Rattle.hcl_layout.proofs.LayoutTexts.{layout_keeps_tokens}
 use Rattle.hcl_layout.proofs.laws.layout_keeps_tokens.Goals as goal
 
 pub returns : goal.returns

@@ -1,4 +1,4 @@
-use Rattle.hcl_layout.proofs.LaidTexts.{layout_of_layout}
+use Rattle.hcl_layout.proofs.LayoutTexts.{layout_of_layout}
 use Rattle.hcl_layout.proofs.laws.layout_of_layout.Goals as goal
 
 pub returns : goal.returns

@@ -1,4 +1,4 @@
-use Rattle.hcl_layout.proofs.LaidTexts.{layout_parses}
+use Rattle.hcl_layout.proofs.LayoutTexts.{layout_parses}
 use Rattle.hcl_layout.proofs.laws.layout_parses.Goals as goal
 
 pub returns : goal.returns

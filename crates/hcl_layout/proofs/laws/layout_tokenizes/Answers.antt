@@ -1,4 +1,4 @@
-use Rattle.hcl_layout.proofs.LaidCut.{layout_tokenizes}
+use Rattle.hcl_layout.proofs.LayoutTokens.{layout_tokenizes}
 use Rattle.hcl_layout.proofs.laws.layout_tokenizes.Goals as goal
 
 pub returns : goal.returns

@@ -1,4 +1,4 @@
-use Rattle.hcl_layout.proofs.LaidTexts.{one_layout}
+use Rattle.hcl_layout.proofs.LayoutTexts.{one_layout}
 use Rattle.hcl_layout.proofs.laws.one_layout.Goals as goal
 
 pub returns : goal.returns

@@ -2,8 +2,9 @@
 use Rattle.std.specs.Prelude.{◌≡◌, ◌==◌, ◌&&◌, ◌||◌, ◌/◌, ◌≤◌, nat_le, nat_lt, ℕ, suc, Bool, true, false, not, slice_get, slice_range, List, [], ◌∷◌, ◌++◌, length, map, drop, reverse, ◌<◌, Option, Some, None, ⊤}
 use Rattle.std.specs.List.{list_any, list_all}
 use Rattle.hcl_token.specs.declared.kind.Kind.{Kind}
-use Rattle.hcl_token.specs.declared.kind.Kind.TheVariants.{HereOpen, LineComment, InlineComment}
-use Rattle.hcl_layout.specs.Gaps.Kinds.{is_equal, is_line_comment}
+use Rattle.hcl_token.specs.declared.kind.Kind.TheVariants.{HereOpen}
+use Rattle.hcl_token.specs.Kinds.{is_line_comment, is_comment}
+use Rattle.hcl_layout.specs.Gaps.Kinds.{is_equal}
 use Rattle.hcl_layout.specs.Gaps.Lines.{Line}
 use Rattle.hcl_token.specs.Tokens.{Pair}
 use Rattle.hcl_token.specs.TokenizedText.{gap_of, spelling_of}
@@ -53,11 +54,6 @@ AreInside count [] = ⊤
 AreInside count (None ∷ starts) = AreInside count starts
 AreInside count (Some p ∷ starts) = (p.token < count) × AreInside count starts
 
-abbrev pub is_comment : Kind → Bool
-is_comment LineComment = true
-is_comment InlineComment = true
-is_comment kind = false
-
 abbrev pub is_here_open : Kind → Bool
 is_here_open HereOpen = true
 is_here_open kind = false
@@ -82,13 +78,7 @@ pub record IsLine (pairs : List Pair) (at : ℕ) (frozen : Bool) (line : LineSpa
   pub split : SplitsLine pairs at frozen line.past line.next_frozen
   pub flags : frozen ≡ false → HasFlags pairs at line
 
--- the lines of a text from a token on, where that begins in a heredoc or not
-abbrev pub AreLines : List Pair → ℕ → Bool → List LineSpan → Type 0
-AreLines pairs at frozen [] = at ≡ length pairs
-AreLines pairs at frozen (line ∷ lines) =
-    IsLine pairs at frozen line × AreLines pairs line.past line.next_frozen lines
-
--- the token that line i begins at, where the first line begins at this one, and whether it begins
+-- the token that span i begins at, where the first span begins at this one, and whether it begins
 -- in a heredoc
 abbrev pub line_start : ℕ → List LineSpan → ℕ → ℕ
 line_start at (line ∷ lines) (suc i) = line_start line.past lines i
@@ -98,12 +88,12 @@ abbrev pub is_start_frozen : Bool → List LineSpan → ℕ → Bool
 is_start_frozen frozen (line ∷ lines) (suc i) = is_start_frozen line.next_frozen lines i
 is_start_frozen frozen lines i = frozen
 
--- by their flags these lines have no token that begins such a cell
+-- by their flags these spans have no token that begins such a cell
 abbrev pub LackCell : Cell → List LineSpan → ℕ → ℕ → Type 0
 LackCell cell lines from to =
     (k : ℕ) (line : LineSpan) → from ≤ k → k < to → Some line ≡ slice_get lines k → can_have_cell cell line ≡ false
 
--- by its flags this line can have one
+-- by its flags this span can have one
 abbrev pub CanHaveCell : Cell → List LineSpan → ℕ → Type 0
 CanHaveCell cell lines i = (line : LineSpan) → Some line ≡ slice_get lines i → can_have_cell cell line ≡ true
 

@@ -9,9 +9,9 @@ use Rattle.hcl_token.specs.Place.{is_mark}
 use Rattle.hcl_layout.specs.Gaps.Lines.{Line, heredocs_after, ends_line}
 use Rattle.hcl_layout.specs.Gaps.Indent.{openings, closings}
 use Rattle.hcl_layout.specs.Gaps.Space.{prev_after, prev_after_all, is_spaced, spaces}
-use Rattle.hcl_layout.specs.Gaps.Kinds.{is_line_end}
 use Rattle.hcl_scan.specs.Follows.{has_no_gap_before}
 use Rattle.hcl_token.specs.Joins.{joins_with}
+use Rattle.hcl_token.specs.Kinds.{is_line_end}
 use Rattle.hcl_layout.specs.Gaps.Cells.{width_before, with_cell_gap}
 use Rattle.hcl_layout.specs.Gaps.Layout.{format_line}
 
@@ -109,6 +109,10 @@ abbrev pub cell_gaps_from_width : ℕ → List (Option ℕ) → List (Option ℕ
 cell_gaps_from_width top [] = []
 cell_gaps_from_width top (Some w ∷ ws) = Some (1 + (top - w)) ∷ cell_gaps_from_width top ws
 cell_gaps_from_width top (None ∷ ws) = None ∷ cell_gaps_from_width (greatest ws) ws
+
+-- the greatest width that is before a cell of any text: 2 to the 30th
+abbrev pub MAX_WIDTH : ℕ
+MAX_WIDTH = 1073741824
 
 -- the widths are at most this
 abbrev pub AreAtMost : ℕ → List (Option ℕ) → Type 0

@@ -6,8 +6,8 @@ use Rattle.hcl_rescan.proofs.DepthLemmas.{depth_more, none_open}
 use Rattle.hcl_rescan.proofs.incremental.next_line_start.Goals as goal
 use Rattle.hcl_rescan.proofs.incremental.next_line_start.Goals.{then-ends_top_level_line+else-at-limit, else-ends_top_level_line}
 
-pub returns-then-at-limit : goal.returns-then-at-limit
-returns-then-at-limit c =
+pub returns-then-at-limit-clause-line_start : goal.returns-then-at-limit-clause-line_start
+returns-then-at-limit-clause-line_start c =
     let ordered : c.args.from.index ≤ c.loop-i.i = omega arith in
     let within : c.loop-i.i < length c.args.old.now.pairs = omega arith in
     let told = c.if-ends_top_level_line.ensures in

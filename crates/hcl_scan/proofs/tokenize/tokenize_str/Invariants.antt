@@ -4,7 +4,7 @@ use Rattle.hcl_scan.specs.Inner.Openings.{region_of, modes_of, places_of}
 use Rattle.hcl_scan.specs.Inner.TokenizedTo.{IsTokenizedTo}
 use Rattle.hcl_scan.proofs.tokenize.tokenize_str.Given as goal
 
--- the text up to the place is cut, and the region is that of the innermost opening
+-- the text up to the place is tokenized, and the region is that of the innermost opening
 abbrev pub invariant-scan : goal.invariant-scan
 invariant-scan l = record {
   tokenization : IsTokenizedTo l.text l.tokens.items l.at (modes_of l.openings.items) (places_of l.openings.items);

@@ -116,7 +116,7 @@ fn no_memory_rules(rt: HostRuntime) {
     begin(&rt);
     let rule = Rule::DeprecatedIndex;
     let others = RuleSet::all().without(rule);
-    let seen = [
+    let results = [
         rule.name() == "terraform_deprecated_index",
         Rule::by_name("terraform_deprecated_index") == Some(rule),
         Rule::by_name("terraform_required_version").is_none(),
@@ -126,7 +126,7 @@ fn no_memory_rules(rt: HostRuntime) {
         others.with(rule).has(rule),
         !RuleSet::none().has(rule),
     ];
-    assert!(rt; seen == [true; 8]);
+    assert!(rt; results == [true; 8]);
 }
 
 fn one_edit(rt: &impl Host) -> Vec<Edit> {
@@ -143,13 +143,13 @@ fn no_memory_edits(rt: HostRuntime) {
     let edits = given(&rt, Edits::make(3, edits));
     let lengths = [edits.old_len(), edits.new_len(), edits.edits().len()];
     let record = Record::make(Word::Fmt, edits);
-    let seen = [
+    let results = [
         is_refused,
         lengths == [3, 5, 1],
         record.word() == Word::Fmt,
         record.edits().old_len() == 3,
     ];
-    assert!(rt; seen == [true; 4]);
+    assert!(rt; results == [true; 4]);
 }
 
 #[test]
@@ -171,13 +171,13 @@ fn no_memory_session(rt: HostRuntime) {
     let mut session = Session::start(text, Journal::empty(rt.alloc()));
     let reply = session.step(rt.alloc(), Command::Revert);
     let written = given(&rt, journal_text(rt.alloc(), &session));
-    let seen = [
+    let results = [
         reply == Err(Fault::NoRecord),
         session.text() == FIRST,
         session.journal().records().is_empty(),
         written.is_empty(),
     ];
-    assert!(rt; seen == [true; 4]);
+    assert!(rt; results == [true; 4]);
 }
 
 #[test]
@@ -222,7 +222,7 @@ fn no_memory_read_and_write(rt: HostRuntime) {
     given(&rt, writer.flush());
     let had_failed = writer.failed();
     let is_refused = writer.write(&prefix).is_err();
-    let seen = [
+    let results = [
         read == 3,
         !reader.failed(),
         written == 3,
@@ -231,7 +231,7 @@ fn no_memory_read_and_write(rt: HostRuntime) {
         writer.failed(),
         writer.into_inner().buffer.as_slice() == b"x =".as_slice(),
     ];
-    assert!(rt; seen == [true; 7]);
+    assert!(rt; results == [true; 7]);
 }
 
 /// A journal whose text would be too long to be read.

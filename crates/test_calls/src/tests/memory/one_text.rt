@@ -29,7 +29,7 @@ fn parse(rt: HostRuntime) {
     begin(&rt);
     let answer = hcl_tree::parse(rt.alloc(), &scanned);
     let tree = answered(&rt, answer, ParseFault::Memory, true);
-    assert!(rt; tree.past == scanned.len());
+    assert!(rt; tree.past as usize == scanned.len());
     assert!(rt; tree.body.members.len() == 5);
 }
 
@@ -144,9 +144,10 @@ fn fixed_text(rt: HostRuntime) {
 
 #[test]
 fn remaining_lines(rt: HostRuntime) {
-    let mut session = session_of(&rt, TEXT, b"");
-    let (_, left) = given(&rt, session.fix(rt.alloc(), RuleSet::all()));
-    let issues = given(&rt, left.issues(rt.alloc(), session.text()));
+    let (session, _) = changed(&rt, TEXT, b"", Command::Fix(RuleSet::all()));
+    let parsed = given(&rt, parse_text(rt.alloc(), session.text()));
+    let issues = tf_lint::issues(rt.alloc(), &parsed.scanned, &parsed.tree, RuleSet::all());
+    let issues = given(&rt, issues);
     let right = given(&rt, lines_of_issues(rt.alloc(), "main.tf", &issues));
     let mut session = session_of(&rt, TEXT, b"");
     let (_, left) = given(&rt, session.fix(rt.alloc(), RuleSet::all()));
@@ -154,16 +155,6 @@ fn remaining_lines(rt: HostRuntime) {
     let answer = left.lines(rt.alloc(), "main.tf", session.text());
     let lines = answered(&rt, answer, AllocError, true);
     assert!(rt; lines.as_str() == right.as_str());
-}
-
-#[test]
-fn remaining_issues(rt: HostRuntime) {
-    let mut session = session_of(&rt, TEXT, b"");
-    let (done, left) = given(&rt, session.fix(rt.alloc(), RuleSet::all()));
-    begin(&rt);
-    let answer = left.issues(rt.alloc(), session.text());
-    let issues = answered(&rt, answer, LintFault::Memory, true);
-    assert!(rt; issues.len() == done.left);
 }
 
 fn are_same_changes(a: &Option<NewText>, b: &Option<NewText>) -> bool {

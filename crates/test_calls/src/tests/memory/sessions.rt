@@ -8,7 +8,7 @@ use super::fixtures::{
 use super::{answered, begin, wanted};
 use crate::tests::{Host, given};
 use std::alloc::AllocError;
-use tf_session::{Command, Done, Fault, Reply, RuleSet, Session};
+use tf_session::{Command, Done, Effect, Fault, Reply, RuleSet, RunFault, SavedTexts, Session};
 
 /// The session over this text and journal after a command, and what that did. If it runs out of
 /// memory it does nothing.
@@ -65,6 +65,40 @@ fn step_take(rt: HostRuntime) {
     let (session, done) = stepped(&rt, APART, APART_JOURNAL, Command::Take(1));
     assert!(rt; done.changed);
     assert!(rt; are_same_sessions(&session, &right));
+}
+
+/// What a command does to a file, by its bytes and those of its journal.
+fn invoked(rt: &impl Host, text: &[u8], journal: &[u8], command: Command) -> Effect {
+    let mut text = bytes_of(rt, text);
+    let journal = bytes_of(rt, journal);
+    begin(rt);
+    let answer = tf_session::invoke(rt.alloc(), &mut text, journal, command, "a.tf");
+    answered(rt, answer, RunFault::Memory, true)
+}
+
+/// Whether these are the texts that are to be saved.
+fn are_saved(saved: &Option<SavedTexts>, text: &[u8], journal: &[u8]) -> bool {
+    match saved {
+        Some(saved) => saved.text.as_slice() == text && saved.journal.as_slice() == journal,
+        None => false,
+    }
+}
+
+#[test]
+fn invoke_fix(rt: HostRuntime) {
+    let (right, right_done) = changed(&rt, TEXT, b"", fix_all());
+    let journal = given(&rt, tf_session::journal_text(rt.alloc(), &right));
+    let effect = invoked(&rt, TEXT, b"", fix_all());
+    assert!(rt; effect.done == right_done);
+    assert!(rt; are_saved(&effect.saved, right.text(), &journal));
+}
+
+#[test]
+fn invoke_fmt(rt: HostRuntime) {
+    let effect = invoked(&rt, b"x=1\n", b"", Command::Fmt);
+    let journal = b"tfrec 2 fmt 4 2\n1 0 1\n \n2 0 1\n \nend\n";
+    assert!(rt; are_saved(&effect.saved, b"x = 1\n", journal));
+    assert!(rt; effect.lines.as_slice() == b"a.tf\n".as_slice());
 }
 
 /// What `run` is given.

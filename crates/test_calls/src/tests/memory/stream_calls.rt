@@ -1,4 +1,4 @@
-//! Calls over readers and writers. Where they want memory they have written nothing.
+//! Calls over readers and writers. Where memory runs out they have written nothing.
 
 ghost use Rattle.std.specs.Prelude.{◌≡◌, false};
 ghost use Rattle.tf_stream.specs.Told.{has_failed};

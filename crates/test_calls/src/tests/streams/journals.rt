@@ -2,11 +2,11 @@
 
 ghost use Rattle.std.specs.Prelude.{Some};
 
-use super::{Hashes, Narrow};
+use super::{Hashes, ShortWrites};
 use crate::tests::{Host, given};
 use edit_record::{Edit, Edits, Record, Word};
 use std::alloc::Global;
-use tf_session::{Journal, Part, RunFault, Session, Told, load, revert_stream, save};
+use tf_session::{Journal, RunFault, Session, SessionPart, Told, load, revert_stream, save};
 
 #[test]
 fn a_journal_that_does_not_end_is_reported(rt: HostRuntime) {
@@ -40,8 +40,8 @@ fn a_journal_over_the_limit_is_not_saved(rt: HostRuntime) {
         given(&rt, journal.push(long_record(&rt, alloc)));
     }
     let session = Session::start(Vec::new(alloc), journal);
-    let mut journal_out = Told::new(Narrow::new(Vec::new(alloc), 1000, 5));
-    let mut text_out = Told::new(Narrow::new(Vec::new(alloc), 1000, 5));
+    let mut journal_out = Told::new(ShortWrites::new(Vec::new(alloc), 1000, 5));
+    let mut text_out = Told::new(ShortWrites::new(Vec::new(alloc), 1000, 5));
     let answer = save(alloc, &session, &mut journal_out, &mut text_out);
     assert!(rt; answer == Err(RunFault::Endless));
     assert_eq!(rt; journal_out.into_inner().writes, 0);
@@ -54,8 +54,8 @@ fn an_empty_journal_is_flushed(rt: HostRuntime) {
     let alloc = rt.alloc();
     let text = given(&rt, Vec::from_slice(alloc, b"a = 1\n"));
     let session = Session::start(text, Journal::empty(alloc));
-    let mut journal_out = Told::new(Narrow::new(Vec::new(alloc), 1000, 5));
-    let mut text_out = Told::new(Narrow::new(Vec::new(alloc), 1000, 5));
+    let mut journal_out = Told::new(ShortWrites::new(Vec::new(alloc), 1000, 5));
+    let mut text_out = Told::new(ShortWrites::new(Vec::new(alloc), 1000, 5));
     given(&rt, save(alloc, &session, &mut journal_out, &mut text_out));
     let journal = journal_out.into_inner();
     assert_eq!(rt; journal.writes, 0);
@@ -70,10 +70,10 @@ fn an_empty_journal_is_flushed(rt: HostRuntime) {
 #[test]
 fn a_failed_flush_of_an_empty_journal_is_reported(rt: HostRuntime) {
     let alloc = rt.alloc();
-    let mut writer = Narrow::new(Vec::new(alloc), 1000, 5);
+    let mut writer = ShortWrites::new(Vec::new(alloc), 1000, 5);
     writer.flush_fails_at = 1;
     let mut journal_out = Told::new(writer);
-    let mut text_out = Told::new(Narrow::new(Vec::new(alloc), 1000, 5));
+    let mut text_out = Told::new(ShortWrites::new(Vec::new(alloc), 1000, 5));
     let answer = revert_stream(
         alloc,
         &mut Told::new(b"x = 1\n".as_slice()),
@@ -81,7 +81,7 @@ fn a_failed_flush_of_an_empty_journal_is_reported(rt: HostRuntime) {
         &mut journal_out,
         &mut text_out,
     );
-    let part = Part::Journal;
+    let part = SessionPart::Journal;
     assert!(rt; answer == Err(RunFault::Write { part, sent: 0 }));
     assert_eq!(rt; journal_out.into_inner().writes, 0);
     let text = text_out.into_inner();

@@ -1,7 +1,7 @@
 //! `Told` forwards each call once, with its whole argument, and returns its answer: no clause can
 //! say so if the bytes are unknown.
 
-use super::{Hashes, Narrow};
+use super::{Hashes, ShortWrites};
 use crate::tests::given;
 use std::io::{Read, Write};
 use tf_stream::Told;
@@ -28,7 +28,7 @@ fn reads_are_forwarded_once(rt: HostRuntime) {
 
 #[test]
 fn writes_and_flushes_are_forwarded_once(rt: HostRuntime) {
-    let mut writer = Narrow::new(Vec::new(rt.alloc()), 8, 8);
+    let mut writer = ShortWrites::new(Vec::new(rt.alloc()), 8, 8);
     writer.write_fails_at = 4;
     writer.flush_fails_at = 2;
     let mut writer = Told::new(writer);
@@ -50,7 +50,7 @@ fn writes_and_flushes_are_forwarded_once(rt: HostRuntime) {
 
 #[test]
 fn a_write_that_takes_nothing_has_failed(rt: HostRuntime) {
-    let mut writer = Told::new(Narrow::new(Vec::new(rt.alloc()), 0, 2));
+    let mut writer = Told::new(ShortWrites::new(Vec::new(rt.alloc()), 0, 2));
     assert!(rt; given(&rt, writer.write(b"")) == 0);
     assert!(rt; !writer.failed());
     assert!(rt; given(&rt, writer.write(b"d")) == 0);

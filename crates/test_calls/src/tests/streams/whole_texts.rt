@@ -3,7 +3,7 @@
 
 ghost use Rattle.std.specs.Prelude.{Some};
 
-use super::{Hashes, Narrow};
+use super::{Hashes, ShortWrites};
 use crate::tests::given;
 use tf_stream::{ReadFault, Told, WriteFault, read_to_limit, write_and_flush};
 
@@ -12,14 +12,14 @@ const TEXT: &[u8] = b"a   = 1\nbcd = 2\n";
 #[test]
 fn a_text_is_put_and_flushed_once(rt: HostRuntime) {
     for step in 1..18usize {
-        let mut writer = Told::new(Narrow::new(Vec::new(rt.alloc()), 100, step));
+        let mut writer = Told::new(ShortWrites::new(Vec::new(rt.alloc()), 100, step));
         given(&rt, write_and_flush(TEXT, &mut writer));
         let writer = writer.into_inner();
         assert!(rt; writer.written.as_slice() == TEXT);
         assert_eq!(rt; writer.writes, 16usize.div_ceil(step) as u64);
         assert_eq!(rt; writer.flushes, 1);
     }
-    let mut writer = Narrow::new(Vec::new(rt.alloc()), 100, 3);
+    let mut writer = ShortWrites::new(Vec::new(rt.alloc()), 100, 3);
     writer.flush_fails_at = 1;
     let mut writer = Told::new(writer);
     assert_eq!(rt;
@@ -33,7 +33,7 @@ fn a_text_is_put_and_flushed_once(rt: HostRuntime) {
 fn a_write_that_fails_or_takes_nothing_is_the_last(rt: HostRuntime) {
     for k in 0..16usize {
         for fails in [false, true] {
-            let mut writer = Narrow::new(Vec::new(rt.alloc()), if fails { 100 } else { k }, 1);
+            let mut writer = ShortWrites::new(Vec::new(rt.alloc()), if fails { 100 } else { k }, 1);
             writer.write_fails_at = if fails { k as u64 + 1 } else { 0 };
             let mut writer = Told::new(writer);
             assert_eq!(rt;

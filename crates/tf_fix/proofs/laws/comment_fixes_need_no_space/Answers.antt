@@ -4,4 +4,4 @@ use Rattle.tf_fix.proofs.CommentLemmas.{comments_settled}
 use Rattle.tf_fix.proofs.laws.comment_fixes_need_no_space.Goals as goal
 
 pub returns : goal.returns
-returns c = λ tokenized findings apart of sound. comments_settled CommentSyntax tokenized findings refl apart of sound
+returns c = λ tokenized findings apart of valid. comments_settled CommentSyntax tokenized findings refl apart of valid

@@ -48,8 +48,8 @@ pub returns-clause-few : goal.returns-clause-few
 returns-clause-few c =
     let (p, is) = c.requires.found in
     let own = filter (is_found_by c.args.rule) c.args.found.now in
-    let sound = valid_kept (length c.args.scanned.now.pairs) (is_found_by c.args.rule) c.args.found.now c.requires.valid in
-    rw c.selected_count-count.ensures (c.selected_are_within_limit.ensures _ _ _ own is.1.1 (subst (λ (s : TokenizedText). AreValidFindings (length s.pairs) own) (sym is.0) sound))
+    let valid = valid_kept (length c.args.scanned.now.pairs) (is_found_by c.args.rule) c.args.found.now c.requires.valid in
+    rw c.selected_count-count.ensures (c.selected_are_within_limit.ensures _ _ _ own is.1.1 (subst (λ (s : TokenizedText). AreValidFindings (length s.pairs) own) (sym is.0) valid))
 
 pub returns-in_err-edits-clause-fault : goal.returns-in_err-edits-clause-fault
 returns-in_err-edits-clause-fault c = λ p h.

@@ -8,7 +8,7 @@ use Rattle.tf_lint.proofs.body.lint_body.Given as goal
 
 abbrev pub invariant-loop-turn : goal.invariant-loop-turn
 invariant-loop-turn l =
-    let ts = tokens_of l.scanned.pairs in
+    let ts = tokens_of l.search.scanned.now.pairs in
     (ms : List Member)
     × (members_from ts MAX_NESTING (deeper_members ts MAX_NESTING) (length ts) [] l.fn.at ≡ members_from ts MAX_NESTING (deeper_members ts MAX_NESTING) (l._turn-end - l._turn) ms l.at)
-    × AreBodyFindings l.rules l.scanned.pairs ms l.found
+    × AreBodyFindings l.search.rules l.search.scanned.now.pairs ms l.found

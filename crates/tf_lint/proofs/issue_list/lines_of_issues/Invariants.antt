@@ -2,8 +2,8 @@
 use Rattle.std.proofs.Common.{◌≡◌, take}
 use Rattle.std.specs.Prelude.{string_bytes}
 use Rattle.tf_lint.specs.Issues.{reports}
-use Rattle.tf_lint.specs.Reports.{lines_of}
+use Rattle.tf_lint.specs.Reports.{report_lines}
 use Rattle.tf_lint.proofs.issue_list.lines_of_issues.Given as goal
 
 abbrev pub invariant-loop-issue : goal.invariant-loop-issue
-invariant-loop-issue l = string_bytes l.lines ≡ lines_of l.name (reports (take l.issue-index l.found))
+invariant-loop-issue l = string_bytes l.lines ≡ report_lines l.name (reports (take l.issue-index l.found))

@@ -1,4 +1,4 @@
--- The parser's fault is the text's.
+-- The parser's error is the text's.
 use Rattle.std.proofs.Common.{◌≡◌, List, ℕ, sym, subst}
 use Rattle.std.specs.Prelude.{Result, IfErr}
 use Rattle.hcl_text_laws.specs.Parses.{Parses}

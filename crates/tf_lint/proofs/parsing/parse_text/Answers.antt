@@ -1,4 +1,4 @@
--- The parser's fault is the text's.
+-- The parser's error is the text's.
 use Rattle.std.proofs.Common.{List, ℕ, sym, subst}
 use Rattle.hcl_text_laws.specs.Parses.{Parses}
 use Rattle.tf_lint.specs.Faults.{fault_of_parse}

@@ -56,7 +56,7 @@ returns-in-NoChange-clause-made n c = λ order count p all old is leads.
 
 pub returns-in-NoChange-clause-left : goal.returns-in-NoChange-clause-left
 returns-in-NoChange-clause-left n c =
-    let (order, count, p, is) = c.requires.advanced in (p, is.reads, is.previous.tokens, is.findings_are, is.sound)
+    let (order, count, p, is) = c.requires.advanced in (p, is.reads, is.previous.tokens, is.findings_are, is.valid)
 
 pub returns-in_err-next-in-Changed-clause-fault : goal.returns-in_err-next-in-Changed-clause-fault
 returns-in_err-next-in-Changed-clause-fault n c = λ order count p by is.

@@ -29,7 +29,7 @@ returns-in_err-found_change-clause-fault c =
     residual c.from_residual-in_err-found_change.result e (Refuses c.args.rules c.args.text.now) c.from_residual-in_err-found_change.ensures
     (first_refuses c.args.rules c.args.text.now p e reads runs)
 
--- what was found in a text that was searched, by the rules that were asked
+-- what was found in a text that was searched, by the rules that were given
 finds_here : (s : LintedText) (p : Parsed) (rules : RuleSet) (found : List Finding) → found ≡ s.found.items → s.rules ≡ rules → IsLintOf p s → RulesFind rules p found
 finds_here s p rules found same asked h = subst (λ (r : RuleSet). RulesFind r p found) asked (subst (RulesFind s.rules p) (sym same) h.findings_are)
 
@@ -41,7 +41,7 @@ returns-in-NoChange-clause-outcome c =
     let found = c.into_previous-previous.ensures.found in
     let finds = finds_here linted p c.args.rules _ found c.in_ok-linted.ensures.rules h in (
       none_changed c.args.rules c.args.text.now p c.in-NoChange.fixed c.into_previous-previous.result.1.items reads finds (subst (IsFirstChange c.args.rules all_rules p 0) c.in-NoChange.is told),
-      (p, reads, (c.into_previous-previous.ensures.before p h).tokens, finds, subst (AreValidFindings (length p.scanned.pairs)) (sym found) h.sound),
+      (p, reads, (c.into_previous-previous.ensures.before p h).tokens, finds, subst (AreValidFindings (length p.scanned.pairs)) (sym found) h.valid),
     )
 
 pub returns-in_err-first-in-Changed-clause-fault : goal.returns-in_err-first-in-Changed-clause-fault

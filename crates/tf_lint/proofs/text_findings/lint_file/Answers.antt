@@ -13,7 +13,7 @@ use Rattle.tf_lint.proofs.text_findings.lint_file.Goals as goal
 
 pub returns-in_err-members-clause-fault : goal.returns-in_err-members-clause-fault
 returns-in_err-members-clause-fault c =
-    let ts = tokens_of c.args.scanned.now.pairs in
+    let ts = tokens_of c.args.search.now.scanned.now.pairs in
     let i = c.args.at.now in
     let f = c.in_err-members.field-0.0 in
     residual c.from_residual.result f (λ (e : TokenFault). e ≢ Memory → spec.file ts MAX_NESTING i ≡ Err e) c.from_residual.ensures
@@ -21,7 +21,7 @@ returns-in_err-members-clause-fault c =
 
 pub returns-in_err-expect_end-clause-fault : goal.returns-in_err-expect_end-clause-fault
 returns-in_err-expect_end-clause-fault c =
-    let ts = tokens_of c.args.scanned.now.pairs in
+    let ts = tokens_of c.args.search.now.scanned.now.pairs in
     let i = c.args.at.now in
     let f = c.in_err-expect_end.field-0.0 in
     let linted = c.in_ok-members.ensures.members_linted in
@@ -30,11 +30,11 @@ returns-in_err-expect_end-clause-fault c =
 
 pub returns-clause-found : goal.returns-clause-found
 returns-clause-found c =
-    let ts = tokens_of c.args.scanned.now.pairs in
+    let ts = tokens_of c.args.search.now.scanned.now.pairs in
     let i = c.args.at.now in
     let linted = c.in_ok-members.ensures.members_linted in
     let j = c.lint_body.new.at in (
       file_tree ts MAX_NESTING i linted.0 j,
       file_read ts MAX_NESTING i linted.0 c.eat-is_mark.new.at j c.eat-is_comment.new.at c.expect_end.new.at (rw c.new-reader.ensures at c.eat-is_mark.ensures.after) linted.1 (rw c.new-reader.ensures at c.eat-is_comment.ensures.after) (rw c.new-reader.ensures at c.in_ok-expect_end.ensures),
-      subst (λ (ms : List Member). AreBodyFindings c.args.rules c.args.scanned.now.pairs ms c.in_ok-members.members) (sym (its_members ts MAX_NESTING i linted.0 j)) linted.2,
+      subst (λ (ms : List Member). AreBodyFindings c.args.search.now.rules c.args.search.now.scanned.now.pairs ms c.in_ok-members.members) (sym (its_members ts MAX_NESTING i linted.0 j)) linted.2,
     )

@@ -1,4 +1,4 @@
--- By the laws on cuts, faults, layouts and fixes.
+-- By the laws on tokens, errors, layouts and fixes.
 use Rattle.tf_session.proofs.ResultIsUnique.{one_answer}
 use Rattle.tf_session.proofs.laws.command_result_is_unique.Goals as goal
 

@@ -1,4 +1,4 @@
-use Rattle.tf_session.proofs.RemovalIsUnique.{take_has_one_answer}
+use Rattle.tf_session.proofs.TakeIsUnique.{take_has_one_answer}
 use Rattle.tf_session.proofs.laws.take_result_is_unique.Goals as goal
 
 pub returns : goal.returns

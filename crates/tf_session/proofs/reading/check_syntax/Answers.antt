@@ -1,4 +1,4 @@
--- The steps' facts on a text that is read, and their fault.
+-- What the steps say of a text that parses, and their error.
 use Rattle.std.proofs.Common.{sym, subst}
 use Rattle.tf_session.specs.declared.command.Fault.{Fault}
 use Rattle.tf_session.specs.Rewrites.{IsReadFault}

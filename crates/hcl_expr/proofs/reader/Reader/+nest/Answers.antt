@@ -12,7 +12,7 @@ use Rattle.hcl_expr.specs.ReaderRules as spec
 use Rattle.hcl_expr.specs.ReaderRules.{ReaderState}
 use Rattle.hcl_expr.proofs.reader.Reader.+nest.Goals as goal
 
--- ---- an expression, by what is asked for
+-- ---- an expression, by its goal
 
 expr-is : (ts : List Token) (d : ℕ) (m : Bool) (g : Goal) (i : ℕ) → (under ts d).expr m g i ≡ p.goal ts d (deeper ts d) m g i
 unfolding under
@@ -127,7 +127,7 @@ no_tails t (suc n) i none = rw none refl
 pub post-returns-then-not-has_tail : goal.post-returns-then-not-has_tail
 post-returns-then-not-has_tail t c =
     let e = no_tails c.args.self.now (length c.args.self.now.tokens) _ (c.has_tail.ensures c.if-not-has_tail.true) in
-    rw (c.in_ok-head.ensures {u = tt}, e) c.term_expr.ensures.node
+    rw (c.in_ok-head.ensures {u = tt}, e, c.term_expr.ensures) refl
 
 pub tails-returns-in_err-tail : goal.tails-returns-in_err-tail
 unfolding tails_from

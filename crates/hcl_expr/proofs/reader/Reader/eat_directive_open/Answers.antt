@@ -1,5 +1,5 @@
 use Rattle.std.proofs.Common.{sym, ◌∙◌}
-use Rattle.hcl_expr.proofs.Behind.{nothing_after}
+use Rattle.hcl_expr.proofs.AfterLast.{nothing_after}
 use Rattle.hcl_expr.proofs.reader.Reader.eat_directive_open.Goals as goal
 
 pub returns-in-None-clause-found : goal.returns-in-None-clause-found

@@ -1,7 +1,7 @@
 use Rattle.std.proofs.Common.{take, sym, subst, List, Option, ℕ, arith}
 use Rattle.std.proofs.lemmas.List.{length-take-le}
 use Rattle.hcl_layout.specs.Gaps.Inner.CodeViews.{widths_of, tokens_in, AreStarts, AreInside}
-use Rattle.hcl_layout.specs.Gaps.Inner.Stages.{AreAtMost, with_gaps}
+use Rattle.hcl_layout.specs.Gaps.Inner.Stages.{AreAtMost, with_gaps, MAX_WIDTH}
 use Rattle.hcl_layout.specs.declared.gaps.cells.CellStart.{CellStart}
 use Rattle.hcl_layout.proofs.GapsLemmas.CellGaps.{gaps_length}
 use Rattle.hcl_layout.proofs.GapsLemmas.CellCode.{aligned_gaps, first_after}
@@ -17,8 +17,8 @@ pub set_cell_gaps-requires-clause-bounded : goal.set_cell_gaps-requires-clause-b
 set_cell_gaps-requires-clause-bounded c =
     let ps = c.args.scanned.now.pairs in
     let starts = subst (λ (g : List ℕ). AreStarts c.args.cell g ps c.args.first c.in_ok-starts.starts.items) c.deref.ensures.value c.in_ok-starts.ensures in
-    subst (λ (ss : List (Option CellStart)). AreAtMost 1073741824 (widths_of ss)) (sym c.deref-2.ensures.value)
-    (starts_most c.args.cell c.args.gaps.now.items ps c.args.first 1073741824 c.in_ok-starts.starts.items starts (subst (AreAtMost 1073741824) (sym starts.sizes) c.requires.bounded))
+    subst (λ (ss : List (Option CellStart)). AreAtMost MAX_WIDTH (widths_of ss)) (sym c.deref-2.ensures.value)
+    (starts_most c.args.cell c.args.gaps.now.items ps c.args.first MAX_WIDTH c.in_ok-starts.starts.items starts (subst (AreAtMost MAX_WIDTH) (sym starts.sizes) c.requires.bounded))
 
 pub returns-clause-aligned : goal.returns-clause-aligned
 returns-clause-aligned c =

@@ -1,4 +1,5 @@
 use Rattle.std.proofs.Common.{arith, ap, ◌∙◌, Some}
+use Rattle.hcl_layout.specs.Gaps.Inner.Stages.{MAX_WIDTH}
 use Rattle.hcl_layout.proofs.GapsLemmas.CellCode.{no_start, some_start, start_in_bounds}
 use Rattle.hcl_layout.proofs.gaps.cells.cell_start.Goals as goal
 
@@ -10,7 +11,7 @@ returns-in-None-clause-token c = (no_start c.args.cell c.args.gaps.now c.args.sc
 
 pub width-requires-clause-bounded : goal.width-requires-clause-bounded
 width-requires-clause-bounded c =
-    let h = start_in_bounds c.args.cell c.args.gaps.now c.args.scanned.now.pairs c.args.at c.args.line.past c.args.frozen c.in-Some.i 1073741824 c.requires.same c.in-Some.ensures.cell c.in-Some.ensures.inside.0 c.in-Some.ensures.inside.1 c.requires.bounded in
+    let h = start_in_bounds c.args.cell c.args.gaps.now c.args.scanned.now.pairs c.args.at c.args.line.past c.args.frozen c.in-Some.i MAX_WIDTH c.requires.same c.in-Some.ensures.cell c.in-Some.ensures.inside.0 c.in-Some.ensures.inside.1 c.requires.bounded in
     omega (arith, h)
 
 pub returns-in-Some-clause-width : goal.returns-in-Some-clause-width

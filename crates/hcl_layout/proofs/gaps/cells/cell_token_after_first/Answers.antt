@@ -1,7 +1,5 @@
-use Rattle.std.proofs.Common.{slice_range, ◌+◌, refl, sym, ◌∙◌}
+use Rattle.std.proofs.Common.{◌+◌, refl, sym, ◌∙◌}
 use Rattle.hcl_layout.proofs.GapsLemmas.CellCode.{found_from_next, found_here, found_none, found_begins}
-use Rattle.hcl_layout.specs.Gaps.Inner.CodeViews.{starts_cell}
-use Rattle.hcl_layout.proofs.GapsLemmas.LineFlagLemmas.{none_later}
 use Rattle.hcl_layout.proofs.gaps.cells.cell_token_after_first.Goals as goal
 
 pub loop-i-preserved : goal.loop-i-preserved
@@ -18,7 +16,3 @@ pub returns-clause-found : goal.returns-clause-found
 returns-clause-found c =
     sym (found_none c.args.cell c.args.scanned.now.pairs c.loop-i.i c.args.past c.loop-i-test.false)
     ∙ (c.loop-i.invariant ∙ found_begins c.args.cell c.args.scanned.now.pairs c.args.at c.args.past (c.args.at + 1) c.requires.ordered c.requires.within refl)
-
-pub returns-then-not-can_have_cell-clause-found : goal.returns-then-not-can_have_cell-clause-found
-returns-then-not-can_have_cell-clause-found c =
-    none_later (starts_cell c.args.cell) c.args.at (slice_range c.args.scanned.now.pairs c.args.at c.args.past) (c.requires.none c.if-not-can_have_cell.true)

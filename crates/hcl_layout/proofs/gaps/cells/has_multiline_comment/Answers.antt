@@ -1,6 +1,5 @@
-use Rattle.std.proofs.Common.{slice_range, sym, ◌∙◌}
+use Rattle.std.proofs.Common.{sym, ◌∙◌}
 use Rattle.hcl_layout.proofs.GapsLemmas.CellCode.{breaks_next, breaks_found, breaks_none, breaks_is}
-use Rattle.hcl_layout.proofs.GapsLemmas.LineFlagLemmas.{quiet_breaks}
 use Rattle.hcl_layout.proofs.gaps.cells.has_multiline_comment.Goals as goal
 
 pub returns-then-is_multiline_comment_at : goal.returns-then-is_multiline_comment_at
@@ -17,6 +16,3 @@ pub returns : goal.returns
 returns c =
     sym (breaks_none c.args.scanned.now.pairs c.loop-i.i c.args.past c.loop-i-test.false)
     ∙ (c.loop-i.invariant ∙ breaks_is c.args.scanned.now.pairs c.args.at c.args.past)
-
-pub returns-then-not-has_comment : goal.returns-then-not-has_comment
-returns-then-not-has_comment c = quiet_breaks (slice_range c.args.scanned.now.pairs c.args.at c.args.past) (c.requires.has_comment c.if-not-has_comment.true)

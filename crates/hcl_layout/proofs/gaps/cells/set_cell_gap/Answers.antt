@@ -1,6 +1,6 @@
 use Rattle.std.proofs.Common.{◌+◌, arith, sym, ap, ◌∙◌}
 use Rattle.hcl_layout.specs.Gaps.Inner.CodeViews.{widths_of, tokens_in}
-use Rattle.hcl_layout.specs.Gaps.Inner.Stages.{greatest, set_cell_gaps, cell_gaps_from_width}
+use Rattle.hcl_layout.specs.Gaps.Inner.Stages.{greatest, set_cell_gaps, cell_gaps_from_width, MAX_WIDTH}
 use Rattle.std.specs.Prelude.{slice_set, drop}
 use Rattle.hcl_layout.proofs.GapsLemmas.CellCode.{cell_gap_some, cell_gap_none, inside_at, top_within}
 use Rattle.hcl_layout.proofs.gaps.cells.set_cell_gap.Goals as goal
@@ -20,4 +20,4 @@ returns-in-None-clause-filled c =
 
 pub returns-in-None-clause-run_width : goal.returns-in-None-clause-run_width
 returns-in-None-clause-run_width c =
-    omega (arith, top_within 1073741824 (c.args.i + 1) c.args.starts.now c.requires.bounded, c.greatest.ensures ∙ ap (λ ps. greatest (widths_of ps)) c.starts_from.ensures)
+    omega (arith, top_within MAX_WIDTH (c.args.i + 1) c.args.starts.now c.requires.bounded, c.greatest.ensures ∙ ap (λ ps. greatest (widths_of ps)) c.starts_from.ensures)

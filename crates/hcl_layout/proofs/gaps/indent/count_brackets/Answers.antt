@@ -1,5 +1,6 @@
 use Rattle.std.proofs.Common.{◌≤◌, ◌<◌, length, ap, arith}
-use Rattle.hcl_layout.specs.Gaps.Indent.{is_opening, is_closing, openings, closings}
+use Rattle.hcl_token.specs.Kinds.{is_opening, is_closing}
+use Rattle.hcl_layout.specs.Gaps.Indent.{openings, closings}
 use Rattle.hcl_layout.proofs.GapsLemmas.LineLemmas.{none_there}
 use Rattle.hcl_layout.proofs.GapsLemmas.LinePass.{count_more, one_at_most}
 use Rattle.hcl_layout.proofs.gaps.indent.count_brackets.Goals as goal

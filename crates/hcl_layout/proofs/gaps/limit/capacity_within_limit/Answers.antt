@@ -1,7 +1,7 @@
 use Rattle.std.proofs.Common.{◌∙◌, arith}
 use Rattle.hcl_layout.proofs.GapsLemmas.Copied.{most_len}
 use Rattle.hcl_layout.proofs.GapsLemmas.EditLemmas.{last_at}
-use Rattle.hcl_layout.proofs.GapsLemmas.Few.{few_tokens}
+use Rattle.hcl_scan.proofs.TokenCount.{few_tokens}
 use Rattle.hcl_layout.proofs.gaps.limit.capacity_within_limit.Goals as goal
 
 pub total_space_count-requires : goal.total_space_count-requires

@@ -1,7 +1,7 @@
 use Rattle.std.proofs.Common.{arith}
 use Rattle.hcl_layout.proofs.GapsLemmas.Copied.{item_order, item_step}
 use Rattle.hcl_layout.proofs.GapsLemmas.EditLemmas.{length_end}
-use Rattle.hcl_layout.proofs.GapsLemmas.Few.{few_tokens}
+use Rattle.hcl_scan.proofs.TokenCount.{few_tokens}
 use Rattle.hcl_layout.proofs.gaps.limit.len_within_limit.Goals as goal
 
 pub token_len-total-requires-clause-gap : goal.token_len-total-requires-clause-gap

@@ -1,6 +1,7 @@
 use Rattle.std.proofs.Common.{◌≡◌, ◌+◌, ◌-◌, ◌<◌, ◌≤◌, [], false, length, take, slice_range, slice_set, sym, ap, subst, ◌∙◌, arith}
 use Rattle.std.proofs.lemmas.List.{take_more_set, length-set}
 use Rattle.hcl_token.specs.TokenizedText.{kind_of}
+use Rattle.hcl_scan.specs.Tokenization.{MAX_TEXT}
 use Rattle.hcl_layout.specs.Gaps.Space.{prev_after_all}
 use Rattle.hcl_layout.specs.Gaps.Inner.CodeViews.{is_here_open}
 use Rattle.hcl_layout.proofs.GapsLemmas.LineLemmas.{IsInLine, in_line_begins}
@@ -27,7 +28,7 @@ returns-then-marks-ge-LINE_END-clause-line c =
     let i = c.loop-i.i in
     let old = c.loop-i.invariant in
     let inside : i - 1 < length ps = omega (arith, c.loop-i-test.true, c.len-i-end.ensures.value) in
-    let few : i ≤ 16777216 = omega (arith, c.loop-i-test.true, c.len-i-end.ensures.value, c.requires.within_limit) in
+    let few : i ≤ MAX_TEXT = omega (arith, c.loop-i-test.true, c.len-i-end.ensures.value, c.requires.within_limit) in
     let step : i ≡ i - 1 + 1 = omega (arith, c.loop-i.auto.i) in
     let counts = counts_more ps c.args.at (i - 1) i c.loop-i.a c.loop-i.brackets c.loop-i.marks c.bracket_number-brackets.result c.mark_number-marks.result (omega (arith, c.loop-i.auto.i)) inside step old.a c.bracket_number-brackets.ensures c.mark_number-marks.ensures old.counts in
     let ends = ends_if ps c.args.at i _ _ c.loop-i.a few counts c.if-marks-ge-LINE_END.true in
@@ -41,7 +42,7 @@ returns-then-marks-ge-LINE_END-clause-opened c =
     let i = c.loop-i.i in
     let old = c.loop-i.invariant in
     let inside : i - 1 < length ps = omega (arith, c.loop-i-test.true, c.len-i-end.ensures.value) in
-    let few : i ≤ 16777216 = omega (arith, c.loop-i-test.true, c.len-i-end.ensures.value, c.requires.within_limit) in
+    let few : i ≤ MAX_TEXT = omega (arith, c.loop-i-test.true, c.len-i-end.ensures.value, c.requires.within_limit) in
     let step : i ≡ i - 1 + 1 = omega (arith, c.loop-i.auto.i) in
     let counts = counts_more ps c.args.at (i - 1) i c.loop-i.a c.loop-i.brackets c.loop-i.marks c.bracket_number-brackets.result c.mark_number-marks.result (omega (arith, c.loop-i.auto.i)) inside step old.a c.bracket_number-brackets.ensures c.mark_number-marks.ensures old.counts in
     opened_is ps c.args.at i _ _ _ c.passed_line.result.opened c.passed_line.result.line.past few counts c.passed_line.ensures.past c.passed_line.ensures.opened
@@ -52,7 +53,7 @@ returns-then-marks-ge-LINE_END-clause-closed c =
     let i = c.loop-i.i in
     let old = c.loop-i.invariant in
     let inside : i - 1 < length ps = omega (arith, c.loop-i-test.true, c.len-i-end.ensures.value) in
-    let few : i ≤ 16777216 = omega (arith, c.loop-i-test.true, c.len-i-end.ensures.value, c.requires.within_limit) in
+    let few : i ≤ MAX_TEXT = omega (arith, c.loop-i-test.true, c.len-i-end.ensures.value, c.requires.within_limit) in
     let step : i ≡ i - 1 + 1 = omega (arith, c.loop-i.auto.i) in
     let counts = counts_more ps c.args.at (i - 1) i c.loop-i.a c.loop-i.brackets c.loop-i.marks c.bracket_number-brackets.result c.mark_number-marks.result (omega (arith, c.loop-i.auto.i)) inside step old.a c.bracket_number-brackets.ensures c.mark_number-marks.ensures old.counts in
     closed_is ps c.args.at i _ _ _ c.passed_line.result.closed c.passed_line.result.line.past few counts c.passed_line.ensures.past c.passed_line.ensures.closed
@@ -73,7 +74,7 @@ loop-i-preserved c =
     let i = c.loop-i.i in
     let old = c.loop-i.invariant in
     let inside : i - 1 < length ps = omega (arith, c.loop-i-test.true, c.len-i-end.ensures.value) in
-    let few : i ≤ 16777216 = omega (arith, c.loop-i-test.true, c.len-i-end.ensures.value, c.requires.within_limit) in
+    let few : i ≤ MAX_TEXT = omega (arith, c.loop-i-test.true, c.len-i-end.ensures.value, c.requires.within_limit) in
     let step : i ≡ i - 1 + 1 = omega (arith, c.loop-i.auto.i) in
     let counts = counts_more ps c.args.at (i - 1) i c.loop-i.a c.loop-i.brackets c.loop-i.marks c.bracket_number-brackets.result c.mark_number-marks.result (omega (arith, c.loop-i.auto.i)) inside step old.a c.bracket_number-brackets.ensures c.mark_number-marks.ensures old.counts in
     let continues_line = counts_if ps c.args.at i _ _ c.loop-i.a counts c.if-marks-ge-LINE_END.false in
@@ -99,7 +100,7 @@ returns-clause-line c =
     let top = c.loop-i.auto.i-end (omega (arith, c.requires.within, c.len-i-end.ensures.value)) in
     let end : i ≡ length ps = omega (arith, top, c.loop-i-test.false, c.len-i-end.ensures.value) in
     let inside : i - 1 < length ps = omega (arith, end, c.loop-i.auto.i) in
-    let few : c.len.result ≤ 16777216 = omega (arith, c.len.ensures.value, c.requires.within_limit) in
+    let few : c.len.result ≤ MAX_TEXT = omega (arith, c.len.ensures.value, c.requires.within_limit) in
     let step : c.len.result ≡ i - 1 + 1 = omega (arith, c.len.ensures.value, end, c.loop-i.auto.i) in
     let counts = counts_more ps c.args.at (i - 1) c.len.result c.loop-i.a c.loop-i.brackets c.loop-i.marks c.bracket_number-brackets-2.result c.mark_number-marks-2.result (omega (arith, c.loop-i.auto.i)) inside step old.a c.bracket_number-brackets-2.ensures c.mark_number-marks-2.ensures old.counts in
     let split = ends_last ps c.args.at (i - 1) c.len.result c.loop-i.a old.line c.requires.within (omega (arith, end, c.loop-i.auto.i)) c.len.ensures.value old.a in
@@ -114,7 +115,7 @@ returns-clause-opened c =
     let top = c.loop-i.auto.i-end (omega (arith, c.requires.within, c.len-i-end.ensures.value)) in
     let end : i ≡ length ps = omega (arith, top, c.loop-i-test.false, c.len-i-end.ensures.value) in
     let inside : i - 1 < length ps = omega (arith, end, c.loop-i.auto.i) in
-    let few : c.len.result ≤ 16777216 = omega (arith, c.len.ensures.value, c.requires.within_limit) in
+    let few : c.len.result ≤ MAX_TEXT = omega (arith, c.len.ensures.value, c.requires.within_limit) in
     let step : c.len.result ≡ i - 1 + 1 = omega (arith, c.len.ensures.value, end, c.loop-i.auto.i) in
     let counts = counts_more ps c.args.at (i - 1) c.len.result c.loop-i.a c.loop-i.brackets c.loop-i.marks c.bracket_number-brackets-2.result c.mark_number-marks-2.result (omega (arith, c.loop-i.auto.i)) inside step old.a c.bracket_number-brackets-2.ensures c.mark_number-marks-2.ensures old.counts in
     opened_is ps c.args.at c.len.result _ _ _ c.passed_line-2.result.opened c.passed_line-2.result.line.past few counts c.passed_line-2.ensures.past c.passed_line-2.ensures.opened
@@ -127,7 +128,7 @@ returns-clause-closed c =
     let top = c.loop-i.auto.i-end (omega (arith, c.requires.within, c.len-i-end.ensures.value)) in
     let end : i ≡ length ps = omega (arith, top, c.loop-i-test.false, c.len-i-end.ensures.value) in
     let inside : i - 1 < length ps = omega (arith, end, c.loop-i.auto.i) in
-    let few : c.len.result ≤ 16777216 = omega (arith, c.len.ensures.value, c.requires.within_limit) in
+    let few : c.len.result ≤ MAX_TEXT = omega (arith, c.len.ensures.value, c.requires.within_limit) in
     let step : c.len.result ≡ i - 1 + 1 = omega (arith, c.len.ensures.value, end, c.loop-i.auto.i) in
     let counts = counts_more ps c.args.at (i - 1) c.len.result c.loop-i.a c.loop-i.brackets c.loop-i.marks c.bracket_number-brackets-2.result c.mark_number-marks-2.result (omega (arith, c.loop-i.auto.i)) inside step old.a c.bracket_number-brackets-2.ensures c.mark_number-marks-2.ensures old.counts in
     closed_is ps c.args.at c.len.result _ _ _ c.passed_line-2.result.closed c.passed_line-2.result.line.past few counts c.passed_line-2.ensures.past c.passed_line-2.ensures.closed

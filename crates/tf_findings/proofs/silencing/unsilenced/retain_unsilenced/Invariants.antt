@@ -10,7 +10,7 @@ use Rattle.tf_findings.proofs.silencing.unsilenced.retain_unsilenced.Given as go
 abbrev pub invariant-loop-i : goal.invariant-loop-i
 invariant-loop-i l = record {
   within : l.kept ≤ l.i;
-  sound : AreValidFindings (length l.fn.scanned.pairs) (drop l.i l.found);
+  valid : AreValidFindings (length l.fn.scanned.pairs) (drop l.i l.found);
   order : (b : ℕ) × AreLinesIncreasing 0 l.rest b;
   same : (rule : Rule) (at : ℕ) → l.last_line ≤ at → is_silenced_by rule at l.rest ≡ is_silenced_by rule at l.fn.annotations;
   lines : l.lines ≡ l.fn.scanned.pairs;

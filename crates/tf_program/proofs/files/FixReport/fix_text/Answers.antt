@@ -1,4 +1,4 @@
--- The fix is done; there are its lines, or a growth was refused.
+-- The fix is done, and its lines are there, or an allocation failed.
 use Rattle.std.proofs.Common.{◌≡◌, ◌∙◌, Err, List, [], ℕ, rules, subst, sym}
 use Rattle.std.specs.Prelude.{string_bytes}
 use Rattle.tf_lint.specs.Remaining.{IsRemaining}

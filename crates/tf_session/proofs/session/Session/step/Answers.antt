@@ -1,4 +1,4 @@
--- What was made is put on.
+-- What was made is pushed.
 use Rattle.std.proofs.Common.{sym, subst, IfOk}
 use Rattle.tf_session.specs.declared.command.Command.{Command}
 use Rattle.tf_session.specs.declared.command.Done.{Done}

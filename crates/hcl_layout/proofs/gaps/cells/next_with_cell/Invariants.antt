@@ -1,9 +1,0 @@
-use Rattle.std.proofs.Common.{◌≤◌}
-use Rattle.hcl_layout.specs.Gaps.Inner.CodeViews.{LackCell}
-use Rattle.hcl_layout.proofs.gaps.cells.next_with_cell.Given as goal
-
-abbrev pub invariant-loop-i : goal.invariant-loop-i
-invariant-loop-i l = record {
-  later : l.from ≤ l.i;
-  lacking : LackCell l.cell l.lines l.from l.i;
-}

@@ -1,0 +1,2 @@
+-- For proofs.
+pub mod Saving

@@ -1,0 +1,185 @@
+-- What a command does to a file and its journal: from the bytes of both, as they were read, to what
+-- is to be saved and reported. And what commands do one after another, each of which reads what the
+-- one before it saved.
+use Rattle.std.specs.Prelude.{◌≡◌, ◌<◌, ◌⊎◌, ℕ, Bool, true, false, List, [], ◌∷◌, ◌++◌, map, codes, Option, Some, None, Result, Ok, Err, if◌then◌else◌}
+use Rattle.edit_record.specs.Lists.Journal.{JournalEntry}
+use Rattle.edit_record.specs.Text.{IsJournalText}
+use Rattle.tf_lint.specs.Reports.{Report, report_lines}
+use Rattle.tf_lint.specs.Steps.{IsReport}
+use Rattle.tf_session.specs.declared.command.Command.{Command}
+use Rattle.tf_session.specs.declared.command.Command.TheVariants.{Fmt, Fix, Revert, Take}
+use Rattle.tf_session.specs.declared.command.Done.{Done}
+use Rattle.tf_session.specs.declared.command.Fault.{Fault}
+use Rattle.tf_session.specs.declared.fault.RunFault.{RunFault}
+use Rattle.tf_session.specs.declared.fault.RunFault.TheVariants.{Memory, Endless}
+use Rattle.tf_session.specs.declared.invocation.Effect.{Effect}
+use Rattle.tf_session.specs.declared.saver.SavedTexts.{SavedTexts}
+use Rattle.tf_session.specs.Faults.{run_fault_of}
+use Rattle.tf_session.specs.Journals.{IsSavedText, JournalTextFault, BadJournalFault}
+use Rattle.tf_session.specs.Layers.{History, initial_history, top_text, records_in, IsHistory, HistoryStep}
+use Rattle.tf_session.specs.Machine.{Stack, initial_stack, StackStep, WithoutTake}
+use Rattle.tf_session.specs.Records.{DoesStep, RefusesStep, IsJournalOfStack}
+use Rattle.tf_session.specs.Runs.{RunBy}
+
+-- ---- one command: the text t and the records js before it, u and ks after it
+
+-- a command leaves text and records as they were
+abbrev pub IsUnchanged : List ℕ → List JournalEntry → List ℕ → List JournalEntry → Type 0
+IsUnchanged t js u ks = (u ≡ t) × (ks ≡ js)
+
+-- what is to be saved: the new text and the text of the new journal; nothing, if both are as they
+-- were
+abbrev pub AreSaved : List ℕ → List JournalEntry → List ℕ → List JournalEntry → Option SavedTexts → Type 0
+AreSaved t js u ks None = IsUnchanged t js u ks
+AreSaved t js u ks (Some saved) =
+    ¬ (IsUnchanged t js u ks) × (saved.text.items ≡ u) × IsSavedText ks saved.journal.items
+
+-- What is reported of a command that left text u in a file of this name: the name, if fmt changed
+-- the text; after a fix the line of each issue that is left.
+abbrev pub AreReportLines : Command → List ℕ → Done → List ℕ → List ℕ → Type 0
+AreReportLines Fmt name d u lines = lines ≡ (if d.changed then name ++ codes "\n" else [])
+AreReportLines (Fix rules) name d u lines =
+    (reported : List Report) × IsReport rules u reported × (lines ≡ report_lines name reported)
+AreReportLines Revert name d u lines = lines ≡ []
+AreReportLines (Take n) name d u lines = lines ≡ []
+
+-- The journal's bytes are the text of some records, and the command does its step on the text and
+-- these.
+pub record HasEffect (command : Command) (name text journal : List ℕ) (effect : Effect) : Type 0 where
+  pub records : List JournalEntry
+  pub is_journal : IsJournalText journal records
+  pub new_text : List ℕ
+  pub new_records : List JournalEntry
+  pub does : DoesStep command text records effect.done new_text new_records
+  pub saved : AreSaved text records new_text new_records effect.saved
+  pub lines : AreReportLines command name effect.done new_text effect.lines.items
+
+-- ---- why a command has no effect
+
+-- memory is allocated for what is reported: a fmt changed the text, or a fix left issues
+abbrev pub LinesMayAllocate : Command → Done → Type 0
+LinesMayAllocate Fmt d = d.changed ≡ true
+LinesMayAllocate (Fix rules) d = 0 < d.left
+LinesMayAllocate Revert d = ⊥
+LinesMayAllocate (Take n) d = ⊥
+
+-- the command refuses text and records; or it succeeds, and memory runs out for what is reported
+abbrev pub StepOrLinesFault : Command → List ℕ → List JournalEntry → RunFault → Type 0
+StepOrLinesFault command t js fault =
+    ((refusal : Fault) × (fault ≡ run_fault_of refusal) × RefusesStep command t js refusal)
+    ⊎ ((fault ≡ Memory) × (d : Done) × (u : List ℕ) × (ks : List JournalEntry)
+    × DoesStep command t js d u ks × LinesMayAllocate command d)
+
+-- the command succeeds and changes text or records, and there is no text of the new journal, since
+-- it would be too long, or memory ran out
+abbrev pub NewJournalFault : Command → List ℕ → List JournalEntry → RunFault → Type 0
+NewJournalFault command t js fault =
+    (d : Done) × (u : List ℕ) × (ks : List JournalEntry) × DoesStep command t js d u ks
+    × ¬ (IsUnchanged t js u ks) × JournalTextFault ks fault
+
+-- Why nothing is to be saved or reported, in this order.
+abbrev pub HasNoEffect : Command → List ℕ → List ℕ → RunFault → Type 0
+HasNoEffect command text journal fault =
+    BadJournalFault journal fault
+    ⊎ ((records : List JournalEntry) × IsJournalText journal records × StepOrLinesFault command text records fault)
+    ⊎ ((records : List JournalEntry) × IsJournalText journal records × NewJournalFault command text records fault)
+
+-- memory ran out, or the new journal would be too long
+abbrev pub is_limit : RunFault → Bool
+is_limit Memory = true
+is_limit Endless = true
+is_limit _ = false
+
+-- ---- commands one after another
+
+-- a file's text, and the text of its journal; where there is no journal, that is empty
+pub record FileContents : Type 0 where
+  pub text : List ℕ
+  pub journal : List ℕ
+
+abbrev pub without_journal : List ℕ → FileContents
+without_journal text = record { text = text; journal = [] }
+
+abbrev pub contents_after : FileContents → Option SavedTexts → FileContents
+contents_after old None = old
+contents_after old (Some saved) = record { text = saved.text.items; journal = saved.journal.items }
+
+-- A command is given on a file: what it returns, and the file after it, with what was saved.
+abbrev pub Invokes : Command → FileContents → Result Done RunFault → FileContents → Type 0
+Invokes command old (Ok d) new =
+    (name : List ℕ) × (effect : Effect) × HasEffect command name old.text old.journal effect
+    × (d ≡ effect.done) × (new ≡ contents_after old effect.saved)
+Invokes command old (Err fault) new = HasNoEffect command old.text old.journal fault × (new ≡ old)
+
+-- Commands are given one after another, each on the file as the one before it left it.
+abbrev pub InvokesAll : FileContents → List Command → List (Result Done RunFault) → FileContents → Type 0
+InvokesAll = RunBy Invokes
+
+-- ---- they are one run
+
+abbrev pub is_limit_result : Result Done RunFault → Bool
+is_limit_result (Ok d) = false
+is_limit_result (Err fault) = is_limit fault
+
+-- the commands that did not end at a limit, and what they returned
+abbrev pub commands_within : List Command → List (Result Done RunFault) → List Command
+commands_within [] results = []
+commands_within (command ∷ commands) [] = []
+commands_within (command ∷ commands) (result ∷ results) =
+    if is_limit_result result then commands_within commands results
+    else command ∷ commands_within commands results
+
+abbrev pub results_within : List (Result Done RunFault) → List (Result Done RunFault)
+results_within [] = []
+results_within (result ∷ results) =
+    if is_limit_result result then results_within results else result ∷ results_within results
+
+-- what a command on a file returns for a reply
+abbrev pub result_of : Result Done Fault → Result Done RunFault
+result_of (Ok d) = Ok d
+result_of (Err fault) = Err (run_fault_of fault)
+
+-- The commands that did not end at a limit are a run of a machine, of which this is the step: it has
+-- their replies, its text is the file's, and the text of the file's journal is that of its records.
+pub record AreOneRun {State : Type 0} (Step : Command → State → Result Done Fault → State → Type 0)
+    (top : State → List ℕ) (HasRecords : State → List JournalEntry → Type 0) (first : State)
+    (commands : List Command) (results : List (Result Done RunFault)) (end : FileContents)
+    : Type 0 where
+  pub replies : List (Result Done Fault)
+  pub replies_are : results_within results ≡ map result_of replies
+  pub state : State
+  pub run : RunBy Step first (commands_within commands results) replies state
+  pub text : end.text ≡ top state
+  pub records : List JournalEntry
+  pub journal : IsJournalText end.journal records
+  pub records_are : HasRecords state records
+
+-- the records of the file's journal are those of the stack
+abbrev pub HasStackRecords : Stack → List JournalEntry → Type 0
+HasStackRecords s records = IsJournalOfStack records s.top s.below
+
+-- a run of the machine of whole texts
+abbrev pub AreStackRun : Stack → List Command → List (Result Done RunFault) → FileContents → Type 0
+AreStackRun = AreOneRun StackStep (λ s. s.top) HasStackRecords
+
+abbrev pub HasHistoryRecords : History → List JournalEntry → Type 0
+HasHistoryRecords h records = (records ≡ records_in h.layers) × IsHistory h
+
+-- a run of the machine that keeps the edits
+abbrev pub AreHistoryRun : History → List Command → List (Result Done RunFault) → FileContents → Type 0
+AreHistoryRun = AreOneRun HistoryStep top_text HasHistoryRecords
+
+-- Fmt, fix and revert on a file that has no journal, one after another, each on what the one before
+-- it left, are one run of the machine of whole texts.
+abbrev pub InvocationsAreStackRun : Type 0
+InvocationsAreStackRun =
+    (text : List ℕ) (commands : List Command) (results : List (Result Done RunFault))
+    (end : FileContents) → WithoutTake commands → InvokesAll (without_journal text) commands results end
+    → AreStackRun (initial_stack text) commands results end
+
+-- With takes among them they are one run of the machine that keeps the edits.
+abbrev pub InvocationsAreHistoryRun : Type 0
+InvocationsAreHistoryRun =
+    (text : List ℕ) (commands : List Command) (results : List (Result Done RunFault))
+    (end : FileContents) → InvokesAll (without_journal text) commands results end
+    → AreHistoryRun (initial_history text) commands results end
