@@ -20,6 +20,6 @@ one_nests f n some = let e : n ≡ suc (n - 1) = omega (arith, some) in ap f e
 pub refused : {A B : Type 0} {p : Outcome A} {q : Outcome B} {e : TokenFault} {r : Result B TokenFault} (f : A → Step B) (at new : ℕ) → r ≡ Err e → q ≡ and_then p f → Reads p (Err e) at → Reads q r new
 refused {q} f at new same e h = subst (λ r. Reads q r new) (sym same) (λ no. e ∙ ap (λ o. and_then o f) (h no))
 
--- the same of steps that take no memory
+-- as `refused`, of steps that take no memory
 pub gives_refused : {A B : Type 0} {p : Outcome A} {q : Outcome B} {e : TokenFault} {r : Result B TokenFault} (f : A → Step B) (at new : ℕ) → r ≡ Err e → q ≡ and_then p f → ReadsExactly p (Err e) at → ReadsExactly q r new
 gives_refused {q} f at new same e h = subst (λ r. ReadsExactly q r new) (sym same) (e ∙ ap (λ o. and_then o f) h)

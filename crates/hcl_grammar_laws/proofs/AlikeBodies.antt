@@ -1,4 +1,4 @@
--- The same of bodies and of a whole text.
+-- As Alike, of bodies and of a whole text.
 use Rattle.std.proofs.Common.{ℕ, false, List, Option, subst, sym}
 use Rattle.hcl_grammar.specs.declared.tree.Attribute.{Attribute}
 use Rattle.hcl_grammar.specs.declared.tree.Label.{Label}

@@ -4,6 +4,7 @@ use Rattle.tf_saving.specs.declared.call.SavedFile.{SavedFile}
 use Rattle.tf_saving.specs.declared.step.End.{End}
 use Rattle.tf_session.specs.declared.fault.RunFault.{RunFault}
 use Rattle.tf_session.specs.declared.fault.SessionPart.{SessionPart}
+use Rattle.tf_files.specs.declared.saves.Attempt.{Attempt}
 
 -- the part, as errors name it
 abbrev pub session_part : SavedFile → SessionPart
@@ -29,3 +30,19 @@ result_of_end (End.Error part) text_sent journal_sent no_memory =
     Err (part_fault part text_sent journal_sent)
 result_of_end End.Late text_sent journal_sent no_memory =
     Err (part_fault SavedFile.Journal text_sent journal_sent)
+
+-- ---- how far a save in company has come
+
+-- both files are replaced, or are to be written in place
+abbrev pub ended_attempt : Bool → Attempt
+ended_attempt is_replaced = if is_replaced then Attempt.Replaced else Attempt.InPlace
+
+-- both files are as they were, or the next recovery finds both old or both new
+abbrev pub failed_attempt : End → RunFault → Attempt
+failed_attempt (End.Error part) fault = Attempt.Refused
+failed_attempt _ fault = Attempt.Fault fault
+
+-- by its end and what that is
+abbrev pub attempt_of : End → Result Bool RunFault → Attempt
+attempt_of end (Ok is_replaced) = ended_attempt is_replaced
+attempt_of end (Err fault) = failed_attempt end fault

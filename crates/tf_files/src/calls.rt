@@ -1,5 +1,7 @@
 //! Makes the system calls that save one of the two files, and returns the replies to them.
 
+ghost use Rattle.std.specs.Prelude.{◌≡◌, string_bytes};
+
 use crate::adoption::can_adopt;
 use crate::file_part::{session_part, write_part};
 use crate::file_paths::{FilePaths, is_not_found};
@@ -39,7 +41,7 @@ pub struct PartFile<'a, F: Drop> {
     pub new: &'a str,
     pub paths: &'a FilePaths,
     pub new_file: NewFile<F>,
-    bytes: &'a [u8],
+    pub bytes: &'a [u8],
     /// How many bytes were written.
     pub sent: usize,
     /// Both files from before they were read.
@@ -57,7 +59,13 @@ impl<'a, F: Drop> PartFile<'a, F> {
         read: Option<Snapshots>,
         new_file: NewFile<F>,
         starts_early: bool,
-    ) -> PartFile<'a, F> {
+    ) -> PartFile<'a, F>
+        ensures given { result.given.now ≡ string_bytes paths.now.text }
+        ensures own { result.own.now ≡ string_bytes paths.now.real_text }
+        ensures paths { result.paths.now ≡ paths.now }
+        ensures bytes { result.bytes.now ≡ bytes.now }
+        ensures read { result.read ≡ read }
+    {
         PartFile {
             given: paths.text.as_str(),
             own: paths.real_text.as_str(),
@@ -79,7 +87,13 @@ impl<'a, F: Drop> PartFile<'a, F> {
         read: Option<Snapshots>,
         new_file: NewFile<F>,
         starts_early: bool,
-    ) -> PartFile<'a, F> {
+    ) -> PartFile<'a, F>
+        ensures given { result.given.now ≡ string_bytes paths.now.journal }
+        ensures own { result.own.now ≡ string_bytes paths.now.journal }
+        ensures paths { result.paths.now ≡ paths.now }
+        ensures bytes { result.bytes.now ≡ bytes.now }
+        ensures read { result.read ≡ read }
+    {
         PartFile {
             given: paths.journal.as_str(),
             own: paths.journal.as_str(),

@@ -1,5 +1,7 @@
 //! Files that were changed in memory, and are saved alone or many at once.
 
+ghost use Rattle.std.specs.Prelude.{◌≡◌, map, IfOk, IsOk, IsErrOf};
+
 use crate::file_paths::FilePaths;
 use crate::found_files::FoundFiles;
 use crate::overwrite_files::overwrite;
@@ -40,11 +42,27 @@ impl ChangedFile {
         }
     }
 
-    fn contents(&self) -> NewContents<'_> {
+    fn contents(&self) -> NewContents<'_>
+        ensures text { result.text.now ≡ self.now.text.items }
+        ensures journal { result.journal.now ≡ self.now.journal.items }
+    {
         NewContents {
             journal: &self.journal,
             text: &self.text,
         }
+    }
+
+    /// Returns the save of this text and this journal under this file's names, before its first
+    /// call.
+    fn new_save<F: Drop>(&self, is_in_company: bool) -> Save<'_, F>
+        ensures text { result.text.bytes.now ≡ self.now.text.items }
+        ensures text_paths { result.text.paths.now ≡ self.now.paths }
+        ensures text_read { result.text.read ≡ self.now.read }
+        ensures journal { result.journal.bytes.now ≡ self.now.journal.items }
+        ensures journal_paths { result.journal.paths.now ≡ self.now.paths }
+        ensures journal_read { result.journal.read ≡ self.now.read }
+    {
+        Save::new(&self.paths, self.contents(), self.read, is_in_company)
     }
 
     /// Saves text and journal: new files replace the old ones or, where none can, the old ones are
@@ -55,7 +73,7 @@ impl ChangedFile {
     /// `Write` with the part and the number of its bytes that were written, 0 where another program
     /// has changed a file meanwhile; `Read` where it is not known what the next recovery will find.
     pub fn save<R: Files>(&self, rt: &R, alloc: Global) -> Result<(), RunFault> {
-        let mut save = Save::<R::File>::new(&self.paths, self.contents(), self.read, false);
+        let mut save = self.new_save::<R::File>(false);
         let is_replaced = save.result(rt, alloc)?;
         if is_replaced {
             return Ok(());
@@ -75,7 +93,10 @@ impl ChangedFile {
         rt: &R,
         alloc: Global,
         attempt: Attempt,
-    ) -> Result<(), RunFault> {
+    ) -> Result<(), RunFault>
+        ensures replaced { attempt ≡ Attempt.Replaced → IsOk result }
+        ensures fault { (fault : RunFault) → attempt ≡ Attempt.Fault fault → IsErrOf result fault }
+    {
         match attempt {
             Attempt::Replaced => Ok(()),
             Attempt::InPlace => self.overwrite(rt, alloc),
@@ -100,10 +121,9 @@ pub fn save_together<R: Files>(
     alloc: Global,
     files: &[&ChangedFile],
 ) -> Result<Vec<Attempt>, AllocError> {
-    let mut saves = Vec::with_capacity(alloc, files.len())?;
+    let mut saves = new_saves::<R::File>(alloc, files)?;
     let mut attempts = Vec::with_capacity(alloc, files.len())?;
-    for file in files {
-        saves.push(Save::<R::File>::new(&file.paths, file.contents(), file.read, true))?;
+    for _ in files {
         attempts.push(Attempt::Refused)?;
     }
     save_in_rows(rt, alloc, &mut saves);
@@ -111,4 +131,23 @@ pub fn save_together<R: Files>(
         *attempt = save.attempt(rt, alloc);
     }
     Ok(attempts)
+}
+
+/// Returns the saves of files, in their order, each of one file's text and journal under its names.
+fn new_saves<'a, F: Drop>(
+    alloc: Global,
+    files: &[&'a ChangedFile],
+) -> Result<Vec<Save<'a, F>>, AllocError>
+    ensures texts { IfOk result (λ saves. map (λ save. save.text.bytes.now) saves.items
+        ≡ map (λ file. file.now.text.items) files.now) }
+    ensures journals { IfOk result (λ saves. map (λ save. save.journal.bytes.now) saves.items
+        ≡ map (λ file. file.now.journal.items) files.now) }
+    ensures paths { IfOk result (λ saves. map (λ save. save.text.paths.now) saves.items
+        ≡ map (λ file. file.now.paths) files.now) }
+{
+    let mut saves = Vec::with_capacity(alloc, files.len())?;
+    for file in files {
+        saves.push(file.new_save(true))?;
+    }
+    Ok(saves)
 }

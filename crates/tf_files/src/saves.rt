@@ -2,6 +2,7 @@
 
 ghost use Rattle.std.specs.Prelude.{◌≡◌, true, IfErr};
 ghost use Rattle.tf_files.specs.Ends.{result_of_end, part_fault, unknown_fault};
+ghost use Rattle.tf_files.specs.Ends.{attempt_of, ended_attempt, failed_attempt};
 ghost use Rattle.tf_files.specs.Opening.{is_file_fault};
 
 use crate::calls::{NewFile, PartFile, make, open_directory, sync_opened};
@@ -29,8 +30,8 @@ const MOST_WAITS: u32 = 6;
 /// A save or a recovery, and how far it has come.
 #[derive(Drop)]
 pub struct Save<'a, F: Drop> {
-    text: PartFile<'a, F>,
-    journal: PartFile<'a, F>,
+    pub text: PartFile<'a, F>,
+    pub journal: PartFile<'a, F>,
     step: Step,
     /// The directory that it has synced in the present row of waits.
     synced: Option<SyncedDirectory>,
@@ -109,7 +110,14 @@ impl<'a, F: Drop> Save<'a, F> {
         contents: NewContents<'a>,
         read: Option<Snapshots>,
         is_in_company: bool,
-    ) -> Save<'a, F> {
+    ) -> Save<'a, F>
+        ensures text { result.text.bytes.now ≡ contents.entry.text.now }
+        ensures text_paths { result.text.paths.now ≡ paths.now }
+        ensures text_read { result.text.read ≡ read }
+        ensures journal { result.journal.bytes.now ≡ contents.entry.journal.now }
+        ensures journal_paths { result.journal.paths.now ≡ paths.now }
+        ensures journal_read { result.journal.read ≡ read }
+    {
         let new_file = NewFile::NotCreated;
         let text = PartFile::text(paths, contents.text, read, new_file, is_in_company);
         let new_file = NewFile::NotCreated;
@@ -235,12 +243,36 @@ impl<'a, F: Read + Write + Seek + OpenFile + Drop> Save<'a, F> {
     /// Makes the calls that are left, and returns how the attempt has ended.
     pub fn attempt<R: Files<File = F>>(&mut self, rt: &R, alloc: Global) -> Attempt {
         let end = self.end(rt, alloc);
-        match self.outcome(end) {
-            Ok(true) => Attempt::Replaced,
-            Ok(false) => Attempt::InPlace,
-            Err(_) if matches!(end, End::Error(_)) => Attempt::Refused,
-            Err(fault) => Attempt::Fault(fault),
-        }
+        attempt_of(end, self.outcome(end))
+    }
+}
+
+/// Returns how an attempt has ended, by its end and what that is.
+fn attempt_of(end: End, outcome: Result<bool, RunFault>) -> Attempt
+    ensures { result ≡ attempt_of end outcome }
+{
+    match outcome {
+        Ok(is_replaced) => ended_attempt(is_replaced),
+        Err(fault) => failed_attempt(end, fault),
+    }
+}
+
+fn ended_attempt(is_replaced: bool) -> Attempt
+    ensures { result ≡ ended_attempt is_replaced }
+{
+    if is_replaced {
+        Attempt::Replaced
+    } else {
+        Attempt::InPlace
+    }
+}
+
+fn failed_attempt(end: End, fault: RunFault) -> Attempt
+    ensures { result ≡ failed_attempt end fault }
+{
+    match end {
+        End::Error(_) => Attempt::Refused,
+        _ => Attempt::Fault(fault),
     }
 }
 

@@ -1,3 +1,4 @@
+pub mod Batches
 pub mod Inputs
 pub mod Lines
 pub mod Location

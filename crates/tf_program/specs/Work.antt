@@ -19,8 +19,8 @@ use Rattle.tf_files.specs.declared.journaled_file.JournaledFile.{JournaledFile}
 use Rattle.tf_program.specs.Inputs.{IsOutcomeOf, Formats, Checks, Lints, Fixes, FixInputFault}
 use Rattle.tf_program.specs.declared.files.Made.{Made}
 
--- the exit status where there is nothing to be done: 1 if the arguments are wrong or memory ran out,
--- 0 after the help, or 1 if that can't be written
+-- the exit status if there is nothing to be done: 1 if the arguments are wrong or memory ran out, 0
+-- after the help, or 1 if that can't be written
 abbrev pub IsStatusOf : Exit → ℕ → Type 0
 IsStatusOf (Exit.Help text) status = status ≤ 1
 IsStatusOf (Exit.UsageError text) status = status ≡ 1
@@ -40,17 +40,21 @@ command_of Action.List = None
 abbrev pub file_command : Action → List ℕ → Option Command
 file_command action name = if is_dash name then None else command_of action
 
--- what a command made of a file with this name, as it was read with its journal: the outcome, what
--- is to be reported, and what is to be saved
-abbrev pub IsMade : Command → List ℕ → Made → Type 0
-IsMade command name made =
-    (file : JournaledFile) × (string_bytes file.paths.text ≡ name)
-    × (effect : FileEffect) × HasEffectOnFile command file effect
+-- what a command made of a file, as it was read with its journal: the outcome, what is to be
+-- reported, and what is to be saved
+abbrev pub IsMadeOf : Command → JournaledFile → Made → Type 0
+IsMadeOf command file made =
+    (effect : FileEffect) × HasEffectOnFile command file effect
     × IsOutcomeOf made.outcome effect.done.left
     × (made.lines ≡ effect.lines) × (made.file ≡ effect.file)
 
--- why a command made nothing of a file with this name: the file and its journal were not opened, for
--- an error of files; or they were read, and the command has no effect on them
+-- what a command made of a file with this name
+abbrev pub IsMade : Command → List ℕ → Made → Type 0
+IsMade command name made =
+    (file : JournaledFile) × (string_bytes file.paths.text ≡ name) × IsMadeOf command file made
+
+-- why a command made nothing of a file with this name: the file and its journal were not opened,
+-- for an error of files; or they were read, and the command has no effect on them
 abbrev pub IsNotMade : Command → List ℕ → RunFault → Type 0
 IsNotMade command name fault =
     (is_file_fault fault ≡ true)

@@ -1,6 +1,10 @@
 //! Files that a command changes: many are saved at once, and all are reported in the order in which
 //! they were given.
 
+ghost use Rattle.std.specs.Prelude.{◌≡◌, ◌+◌, ◌<◌, ◌≤◌, [], ◌∷◌, length, vec_len};
+ghost use Rattle.tf_program.specs.Batches.{IsNoted, IsEntryNoted, AreNoted, HasNext, ReportsRest};
+ghost use Rattle.tf_program.specs.Batches.{Notes, IsEntryOf, PutsIn, IsStart};
+
 use crate::file_error::FileError;
 use crate::files::{Made, change_file};
 use std::alloc::{AllocError, Global};
@@ -21,7 +25,7 @@ const MOST_BYTES: usize = 12 << 20;
 
 /// A file that a command has worked on, until it is saved and reported.
 #[derive(Drop)]
-struct Entry<'a> {
+pub struct Entry<'a> {
     name: &'a str,
     made: Result<Made, FileError>,
 }
@@ -33,23 +37,24 @@ pub struct Batch<'a> {
     alloc: Global,
     entries: Vec<Entry<'a>>,
     bytes: usize,
-    /// How many files are still to be changed.
-    left: usize,
     /// Whether errors are located.
     locate: bool,
+    /// What the files have met that are reported; those that are held are left.
     pub outcome: RunOutcome,
 }
 
 impl<'a> Batch<'a> {
     /// Returns a batch of no file, for the files of a task.
-    pub fn new(alloc: Global, task: &Task<'_>) -> Batch<'a> {
+    pub fn new(alloc: Global, task: &Task<'_>) -> Batch<'a>
+        ensures none { vec_len result.entries ≡ 0 }
+        ensures start { IsStart (length task.now.files.items) result }
+    {
         Batch {
             alloc,
             entries: Vec::new(alloc),
             bytes: 0,
-            left: task.files.len(),
             locate: task.locate,
-            outcome: RunOutcome::default(),
+            outcome: RunOutcome::of_files(task.files.len()),
         }
     }
 
@@ -61,18 +66,33 @@ impl<'a> Batch<'a> {
         name: &'a str,
         output: &mut O,
         faults: &mut F,
-    ) {
-        self.left = self.left.saturating_sub(1);
-        if !self.admits(rt, name) {
-            self.finish(rt, output, faults);
+    )
+        requires { HasNext self.old }
+        ensures reported { ReportsRest 1 self.old self.new }
+        ensures entries { PutsIn command name.now self.old self.new }
+    {
+        self.admit(rt, name, output, faults);
+        let entry = self.make(rt, command, name, output, faults);
+        self.add(rt, entry, output, faults);
+    }
+
+    /// Saves what is held, unless a file of this name may be read before that.
+    #[tactic(auto, using(crate::proofs::Holding::none_noted))]
+    fn admit<R: Files, O: Write, F: Write>(
+        &mut self,
+        rt: &R,
+        name: &str,
+        output: &mut O,
+        faults: &mut F,
+    )
+        requires { vec_len self.old.entries ≤ self.old.outcome.left }
+        ensures reported { ReportsRest 0 self.old self.new }
+        ensures notes { Notes [] self.old self.new }
+    {
+        if self.admits(rt, name) {
+            return;
         }
-        let mut made = change_file(rt, self.alloc, command, name, self.locate);
-        if is_out_of_memory(&made) && !self.entries.is_empty() {
-            // once those are saved there is more memory
-            self.finish(rt, output, faults);
-            made = change_file(rt, self.alloc, command, name, self.locate);
-        }
-        self.add(rt, Entry { name, made }, output, faults);
+        self.finish(rt, output, faults);
     }
 
     /// Returns whether a file of this name may be read before those that are held are saved.
@@ -95,32 +115,76 @@ impl<'a> Batch<'a> {
         false
     }
 
+    /// Does a command on a file. If memory runs out while others are held, these are saved, and it
+    /// is done once more.
+    #[tactic(auto, using(crate::proofs::Holding::none_noted))]
+    fn make<R: Files, O: Write, F: Write>(
+        &mut self,
+        rt: &R,
+        command: Command,
+        name: &'a str,
+        output: &mut O,
+        faults: &mut F,
+    ) -> Entry<'a>
+        requires { vec_len self.old.entries ≤ self.old.outcome.left }
+        ensures made { IsEntryOf command name.now result }
+        ensures reported { ReportsRest 0 self.old self.new }
+        ensures notes { Notes [] self.old self.new }
+    {
+        let made = change_file(rt, self.alloc, command, name, self.locate);
+        if self.entries.is_empty() {
+            return Entry { name, made };
+        }
+        if !is_out_of_memory(&made) {
+            return Entry { name, made };
+        }
+        // once those are saved there is more memory
+        self.finish(rt, output, faults);
+        let made = change_file(rt, self.alloc, command, name, self.locate);
+        Entry { name, made }
+    }
+
     /// Holds an entry, or finishes it if it is not to wait.
     fn add<R: Files, O: Write, F: Write>(
         &mut self,
         rt: &R,
-        entry: Entry<'a>,
+        next: Entry<'a>,
         output: &mut O,
         faults: &mut F,
-    ) {
-        if self.bytes.saturating_add(entry.size()) > MOST_BYTES {
-            self.finish(rt, output, faults);
+    )
+        requires { HasNext self.old }
+        ensures reported { ReportsRest 1 self.old self.new }
+        ensures notes { Notes (next.entry ∷ []) self.old self.new }
+    {
+        self.make_space(rt, next.size(), output, faults);
+        if self.lets_wait(&next) {
+            return self.hold(rt, next, output, faults);
         }
-        if !self.lets_wait(&entry) {
-            self.finish(rt, output, faults);
-            return self.finish_entry(rt, entry, None, output, faults);
+        self.finish_with(rt, &next, output, faults);
+    }
+
+    /// Saves what is held, unless this many bytes more may be held.
+    #[tactic(auto, using(crate::proofs::Holding::none_noted))]
+    fn make_space<R: Files, O: Write, F: Write>(
+        &mut self,
+        rt: &R,
+        bytes: usize,
+        output: &mut O,
+        faults: &mut F,
+    )
+        requires { vec_len self.old.entries ≤ self.old.outcome.left }
+        ensures reported { ReportsRest 0 self.old self.new }
+        ensures notes { Notes [] self.old self.new }
+    {
+        if self.has_space(bytes) {
+            return;
         }
-        let size = entry.size();
-        match self.entries.push(entry) {
-            Ok(()) => self.bytes = self.bytes.saturating_add(size),
-            Err(refused) => {
-                self.finish(rt, output, faults);
-                self.finish_entry(rt, refused.value, None, output, faults);
-            }
-        }
-        if self.entries.len() >= MOST_FILES || self.bytes >= MOST_BYTES {
-            self.finish(rt, output, faults);
-        }
+        self.finish(rt, output, faults);
+    }
+
+    /// Returns whether this many bytes more may be held.
+    fn has_space(&self, bytes: usize) -> bool {
+        self.bytes.saturating_add(bytes) <= MOST_BYTES
     }
 
     /// Returns whether an entry may wait for others: one that has changed begins a batch, unless it
@@ -128,19 +192,111 @@ impl<'a> Batch<'a> {
     fn lets_wait(&self, entry: &Entry<'a>) -> bool {
         let is_alone = self.entries.is_empty();
         match entry.changed_file() {
-            Some(file) => file.can_wait() && (!is_alone || self.left > 0),
+            Some(file) => file.can_wait() && (!is_alone || self.outcome.left > 1),
             None => !is_alone,
         }
     }
 
+    /// Holds an entry, or finishes it if there is no memory for that.
+    fn hold<R: Files, O: Write, F: Write>(
+        &mut self,
+        rt: &R,
+        next: Entry<'a>,
+        output: &mut O,
+        faults: &mut F,
+    )
+        requires { HasNext self.old }
+        ensures reported { ReportsRest 1 self.old self.new }
+        ensures notes { Notes (next.entry ∷ []) self.old self.new }
+    {
+        let size = next.size();
+        match self.entries.push(next) {
+            Ok(()) => {
+                self.bytes = self.bytes.saturating_add(size);
+                self.finish_full(rt, output, faults);
+            }
+            Err(refused) => self.finish_with(rt, &refused.value, output, faults),
+        }
+    }
+
+    /// Saves what is held if it is as much as may be held.
+    #[tactic(auto, using(crate::proofs::Holding::none_noted))]
+    fn finish_full<R: Files, O: Write, F: Write>(&mut self, rt: &R, output: &mut O, faults: &mut F)
+        requires { vec_len self.old.entries ≤ self.old.outcome.left }
+        ensures reported { ReportsRest 0 self.old self.new }
+        ensures notes { Notes [] self.old self.new }
+    {
+        if self.may_hold_more() {
+            return;
+        }
+        self.finish(rt, output, faults);
+    }
+
+    fn may_hold_more(&self) -> bool {
+        self.entries.len() < MOST_FILES && self.bytes < MOST_BYTES
+    }
+
+    /// Saves what is held, and then an entry.
+    fn finish_with<R: Files, O: Write, F: Write>(
+        &mut self,
+        rt: &R,
+        next: &Entry<'_>,
+        output: &mut O,
+        faults: &mut F,
+    )
+        requires { HasNext self.old }
+        ensures reported { ReportsRest 1 self.old self.new }
+        ensures entries { self.new.entries.items ≡ [] }
+        ensures notes { Notes (next.now ∷ []) self.old self.new }
+    {
+        self.finish(rt, output, faults);
+        self.finish_entry(rt, next, None, output, faults);
+    }
+
     /// Saves all files that are held, then reports each.
-    pub fn finish<R: Files, O: Write, F: Write>(&mut self, rt: &R, output: &mut O, faults: &mut F) {
-        let entries = mem::replace(&mut self.entries, Vec::new(self.alloc));
+    pub fn finish<R: Files, O: Write, F: Write>(&mut self, rt: &R, output: &mut O, faults: &mut F)
+        requires { vec_len self.old.entries ≤ self.old.outcome.left }
+        ensures reported { ReportsRest 0 self.old self.new }
+        ensures none { vec_len self.new.entries ≡ 0 }
+        ensures entries { self.new.entries.items ≡ [] }
+        ensures notes { Notes [] self.old self.new }
+    {
+        let entries = self.take_entries();
+        let attempts = save_entries(rt, self.alloc, &entries);
+        self.finish_all(rt, &entries, attempts, output, faults);
+    }
+
+    /// Returns the entries that are held, and holds them no longer.
+    fn take_entries(&mut self) -> Vec<Entry<'a>>
+        ensures taken { result.items ≡ self.old.entries.items }
+        ensures len { vec_len result ≡ vec_len self.old.entries }
+        ensures none { vec_len self.new.entries ≡ 0 }
+        ensures entries { self.new.entries.items ≡ [] }
+        ensures outcome { self.new.outcome ≡ self.old.outcome }
+    {
         self.bytes = 0;
-        let mut attempts = save_entries(rt, self.alloc, &entries).into_iter();
+        mem::replace(&mut self.entries, Vec::new(self.alloc))
+    }
+
+    /// Finishes entries, of which those that have changed have come as far as these attempts.
+    fn finish_all<R: Files, O: Write, F: Write>(
+        &mut self,
+        rt: &R,
+        entries: &[Entry<'_>],
+        attempts: Vec<Attempt>,
+        output: &mut O,
+        faults: &mut F,
+    )
+        requires { length entries.now ≤ self.old.outcome.left }
+        ensures left { self.new.outcome.left + length entries.now ≡ self.old.outcome.left }
+        ensures len { vec_len self.new.entries ≡ vec_len self.old.entries }
+        ensures entries { self.new.entries.items ≡ self.old.entries.items }
+        ensures noted { AreNoted entries.now self.old.outcome self.new.outcome }
+    {
+        let mut rest = attempts.into_iter();
         for entry in entries {
             let attempt = match entry.changed_file() {
-                Some(_) => attempts.next(),
+                Some(_) => rest.next(),
                 None => None,
             };
             self.finish_entry(rt, entry, attempt, output, faults);
@@ -151,16 +307,24 @@ impl<'a> Batch<'a> {
     fn finish_entry<R: Files, O: Write, F: Write>(
         &mut self,
         rt: &R,
-        entry: Entry<'a>,
+        entry: &Entry<'_>,
         attempt: Option<Attempt>,
         output: &mut O,
         faults: &mut F,
-    ) {
-        let met = match &entry.made {
-            Ok(made) => made.save_and_report(rt, self.alloc, attempt, output),
-            Err(error) => Err(*error),
-        };
-        self.note(entry.name, met, faults);
+    )
+        requires { 0 < self.old.outcome.left }
+        ensures left { self.new.outcome.left + 1 ≡ self.old.outcome.left }
+        ensures len { vec_len self.new.entries ≡ vec_len self.old.entries }
+        ensures entries { self.new.entries.items ≡ self.old.entries.items }
+        ensures noted { IsEntryNoted entry.now.made self.old.outcome self.new.outcome }
+    {
+        match &entry.made {
+            Ok(made) => {
+                let met = made.save_and_report(rt, self.alloc, attempt, output);
+                self.note(entry.name, met, faults);
+            }
+            Err(error) => self.note(entry.name, Err(*error), faults),
+        }
     }
 
     /// Notes the outcome of the work on a file. An error is reported, and does not stop the next
@@ -170,11 +334,17 @@ impl<'a> Batch<'a> {
         name: &str,
         met: Result<FileOutcome, FileError>,
         faults: &mut F,
-    ) {
+    )
+        requires { 0 < self.old.outcome.left }
+        ensures left { self.new.outcome.left + 1 ≡ self.old.outcome.left }
+        ensures len { vec_len self.new.entries ≡ vec_len self.old.entries }
+        ensures entries { self.new.entries.items ≡ self.old.entries.items }
+        ensures noted { IsNoted met self.old.outcome self.new.outcome }
+    {
         match met {
             Ok(file_outcome) => self.outcome = self.outcome.with_file(file_outcome),
             Err(error) => {
-                self.outcome.has_fault = true;
+                self.outcome = self.outcome.with_fault();
                 error.report(self.alloc, faults, name);
             }
         }

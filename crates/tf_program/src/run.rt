@@ -1,6 +1,7 @@
 //! The work that the arguments ask for.
 
 ghost use Rattle.std.specs.Prelude.{◌≡◌, ◌≤◌};
+ghost use Rattle.tf_program.specs.Batches.{HasNext, ReportsRest, DoesFile, RunsTask};
 ghost use Rattle.tf_program.specs.Work.{IsStatusOf, command_of, file_command};
 
 use crate::batch::Batch;
@@ -89,19 +90,40 @@ fn run_task<R: Files, I: Read, O: Write, F: Write>(
     input: &mut I,
     output: &mut O,
     faults: &mut F,
-) -> RunOutcome {
+) -> RunOutcome
+    ensures left { result.left ≡ 0 }
+    ensures runs { RunsTask task.now.action task.now.files.items result }
+{
     let mut batch = Batch::new(alloc, task);
     for name in &task.files {
-        match file_command(task.action, name) {
-            Some(command) => batch.change(rt, command, name, output, faults),
-            None => {
-                let met = run_read_only(rt, alloc, task, name, input, output, faults);
-                batch.note(name, met, faults);
-            }
-        }
+        run_on_file(rt, alloc, task, name, &mut batch, input, output, faults);
     }
     batch.finish(rt, output, faults);
     batch.outcome
+}
+
+/// Does a task on one file.
+fn run_on_file<'a, R: Files, I: Read, O: Write, F: Write>(
+    rt: &R,
+    alloc: Global,
+    task: &Task<'_>,
+    name: &'a str,
+    batch: &mut Batch<'a>,
+    input: &mut I,
+    output: &mut O,
+    faults: &mut F,
+)
+    requires { HasNext batch.old }
+    ensures reported { ReportsRest 1 batch.old batch.new }
+    ensures does { DoesFile task.now.action name.now batch.old batch.new }
+{
+    match file_command(task.action, name) {
+        Some(command) => batch.change(rt, command, name, output, faults),
+        None => {
+            let met = run_read_only(rt, alloc, task, name, input, output, faults);
+            batch.note(name, met, faults);
+        }
+    }
 }
 
 /// Returns the command that the action does to the file of this name, if it changes files.

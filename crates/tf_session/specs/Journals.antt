@@ -1,6 +1,6 @@
 -- A text and the text of its journal: what is read of two sources for them, and what is written to
 -- two targets.
-use Rattle.std.specs.Prelude.{◌≡◌, ◌≤◌, ◌<◌, ◌⊎◌, ℕ, List, length, Err}
+use Rattle.std.specs.Prelude.{◌≡◌, ◌≤◌, ◌<◌, ◌↔◌, ◌⊎◌, ℕ, Bool, true, false, List, length, Result, Err, IfOk, IfErr, IsErrOf, IsErrAnd}
 use Rattle.std.specs.Io.KnownBytes.{Keeps}
 use Rattle.hcl_scan.specs.Tokenization.{MAX_TEXT}
 use Rattle.edit_record.specs.Lists.Journal.{JournalEntry}
@@ -13,10 +13,10 @@ use Rattle.tf_session.specs.declared.command.Command.{Command}
 use Rattle.tf_session.specs.declared.command.Done.{Done}
 use Rattle.tf_session.specs.declared.command.Fault.{Fault}
 use Rattle.tf_session.specs.declared.fault.RunFault.{RunFault}
-use Rattle.tf_session.specs.declared.fault.RunFault.TheVariants.{Memory, Write, Endless}
+use Rattle.tf_session.specs.declared.fault.RunFault.TheVariants.{Memory, Read, Write, Endless}
 use Rattle.tf_session.specs.declared.fault.SessionPart.{SessionPart}
 use Rattle.tf_session.specs.Faults.{run_fault_of, run_fault_of_read, run_fault_of_record}
-use Rattle.tf_session.specs.Streams.{ReadsText, IsWriteFault}
+use Rattle.tf_session.specs.Streams.{ReadsText, IsWriteFault, is_write}
 use Rattle.tf_session.specs.Records.{DoesStep, RefusesStep}
 
 -- the most bytes of a journal's text
@@ -127,3 +127,20 @@ JournaledStreamFault command fault text_in journal_in journal_out text_out =
     (LoadFault fault text_in journal_in × Untouched journal_out × Untouched text_out)
     ⊎ (CommandFault command fault text_in journal_in × Untouched journal_out × Untouched text_out)
     ⊎ ResultSaveFault command fault text_in journal_in journal_out text_out
+
+-- What a command from a text and its journal to both returns, and what it leaves in the targets:
+-- at any error but Write as much as was there.
+pub record JournaledStreamResult (command : Command) (result : Result Done RunFault)
+    (text_in journal_in : Source) (journal_out text_out : Target) : Type 0 where
+  pub done : IfOk result (λ d. StreamsCommand command d text_in journal_in journal_out text_out)
+  pub fault : IfErr result
+      (λ fault. JournaledStreamFault command fault text_in journal_in journal_out text_out)
+  pub journal_untouched : IfErr result (λ fault. is_write fault ≡ false → Untouched journal_out)
+  pub text_untouched : IfErr result (λ fault. is_write fault ≡ false → Untouched text_out)
+
+-- The error reports which streams have failed: Read one of the readers, Write the writer of its part.
+pub record ReportsFailures (result : Result Done RunFault)
+    (text_in journal_in journal_out text_out : Bool) : Type 0 where
+  pub readers : IsErrOf result Read ↔ (text_in ≡ true) ⊎ (journal_in ≡ true)
+  pub journal : IsErrAnd result (IsWriteOf SessionPart.Journal) ↔ journal_out ≡ true
+  pub text : IsErrAnd result (IsWriteOf SessionPart.Text) ↔ text_out ≡ true

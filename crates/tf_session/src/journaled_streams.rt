@@ -5,7 +5,7 @@ ghost use Rattle.tf_stream.specs.Told.{has_failed};
 ghost use Rattle.tf_stream.specs.Streams.{source_of, target_of, Untouched};
 ghost use Rattle.tf_session.specs.Streams.{is_write};
 ghost use Rattle.tf_session.specs.declared.command.Command.TheVariants.{Fmt, Fix, Revert};
-ghost use Rattle.tf_session.specs.Journals.{IsWriteOf, StreamsCommand, JournaledStreamFault};
+ghost use Rattle.tf_session.specs.Journals.{IsWriteOf, StreamsCommand, JournaledStreamFault, JournaledStreamResult, ReportsFailures};
 
 use crate::loader::load;
 use crate::saver::save;
@@ -31,26 +31,13 @@ pub fn fmt_stream<R: Read, J: Read, K: Write, W: Write>(
     requires journal_not_failed { has_failed journal.old ≡ false }
     requires journal_out_not_failed { has_failed journal_out.old ≡ false }
     requires text_out_not_failed { has_failed text_out.old ≡ false }
-    ensures done { IfOk result
-        (λ d. StreamsCommand Fmt d (source_of R.remaining text.old text.new)
+    ensures streams { JournaledStreamResult Fmt result
+        (source_of R.remaining text.old text.new)
         (source_of J.remaining journal.old journal.new)
         (target_of K.contents journal_out.old journal_out.new)
-        (target_of W.contents text_out.old text_out.new)) }
-    ensures fault { IfErr result
-        (λ fault. JournaledStreamFault Fmt fault (source_of R.remaining text.old text.new)
-        (source_of J.remaining journal.old journal.new)
-        (target_of K.contents journal_out.old journal_out.new)
-        (target_of W.contents text_out.old text_out.new)) }
-    ensures journal_untouched { IfErr result
-        (λ fault. is_write fault ≡ false
-        → Untouched (target_of K.contents journal_out.old journal_out.new)) }
-    ensures text_untouched { IfErr result
-        (λ fault. is_write fault ≡ false → Untouched (target_of W.contents text_out.old text_out.new)) }
-    ensures read { IsErrOf result RunFault.Read
-        ↔ (has_failed text.new ≡ true) ⊎ (has_failed journal.new ≡ true) }
-    ensures journal_failed { IsErrAnd result (IsWriteOf SessionPart.Journal)
-        ↔ has_failed journal_out.new ≡ true }
-    ensures text_failed { IsErrAnd result (IsWriteOf SessionPart.Text) ↔ has_failed text_out.new ≡ true }
+        (target_of W.contents text_out.old text_out.new) }
+    ensures failed { ReportsFailures result (has_failed text.new) (has_failed journal.new)
+        (has_failed journal_out.new) (has_failed text_out.new) }
 {
     command_stream(alloc, Command::Fmt, text, journal, journal_out, text_out)
 }
@@ -74,26 +61,13 @@ pub fn fix_stream<R: Read, J: Read, K: Write, W: Write>(
     requires journal_not_failed { has_failed journal.old ≡ false }
     requires journal_out_not_failed { has_failed journal_out.old ≡ false }
     requires text_out_not_failed { has_failed text_out.old ≡ false }
-    ensures done { IfOk result
-        (λ d. StreamsCommand (Fix rules) d (source_of R.remaining text.old text.new)
+    ensures streams { JournaledStreamResult (Fix rules) result
+        (source_of R.remaining text.old text.new)
         (source_of J.remaining journal.old journal.new)
         (target_of K.contents journal_out.old journal_out.new)
-        (target_of W.contents text_out.old text_out.new)) }
-    ensures fault { IfErr result
-        (λ fault. JournaledStreamFault (Fix rules) fault (source_of R.remaining text.old text.new)
-        (source_of J.remaining journal.old journal.new)
-        (target_of K.contents journal_out.old journal_out.new)
-        (target_of W.contents text_out.old text_out.new)) }
-    ensures journal_untouched { IfErr result
-        (λ fault. is_write fault ≡ false
-        → Untouched (target_of K.contents journal_out.old journal_out.new)) }
-    ensures text_untouched { IfErr result
-        (λ fault. is_write fault ≡ false → Untouched (target_of W.contents text_out.old text_out.new)) }
-    ensures read { IsErrOf result RunFault.Read
-        ↔ (has_failed text.new ≡ true) ⊎ (has_failed journal.new ≡ true) }
-    ensures journal_failed { IsErrAnd result (IsWriteOf SessionPart.Journal)
-        ↔ has_failed journal_out.new ≡ true }
-    ensures text_failed { IsErrAnd result (IsWriteOf SessionPart.Text) ↔ has_failed text_out.new ≡ true }
+        (target_of W.contents text_out.old text_out.new) }
+    ensures failed { ReportsFailures result (has_failed text.new) (has_failed journal.new)
+        (has_failed journal_out.new) (has_failed text_out.new) }
 {
     command_stream(
         alloc,
@@ -123,32 +97,20 @@ pub fn revert_stream<R: Read, J: Read, K: Write, W: Write>(
     requires journal_not_failed { has_failed journal.old ≡ false }
     requires journal_out_not_failed { has_failed journal_out.old ≡ false }
     requires text_out_not_failed { has_failed text_out.old ≡ false }
-    ensures done { IfOk result
-        (λ d. StreamsCommand Revert d (source_of R.remaining text.old text.new)
+    ensures streams { JournaledStreamResult Revert result
+        (source_of R.remaining text.old text.new)
         (source_of J.remaining journal.old journal.new)
         (target_of K.contents journal_out.old journal_out.new)
-        (target_of W.contents text_out.old text_out.new)) }
-    ensures fault { IfErr result
-        (λ fault. JournaledStreamFault Revert fault (source_of R.remaining text.old text.new)
-        (source_of J.remaining journal.old journal.new)
-        (target_of K.contents journal_out.old journal_out.new)
-        (target_of W.contents text_out.old text_out.new)) }
-    ensures journal_untouched { IfErr result
-        (λ fault. is_write fault ≡ false
-        → Untouched (target_of K.contents journal_out.old journal_out.new)) }
-    ensures text_untouched { IfErr result
-        (λ fault. is_write fault ≡ false → Untouched (target_of W.contents text_out.old text_out.new)) }
-    ensures read { IsErrOf result RunFault.Read
-        ↔ (has_failed text.new ≡ true) ⊎ (has_failed journal.new ≡ true) }
-    ensures journal_failed { IsErrAnd result (IsWriteOf SessionPart.Journal)
-        ↔ has_failed journal_out.new ≡ true }
-    ensures text_failed { IsErrAnd result (IsWriteOf SessionPart.Text) ↔ has_failed text_out.new ≡ true }
+        (target_of W.contents text_out.old text_out.new) }
+    ensures failed { ReportsFailures result (has_failed text.new) (has_failed journal.new)
+        (has_failed journal_out.new) (has_failed text_out.new) }
 {
     command_stream(alloc, Command::Revert, text, journal, journal_out, text_out)
 }
 
 /// Loads the text and its journal, runs the command, and saves both. `fmt_stream`, `fix_stream` and
-/// `revert_stream` are this with one command each.
+/// `revert_stream` are this with one command each. For the proof: its clauses are the fields of theirs,
+/// each by itself.
 fn command_stream<R: Read, J: Read, K: Write, W: Write>(
     alloc: Global,
     command: Command,

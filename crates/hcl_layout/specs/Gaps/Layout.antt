@@ -44,7 +44,7 @@ format_lines earlier before (line ∷ lines) =
 abbrev pub layout_lines : List Line → List Line
 layout_lines lines = aligned closing_comment (aligned assignment (format_lines [] [] lines))
 
--- the same of tokens
+-- the tokens of a body, with the gaps of its layout
 abbrev pub layout_body : List Pair → List Pair
 layout_body pairs = pairs_in (layout_lines (lines_of pairs))
 

@@ -17,10 +17,11 @@ run_length unit at_line_start t = run_from unit at_line_start 0 t
 abbrev pub is_ordinary_quoted : ℕ → Bool
 is_ordinary_quoted b = not (b == 34 || b == 36 || b == 37 || b == 92 || b == 10 || b == 13)
 
--- the same of the text of a comment that ends at `*/`, and of a heredoc where no line begins
+-- a byte that is a unit of a comment that ends at `*/` whatever follows it
 abbrev pub is_ordinary_inline : ℕ → Bool
 is_ordinary_inline b = not (b == 42 || b == 10)
 
+-- a byte that is a unit of a heredoc whatever follows it, where no line begins
 abbrev pub is_ordinary_heredoc : ℕ → Bool
 is_ordinary_heredoc b = not (b == 36 || b == 37 || b == 10)
 

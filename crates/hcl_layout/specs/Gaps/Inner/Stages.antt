@@ -158,7 +158,7 @@ space_len before a b =
     if has_no_gap_before b.kind then 0
     else (if is_spaced before a b || joins_with a.kind a.spelling b.kind b.spelling then 1 else 0)
 
--- the same of token i and the one before it
+-- how long the gap between token i and the one before it is
 abbrev pub space_len_at : List Kind → List Pair → ℕ → Option ℕ
 space_len_at before pairs i =
     option_and_then (λ (a : Pair). option_map (λ (b : Pair). space_len before a b)

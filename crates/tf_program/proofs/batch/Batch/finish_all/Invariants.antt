@@ -1,0 +1,12 @@
+-- The entries up to here are noted, and what the batch holds stays.
+use Rattle.std.proofs.Common.{◌≡◌, ◌+◌, take, vec_len}
+use Rattle.tf_program.specs.Batches.{AreNoted}
+use Rattle.tf_program.proofs.batch.Batch.finish_all.Given as goal
+
+abbrev pub invariant-loop-entry : goal.invariant-loop-entry
+invariant-loop-entry g l = record {
+  left : l.self.outcome.left + l.entry-index ≡ l.fn.self.outcome.left;
+  len : vec_len l.self.entries ≡ vec_len l.fn.self.entries;
+  entries : l.self.entries.items ≡ l.fn.self.entries.items;
+  noted : AreNoted (take l.entry-index l.entries) l.fn.self.outcome l.self.outcome;
+}

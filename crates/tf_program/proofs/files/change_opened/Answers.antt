@@ -1,0 +1,16 @@
+-- What the change made, or why it made nothing, is kept.
+use Rattle.std.proofs.Common.{◌≡◌, refl, subst, sym}
+use Rattle.tf_session.specs.declared.fault.RunFault.{RunFault}
+use Rattle.tf_files.specs.FileEffects.{HasNoEffectOnFile}
+use Rattle.tf_program.proofs.Fixing.{outcome_is}
+use Rattle.tf_program.proofs.files.change_opened.Goals as goal
+
+pub returns-in-Ok-clause-made : goal.returns-in-Ok-clause-made
+returns-in-Ok-clause-made g c =
+    let effect = c.in-Ok.field-0 in
+    let outcome = outcome_is c.from_issue_count.result effect.done.left c.from_issue_count.ensures.none c.from_issue_count.ensures.some in
+    (effect, c.in-Ok.ensures.effect, outcome, refl, refl)
+
+pub returns-in-Err-clause-fault : goal.returns-in-Err-clause-fault
+returns-in-Err-clause-fault g c =
+    subst (λ (fault : RunFault). HasNoEffectOnFile c.args.command c.args.file fault) (sym c.of_refused.ensures) c.in-Err.ensures.fault
