@@ -19,16 +19,20 @@ use Rattle.tf_rules.specs.declared.fix.Fix.{Fix}
 use Rattle.tf_rules.specs.declared.fix.Fix.TheVariants.{CommentMarker}
 use Rattle.tf_rules.specs.declared.rule.Rule.{Rule}
 use Rattle.tf_fix.specs.StepText.{gap_at, fixed_pairs, fixed_pairs_from, fix_step_text}
-use Rattle.tf_fix.specs.Comments.{IsSlashComment, fixed_comment, start_of, comment_edit}
+use Rattle.tf_fix.specs.Comments.{IsSlashComment, fixed_comment}
+use Rattle.tf_fix.specs.Edits.CommentEdits.{start_of, comment_edit}
 use Rattle.tf_rules.specs.Findings.{AreValidFindings}
 use Rattle.tf_rules.specs.declared.rule.Rule.TheVariants.{CommentSyntax}
 use Rattle.tf_fix.specs.Inner.Nonempty.{IsFixableWithin, HasValidFix}
-use Rattle.tf_fix.specs.FindingReplacements.{spelling_at, pairs_parts, IsOfRule, AreOfRule}
+use Rattle.tf_fix.specs.Insertions.{spelling_at}
+use Rattle.tf_fix.specs.Edits.FindingReplacements.{pairs_parts}
+use Rattle.tf_fix.specs.OfRule.{IsOfRule, AreOfRule}
 use Rattle.tf_rules.specs.Fixes.{is_comment_fix}
 use Rattle.tf_rules.specs.Table.{is_comment_rule}
-use Rattle.tf_fix.specs.Parts.{TextPart, parts_of, text_of_parts}
-use Rattle.tf_fix.specs.Parts.TextPart.{Gap, Token}
-use Rattle.tf_fix.specs.SettledSpaces.{Prev, prev_after, joins_prev}
+use Rattle.tf_fix.specs.Edits.Parts.{TextPart, parts_of, text_of_parts}
+use Rattle.tf_fix.specs.Edits.Parts.TextPart.{Gap, Token}
+use Rattle.tf_fix.specs.JoinedTokens.{Prev, joins_prev}
+use Rattle.tf_fix.specs.Edits.SettledSpaces.{prev_after}
 use Rattle.tf_fix.specs.Selection.{selected}
 use Rattle.tf_fix.proofs.PairLemmas.{parts_append, pairs_settled}
 use Rattle.tf_fix.proofs.PartLemmas.{known, take_range}

@@ -13,7 +13,7 @@ use Rattle.tf_rules.specs.declared.rule.Rule.TheVariants.{CommentSyntax}
 use Rattle.hcl_token.specs.Kinds.{is_line_comment}
 use Rattle.tf_rules.specs.FoundBy.{IsSlashCommentAt, MatchesRule}
 use Rattle.tf_fix.specs.Comments.{IsSlashComment}
-use Rattle.tf_fix.specs.FindingReplacements.{IsOfRule, AreOfRule}
+use Rattle.tf_fix.specs.OfRule.{IsOfRule, AreOfRule}
 
 line_comment_kind : (k : Kind) → is_line_comment k ≡ true → k ≡ LineComment
 line_comment_kind LineComment h = refl

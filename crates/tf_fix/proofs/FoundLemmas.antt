@@ -4,7 +4,7 @@ use Rattle.hcl_scan.specs.Tokenization.{MAX_TEXT}
 use Rattle.hcl_token.specs.TokenizedText.{TokenizedText}
 use Rattle.edit_record.specs.Lists.Pieces.{EditList, Transforms}
 use Rattle.tf_fix.specs.StepText.{fix_step_text}
-use Rattle.tf_fix.specs.StepEdits.{fix_step_edits}
+use Rattle.tf_fix.specs.Edits.StepEdits.{fix_step_edits}
 use Rattle.tf_rules.specs.SingleRule.{only}
 use Rattle.tf_rules.specs.RuleSets.{has_rule}
 use Rattle.tf_rules.specs.declared.finding.Finding.{Finding}

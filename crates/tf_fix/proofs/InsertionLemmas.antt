@@ -5,11 +5,13 @@ use Rattle.hcl_token.specs.Tokens.{Pair}
 use Rattle.tf_rules.specs.declared.fix.Insertion.{Insertion}
 use Rattle.tf_rules.specs.declared.fix.Insertion.TheVariants.{Nothing}
 use Rattle.tf_fix.specs.Inner.Views.{replacement_parts, skip_of, tail_of}
-use Rattle.tf_fix.specs.FindingReplacements.{inserted, pairs_parts, inserted_parts, empty_gap}
-use Rattle.tf_fix.specs.Parts.{TextPart, text_of_parts}
-use Rattle.tf_fix.specs.Parts.TextPart.{Token}
-use Rattle.tf_fix.specs.Replacements.{added, space_before}
-use Rattle.tf_fix.specs.SettledSpaces.{Prev, prev_after, settled}
+use Rattle.tf_fix.specs.Insertions.{inserted}
+use Rattle.tf_fix.specs.Edits.FindingReplacements.{pairs_parts, inserted_parts, empty_gap}
+use Rattle.tf_fix.specs.Edits.Parts.{TextPart, text_of_parts}
+use Rattle.tf_fix.specs.Edits.Parts.TextPart.{Token}
+use Rattle.tf_fix.specs.Edits.Replacements.{added, space_before}
+use Rattle.tf_fix.specs.JoinedTokens.{Prev}
+use Rattle.tf_fix.specs.Edits.SettledSpaces.{prev_after, settled}
 use Rattle.tf_fix.specs.declared.boundary.Boundary.{Boundary}
 use Rattle.tf_fix.specs.declared.boundary.Boundary.TheVariants.{Gap as BeforeGap, Token as BeforeToken}
 use Rattle.tf_fix.proofs.SettledLemmas.{written-append, settled-append, after-append}

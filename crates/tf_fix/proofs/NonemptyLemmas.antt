@@ -25,11 +25,13 @@ use Rattle.tf_rules.specs.declared.fix.Insertion.TheVariants.{Nothing}
 use Rattle.tf_rules.specs.declared.fix.KeptTokens.{KeptTokens}
 use Rattle.tf_fix.specs.Inner.Nonempty.{AreNonempty, HasValidFix}
 use Rattle.tf_fix.specs.Inner.Views.{HasByte}
-use Rattle.tf_fix.specs.FindingReplacements.{spelling_at, inserted, inserted_parts, empty_gap, replacements_from, fix_replacements, finding_replacements}
-use Rattle.tf_fix.specs.Parts.{TextPart, parts_of, text_of_parts}
-use Rattle.tf_fix.specs.Parts.TextPart.{Gap, Token}
-use Rattle.tf_fix.specs.Replacements.{Replacement, stays_until, space_before, pieces_from}
-use Rattle.tf_fix.specs.SettledSpaces.{Prev, prev_after, joins_prev, settled, space}
+use Rattle.tf_fix.specs.Insertions.{spelling_at, inserted}
+use Rattle.tf_fix.specs.Edits.FindingReplacements.{inserted_parts, empty_gap, replacements_from, fix_replacements, finding_replacements}
+use Rattle.tf_fix.specs.Edits.Parts.{TextPart, parts_of, text_of_parts}
+use Rattle.tf_fix.specs.Edits.Parts.TextPart.{Gap, Token}
+use Rattle.tf_fix.specs.Edits.Replacements.{Replacement, stays_until, space_before, pieces_from}
+use Rattle.tf_fix.specs.JoinedTokens.{Prev, joins_prev, space}
+use Rattle.tf_fix.specs.Edits.SettledSpaces.{prev_after, settled}
 use Rattle.tf_fix.proofs.PartLemmas.{known, gap_and_token_first, token_first, range_first}
 use Rattle.tf_fix.proofs.SelectionLemmas.{AreTaken, kept_le}
 

@@ -20,13 +20,16 @@ use Rattle.tf_rules.specs.Findings.{AreValidFindings}
 use Rattle.tf_rules.specs.Fixes.{ChangesEnd, AreInOrder}
 use Rattle.tf_fix.specs.Inner.Nonempty.{HasValidFix}
 use Rattle.tf_rules.specs.declared.rule.Rule.TheVariants.{CommentSyntax}
-use Rattle.tf_fix.specs.FindingReplacements.{inserted, pairs_parts, inserted_parts, empty_gap, replacements_from, fix_replacements, finding_replacements, step_replacements, IsOfRule, AreOfRule}
+use Rattle.tf_fix.specs.Insertions.{inserted}
+use Rattle.tf_fix.specs.Edits.FindingReplacements.{pairs_parts, inserted_parts, empty_gap, replacements_from, fix_replacements, finding_replacements, step_replacements}
+use Rattle.tf_fix.specs.OfRule.{IsOfRule, AreOfRule}
 use Rattle.tf_rules.specs.Fixes.{is_comment_fix}
 use Rattle.tf_rules.specs.Table.{is_comment_rule}
-use Rattle.tf_fix.specs.Parts.{TextPart, parts_of, parts, text_of_parts}
-use Rattle.tf_fix.specs.Parts.TextPart.{Gap, Token}
-use Rattle.tf_fix.specs.Replacements.{Replacement, replaced_from, replaced_text}
-use Rattle.tf_fix.specs.SettledSpaces.{Prev, joins_prev, settled, space}
+use Rattle.tf_fix.specs.Edits.Parts.{TextPart, parts_of, parts, text_of_parts}
+use Rattle.tf_fix.specs.Edits.Parts.TextPart.{Gap, Token}
+use Rattle.tf_fix.specs.Edits.Replacements.{Replacement, replaced_from, replaced_text}
+use Rattle.tf_fix.specs.JoinedTokens.{Prev, joins_prev, space}
+use Rattle.tf_fix.specs.Edits.SettledSpaces.{settled}
 use Rattle.tf_fix.specs.Selection.{selected}
 use Rattle.tf_fix.proofs.PartLemmas.{known, range_last, range_none, gap_and_token_first, token_first, parts_drop}
 use Rattle.tf_fix.proofs.SelectionLemmas.{AreTaken, selected_are, selected_of, kept_le}

@@ -6,10 +6,11 @@ use Rattle.std.proofs.lemmas.Option.{slice_get_cases}
 use Rattle.std.proofs.Math.Seq.{take-append_seam, drop-append_seam}
 use Rattle.hcl_token.specs.declared.kind.Kind.{Kind}
 use Rattle.hcl_token.specs.Tokens.{Pair, whole_text}
-use Rattle.tf_fix.specs.Parts.{TextPart, parts_of, text_of_parts}
-use Rattle.tf_fix.specs.Parts.TextPart.{Gap, Token}
-use Rattle.tf_fix.specs.SettledSpaces.{Prev, prev_after, joins_prev, is_glued}
-use Rattle.tf_fix.specs.Replacements.{Replacement, stays_until}
+use Rattle.tf_fix.specs.Edits.Parts.{TextPart, parts_of, text_of_parts}
+use Rattle.tf_fix.specs.Edits.Parts.TextPart.{Gap, Token}
+use Rattle.tf_fix.specs.JoinedTokens.{Prev, joins_prev}
+use Rattle.tf_fix.specs.Edits.SettledSpaces.{prev_after, is_glued}
+use Rattle.tf_fix.specs.Edits.Replacements.{Replacement, stays_until}
 use Rattle.tf_fix.specs.Inner.Views.{next_index}
 use Rattle.tf_fix.proofs.SettledLemmas.{written-append, after-append}
 

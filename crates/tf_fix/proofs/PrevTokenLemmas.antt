@@ -6,9 +6,10 @@ use Rattle.hcl_token.specs.declared.item.Item.{Item}
 use Rattle.hcl_token.specs.declared.kind.Kind.{Kind}
 use Rattle.hcl_token.specs.TokenizedText.{item_of, item_after, kind_of, spelling_of, gap_of}
 use Rattle.hcl_token.specs.Tokens.{Pair}
-use Rattle.tf_fix.specs.Parts.{parts_of, text_of_parts}
-use Rattle.tf_fix.specs.Parts.TextPart.{Gap, Token}
-use Rattle.tf_fix.specs.SettledSpaces.{Prev, prev_after, joins_prev, is_glued}
+use Rattle.tf_fix.specs.Edits.Parts.{parts_of, text_of_parts}
+use Rattle.tf_fix.specs.Edits.Parts.TextPart.{Gap, Token}
+use Rattle.tf_fix.specs.JoinedTokens.{Prev, joins_prev}
+use Rattle.tf_fix.specs.Edits.SettledSpaces.{prev_after, is_glued}
 use Rattle.tf_fix.specs.Inner.Views.{prev_at}
 use Rattle.tf_fix.proofs.PartLemmas.{known, range_last, gap_and_token_first, token_first, parts_drop, start_text, stop_text, after_token, after_empty, prev_after_whitespace, glued_gap, glued_empty, glued_whitespace, glued_token}
 

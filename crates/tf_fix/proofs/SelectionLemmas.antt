@@ -15,8 +15,9 @@ use Rattle.tf_rules.specs.declared.rule.Rule.{Rule}
 use Rattle.tf_rules.specs.Findings.{is_fixable, IsFixValid, AreValidFindings}
 use Rattle.tf_rules.specs.Fixes.{AreInOrder}
 use Rattle.tf_fix.specs.Inner.Nonempty.{IsFixableWithin, HasValidFix}
-use Rattle.tf_fix.specs.FindingReplacements.{replacements_from, fix_replacements, finding_replacements, IsOfRule, AreOfRule}
-use Rattle.tf_fix.specs.Replacements.{Replacement, AreReplacementsInOrder}
+use Rattle.tf_fix.specs.Edits.FindingReplacements.{replacements_from, fix_replacements, finding_replacements}
+use Rattle.tf_fix.specs.OfRule.{IsOfRule, AreOfRule}
+use Rattle.tf_fix.specs.Edits.Replacements.{Replacement, AreReplacementsInOrder}
 use Rattle.tf_fix.specs.Selection.{selected_from}
 use Rattle.tf_fix.specs.Inner.Views.{HasByte, HaveBytes}
 use Rattle.tf_fix.specs.declared.splice.Replacement.{Replacement as Replacing}

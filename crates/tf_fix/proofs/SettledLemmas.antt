@@ -6,10 +6,11 @@ use Rattle.edit_record.specs.Lists.Pieces.{old_text, new_text}
 use Rattle.hcl_token.specs.declared.kind.Kind.{Kind}
 use Rattle.hcl_token.specs.Tokens.{Pair, whole_text}
 use Rattle.hcl_scan.specs.Follows.{IsApart, AreApart}
-use Rattle.tf_fix.specs.Parts.{TextPart, parts_of, text_of_parts}
-use Rattle.tf_fix.specs.Parts.TextPart.{Gap, Token}
-use Rattle.tf_fix.specs.SettledSpaces.{Prev, prev_after, joins_prev, settled, is_glued, space}
-use Rattle.tf_fix.specs.Replacements.{Replacement, AreReplacementsInOrder, replaced_from, replaced_text, stays_until, space_before, pieces_from, replaced_pieces}
+use Rattle.tf_fix.specs.Edits.Parts.{TextPart, parts_of, text_of_parts}
+use Rattle.tf_fix.specs.Edits.Parts.TextPart.{Gap, Token}
+use Rattle.tf_fix.specs.JoinedTokens.{Prev, joins_prev, space}
+use Rattle.tf_fix.specs.Edits.SettledSpaces.{prev_after, settled, is_glued}
+use Rattle.tf_fix.specs.Edits.Replacements.{Replacement, AreReplacementsInOrder, replaced_from, replaced_text, stays_until, space_before, pieces_from, replaced_pieces}
 
 pub written-append : (xs ys : List TextPart) → text_of_parts (xs ++ ys) ≡ text_of_parts xs ++ text_of_parts ys
 written-append [] ys = refl

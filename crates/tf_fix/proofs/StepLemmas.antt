@@ -17,13 +17,14 @@ use Rattle.tf_rules.specs.declared.finding.Finding.{Finding}
 use Rattle.tf_rules.specs.declared.rule.Rule.{Rule}
 use Rattle.tf_fix.specs.StepText.{fix_step_text}
 use Rattle.tf_fix.specs.declared.fault.LintFault.{LintFault}
-use Rattle.tf_fix.specs.Comments.{comment_edit}
-use Rattle.tf_fix.specs.StepEdits.{fix_step_entries}
+use Rattle.tf_fix.specs.Edits.CommentEdits.{comment_edit}
+use Rattle.tf_fix.specs.Edits.StepEdits.{fix_step_entries}
 use Rattle.tf_rules.specs.Findings.{AreValidFindings}
-use Rattle.tf_fix.specs.FindingReplacements.{step_replacements, AreOfRule}
+use Rattle.tf_fix.specs.Edits.FindingReplacements.{step_replacements}
+use Rattle.tf_fix.specs.OfRule.{AreOfRule}
 use Rattle.tf_rules.specs.Table.{is_comment_rule}
-use Rattle.tf_fix.specs.Parts.{parts}
-use Rattle.tf_fix.specs.Replacements.{Replacement, AreReplacementsInOrder, replaced_pieces}
+use Rattle.tf_fix.specs.Edits.Parts.{parts}
+use Rattle.tf_fix.specs.Edits.Replacements.{Replacement, AreReplacementsInOrder, replaced_pieces}
 use Rattle.tf_fix.specs.Selection.{selected}
 use Rattle.tf_fix.proofs.CommentLemmas.{comment_pieces, pieces_changes, comments_before, comments_after, comments_edits}
 use Rattle.tf_fix.proofs.NonemptyLemmas.{tokens_nonempty, selected_real, real_changes}

@@ -1,11 +1,10 @@
 pub mod StepText
 pub mod Comments
+pub mod Edits
 pub mod Inner
-pub mod StepEdits
-pub mod FindingReplacements
+pub mod Insertions
+pub mod JoinedTokens
+pub mod OfRule
 pub mod OneStep
-pub mod Parts
 pub mod ParsedTexts
-pub mod Replacements
-pub mod SettledSpaces
 pub mod Selection

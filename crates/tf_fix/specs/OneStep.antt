@@ -1,5 +1,7 @@
--- One step of a fix: what one rule finds in a text, and the text that the step makes. The text is
--- by StepText, the edits are by StepEdits over Replacements.
+-- The text: StepText, over Selection and Insertions; the edits: Edits/StepEdits, over the files
+-- beside it. What a step makes is believed by the first; the edits are proved to make that text.
+--
+-- One step of a fix: what one rule finds in a text, and what the step makes of it.
 use Rattle.std.specs.Prelude.{◌≡◌, ◌≤◌, ◌<◌, ℕ, List, length}
 use Rattle.hcl_scan.specs.Tokenization.{MAX_TEXT}
 use Rattle.hcl_token.specs.TokenizedText.{TokenizedText}
@@ -8,7 +10,7 @@ use Rattle.tf_rules.specs.declared.finding.Finding.{Finding}
 use Rattle.tf_rules.specs.declared.rule.Rule.{Rule}
 use Rattle.tf_rules.specs.declared.rule_set.RuleSet.{RuleSet}
 use Rattle.tf_fix.specs.StepText.{fix_step_text}
-use Rattle.tf_fix.specs.StepEdits.{fix_step_edits}
+use Rattle.tf_fix.specs.Edits.StepEdits.{fix_step_edits}
 use Rattle.tf_fix.specs.Selection.{selected}
 use Rattle.tf_findings.specs.Findings.{AreFindings}
 use Rattle.tf_fix.specs.ParsedTexts.{IsParseOf}

@@ -10,8 +10,8 @@ use Rattle.tf_rules.specs.declared.fix.Fix.TheVariants.{CommentMarker, Tokens}
 use Rattle.tf_rules.specs.declared.fix.Insertion.{Insertion}
 use Rattle.tf_rules.specs.declared.fix.KeptTokens.{KeptTokens}
 use Rattle.tf_fix.specs.Comments.{fixed_comment}
-use Rattle.tf_fix.specs.FindingReplacements.{inserted}
-use Rattle.tf_fix.specs.SettledSpaces.{Prev, joins_prev, space}
+use Rattle.tf_fix.specs.Insertions.{inserted}
+use Rattle.tf_fix.specs.JoinedTokens.{Prev, joins_prev, space}
 use Rattle.tf_fix.specs.Selection.{selected}
 
 -- the gap before the token of this number

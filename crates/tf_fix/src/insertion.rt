@@ -1,10 +1,11 @@
 //! The text that replaces removed parts.
 
 ghost use Rattle.std.specs.Prelude.{◌≡◌, ℕ, IfOk};
-ghost use Rattle.tf_fix.specs.Parts.{text_of_parts};
-ghost use Rattle.tf_fix.specs.SettledSpaces.{prev_after, settled};
+ghost use Rattle.tf_fix.specs.Edits.Parts.{text_of_parts};
+ghost use Rattle.tf_fix.specs.Edits.SettledSpaces.{prev_after, settled};
 ghost use Rattle.tf_fix.specs.Inner.Views.{prev_view, HasByte};
-ghost use Rattle.tf_fix.specs.FindingReplacements.{pairs_parts, inserted};
+ghost use Rattle.tf_fix.specs.Edits.FindingReplacements.{pairs_parts};
+ghost use Rattle.tf_fix.specs.Insertions.{inserted};
 
 use crate::prev_token::{PrevToken, joins_prev};
 use crate::splice::Replacement;

@@ -12,9 +12,10 @@ ghost use Rattle.tf_rules.specs.declared.rule.Rule.{Rule};
 ghost use Rattle.tf_rules.specs.declared.rule.Rule.TheVariants.{CommentSyntax};
 ghost use Rattle.tf_fix.specs.StepText.{fixed_pairs_from, fix_step_text};
 ghost use Rattle.tf_rules.specs.Table.{is_comment_rule};
-ghost use Rattle.tf_fix.specs.FindingReplacements.{step_replacements, AreOfRule};
-ghost use Rattle.tf_fix.specs.Parts.{parts};
-ghost use Rattle.tf_fix.specs.Replacements.{replaced_text};
+ghost use Rattle.tf_fix.specs.Edits.FindingReplacements.{step_replacements};
+ghost use Rattle.tf_fix.specs.OfRule.{AreOfRule};
+ghost use Rattle.tf_fix.specs.Edits.Parts.{parts};
+ghost use Rattle.tf_fix.specs.Edits.Replacements.{replaced_text};
 ghost use Rattle.tf_fix.specs.Selection.{selected, SelectedAreApart};
 
 /// The text by pairs is the text by parts: gaps and tokens of each finding go and others come, and

@@ -9,9 +9,9 @@ ghost use Rattle.hcl_scan.specs.Follows.{AreApart};
 ghost use Rattle.tf_findings.specs.RuleFilter.{is_found_by};
 ghost use Rattle.tf_rules.specs.Findings.{AreValidFindings};
 ghost use Rattle.tf_fix.specs.StepText.{fix_step_text};
-ghost use Rattle.tf_fix.specs.StepEdits.{fix_step_entries, fix_step_edits};
+ghost use Rattle.tf_fix.specs.Edits.StepEdits.{fix_step_entries, fix_step_edits};
 ghost use Rattle.tf_rules.specs.Table.{is_comment_rule};
-ghost use Rattle.tf_fix.specs.FindingReplacements.{AreOfRule};
+ghost use Rattle.tf_fix.specs.OfRule.{AreOfRule};
 ghost use Rattle.tf_fix.specs.Inner.Nonempty.{AreNonempty};
 ghost use Rattle.tf_fix.specs.declared.fault.LintFault.TheVariants.{TooLong, Memory};
 

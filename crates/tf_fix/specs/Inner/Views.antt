@@ -1,10 +1,11 @@
 -- For proofs: what the values of the code represent.
 use Rattle.std.specs.Prelude.{ℕ, ◌+◌, ◌*◌, ◌<◌, ◌≤◌, List, [], ◌∷◌, length, map, Some, None, ⊤}
 use Rattle.hcl_token.specs.Tokens.{Pair}
-use Rattle.tf_fix.specs.FindingReplacements.{spelling_at, inserted, inserted_parts, empty_gap}
-use Rattle.tf_fix.specs.Parts.{TextPart}
-use Rattle.tf_fix.specs.SettledSpaces.{Prev}
-use Rattle.tf_fix.specs.Replacements.{Replacement}
+use Rattle.tf_fix.specs.Insertions.{spelling_at, inserted}
+use Rattle.tf_fix.specs.Edits.FindingReplacements.{inserted_parts, empty_gap}
+use Rattle.tf_fix.specs.Edits.Parts.{TextPart}
+use Rattle.tf_fix.specs.JoinedTokens.{Prev}
+use Rattle.tf_fix.specs.Edits.Replacements.{Replacement}
 use Rattle.tf_fix.specs.declared.boundary.Boundary.{Boundary}
 use Rattle.tf_fix.specs.declared.boundary.Boundary.TheVariants.{Gap as BeforeGap, Token as BeforeToken}
 use Rattle.tf_fix.specs.declared.prev_token.PrevToken.{PrevToken}

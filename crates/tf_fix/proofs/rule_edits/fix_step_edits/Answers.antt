@@ -2,7 +2,7 @@ use Rattle.std.proofs.Common.{filter, sym, inr, refl, subst}
 use Rattle.edit_record.specs.Lists.Pieces.{EditList, Transforms}
 use Rattle.tf_findings.specs.RuleFilter.{is_found_by}
 use Rattle.tf_fix.specs.StepText.{fix_step_text}
-use Rattle.tf_fix.specs.StepEdits.{fix_step_entries}
+use Rattle.tf_fix.specs.Edits.StepEdits.{fix_step_entries}
 use Rattle.tf_fix.proofs.NonemptyLemmas.{tokens_nonempty}
 use Rattle.tf_fix.proofs.StepLemmas.{step_pieces, step_turns, step_same, step_fits, step_too_long, read_made, handed_on}
 use Rattle.tf_fix.proofs.rule_edits.fix_step_edits.Goals as goal

@@ -1,8 +1,8 @@
 use Rattle.std.proofs.Common.{◌≡◌, ◌≤◌, ◌-◌, ◌*◌, ◌∷◌, ◌++◌, [], List, length, take, drop, slice_index_or, subst, arith, refl, sym, ◌∙◌}
 use Rattle.edit_record.specs.Lists.Pieces.{EditEntry, changed_entries}
-use Rattle.tf_fix.specs.Replacements.{replaced_pieces}
-use Rattle.tf_fix.specs.SettledSpaces.{Prev}
-use Rattle.tf_fix.specs.Parts.{parts}
+use Rattle.tf_fix.specs.Edits.Replacements.{replaced_pieces}
+use Rattle.tf_fix.specs.JoinedTokens.{Prev}
+use Rattle.tf_fix.specs.Edits.Parts.{parts}
 use Rattle.tf_fix.specs.Inner.Views.{boundary_index, prev_view, replacements}
 use Rattle.tf_fix.specs.declared.splice.Replacement.{Replacement}
 use Rattle.tf_fix.proofs.InsertionLemmas.{insertion_after}

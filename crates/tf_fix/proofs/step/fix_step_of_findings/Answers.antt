@@ -11,7 +11,7 @@ use Rattle.tf_rules.specs.Findings.{AreValidFindings}
 use Rattle.tf_rules.specs.declared.finding.Finding.{Finding}
 use Rattle.tf_rules.specs.declared.rule.Rule.{Rule}
 use Rattle.tf_rules.specs.declared.rule_set.RuleSet.{RuleSet}
-use Rattle.tf_fix.specs.FindingReplacements.{AreOfRule}
+use Rattle.tf_fix.specs.OfRule.{AreOfRule}
 use Rattle.tf_fix.specs.OneStep.{RulesFind}
 use Rattle.tf_fix.specs.declared.parsed.Parsed.{Parsed}
 use Rattle.tf_fix.proofs.FoundLemmas.{step_of, too_long}

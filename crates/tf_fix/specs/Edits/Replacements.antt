@@ -2,8 +2,9 @@
 use Rattle.std.specs.Prelude.{ℕ, ◌≤◌, List, [], ◌∷◌, ◌++◌, drop, slice_range, None, if◌then◌else◌}
 use Rattle.edit_record.specs.Lists.Pieces.{Piece}
 use Rattle.edit_record.specs.Lists.Pieces.Piece.{Kept, Changed}
-use Rattle.tf_fix.specs.Parts.{TextPart, text_of_parts}
-use Rattle.tf_fix.specs.SettledSpaces.{Prev, prev_after, settled, is_glued, space}
+use Rattle.tf_fix.specs.Edits.Parts.{TextPart, text_of_parts}
+use Rattle.tf_fix.specs.JoinedTokens.{Prev, space}
+use Rattle.tf_fix.specs.Edits.SettledSpaces.{prev_after, settled, is_glued}
 
 -- The parts from one place to another are replaced by others.
 pub record Replacement : Type 0 where

@@ -5,10 +5,10 @@ use Rattle.hcl_token.specs.TokenizedText.{TokenizedText}
 use Rattle.tf_rules.specs.declared.finding.Finding.{Finding}
 use Rattle.tf_rules.specs.declared.rule.Rule.{Rule}
 use Rattle.tf_rules.specs.Table.{is_comment_rule}
-use Rattle.tf_fix.specs.Comments.{comment_edit}
-use Rattle.tf_fix.specs.FindingReplacements.{step_replacements}
-use Rattle.tf_fix.specs.Parts.{parts}
-use Rattle.tf_fix.specs.Replacements.{replaced_pieces}
+use Rattle.tf_fix.specs.Edits.CommentEdits.{comment_edit}
+use Rattle.tf_fix.specs.Edits.FindingReplacements.{step_replacements}
+use Rattle.tf_fix.specs.Edits.Parts.{parts}
+use Rattle.tf_fix.specs.Edits.Replacements.{replaced_pieces}
 use Rattle.tf_fix.specs.Selection.{selected}
 
 -- the edits of the step: an edit of two bytes for each comment that it takes; for the other rules
