@@ -3,11 +3,11 @@ use Rattle.std.proofs.Common.{◌≡◌, ℕ, ◌+◌, ◌-◌, ◌*◌, ◌≤�
 use Rattle.std.proofs.lemmas.List.{take_all}
 use Rattle.edit_record.specs.Lists.Pieces.{EditEntry, changed_entries}
 use Rattle.hcl_token.specs.Tokens.{Pair}
-use Rattle.tf_fix.specs.Edits.Parts.{TextPart, parts_of, text_of_parts}
+use Rattle.tf_fix.specs.Edits.Parts.{TextPart, parts_of, text_of_parts, boundary_index}
 use Rattle.tf_fix.specs.JoinedTokens.{Prev}
 use Rattle.tf_fix.specs.Edits.SettledSpaces.{prev_after}
 use Rattle.tf_fix.specs.Edits.Replacements.{Replacement, AreReplacementsInOrder, added, stays_until, pieces_from}
-use Rattle.tf_fix.specs.Inner.Views.{boundary_index, next_index, replacement_parts, replacements, HaveBytes}
+use Rattle.tf_fix.specs.Inner.Views.{next_index, replacement_parts, replacements, HaveBytes}
 use Rattle.tf_fix.specs.declared.splice.Replacement.{Replacement as Replacing}
 use Rattle.tf_fix.proofs.PartLemmas.{length_written, staying_is}
 

@@ -26,12 +26,14 @@ use Rattle.tf_rules.specs.declared.fix.KeptTokens.{KeptTokens}
 use Rattle.tf_fix.specs.Inner.Nonempty.{AreNonempty, HasValidFix}
 use Rattle.tf_fix.specs.Inner.Views.{HasByte}
 use Rattle.tf_fix.specs.Insertions.{spelling_at, inserted}
-use Rattle.tf_fix.specs.Edits.FindingReplacements.{inserted_parts, empty_gap, replacements_from, fix_replacements, finding_replacements}
-use Rattle.tf_fix.specs.Edits.Parts.{TextPart, parts_of, text_of_parts}
+use Rattle.tf_fix.specs.Edits.FindingReplacements.{inserted_parts, replacements_from, fix_replacements, finding_replacements}
+use Rattle.tf_fix.specs.Edits.Parts.{TextPart, parts_of, text_of_parts, boundary_index}
 use Rattle.tf_fix.specs.Edits.Parts.TextPart.{Gap, Token}
 use Rattle.tf_fix.specs.Edits.Replacements.{Replacement, stays_until, space_before, pieces_from}
 use Rattle.tf_fix.specs.JoinedTokens.{Prev, joins_prev, space}
 use Rattle.tf_fix.specs.Edits.SettledSpaces.{prev_after, settled}
+use Rattle.tf_fix.specs.declared.boundary.Boundary.{Boundary}
+use Rattle.tf_fix.specs.declared.boundary.Boundary.TheVariants.{Gap as BeforeGap, Token as BeforeToken}
 use Rattle.tf_fix.proofs.PartLemmas.{known, gap_and_token_first, token_first, range_first}
 use Rattle.tf_fix.proofs.SelectionLemmas.{AreTaken, kept_le}
 
@@ -252,43 +254,42 @@ both_real : (xs : List TextPart) (rs ss : List Replacement) → AreReal xs rs �
 both_real xs [] ss a b = b
 both_real xs (r ∷ rs) ss a b = (a.0, both_real xs rs ss a.1 b)
 
+-- the number of the token at a place
+abbrev token_at : Boundary → ℕ
+token_at (BeforeGap i) = i
+token_at (BeforeToken i) = i
+
 -- what is removed between two places has a byte, if the second is after more tokens
-removed_nonempty : (pairs : List Pair) (last : List ℕ) (at n place skip to : ℕ) → AreNonempty pairs → place ≡ 2 * at + skip → skip ≤ 1 → at < n → n ≤ length pairs → 2 * n ≤ to
-    → 0 < length (text_of_parts (slice_range (parts_of pairs last) place to))
-removed_nonempty pairs last at n place zero to are e le lt within past =
-    let same : place ≡ 2 * at = omega (arith, e) in
-    rw same (gap_nonempty pairs last at to are (omega (arith, lt, within)) (omega (arith, lt, past)))
-removed_nonempty pairs last at n place (suc zero) to are e le lt within past =
-    let same : place ≡ 2 * at + 1 = omega (arith, e) in
-    rw same (token_nonempty pairs last at to are (omega (arith, lt, within)) (omega (arith, lt, past)))
-removed_nonempty pairs last at n place (suc (suc skip)) to are e le lt within past = absurd (omega (arith, le))
+removed_nonempty : (pairs : List Pair) (last : List ℕ) (n : ℕ) (from : Boundary) (to : ℕ) → AreNonempty pairs → token_at from < n → n ≤ length pairs → 2 * n ≤ to
+    → 0 < length (text_of_parts (slice_range (parts_of pairs last) (boundary_index from) to))
+removed_nonempty pairs last n (BeforeGap at) to are lt within past = gap_nonempty pairs last at to are (omega (arith, lt, within)) (omega (arith, lt, past))
+removed_nonempty pairs last n (BeforeToken at) to are lt within past = token_nonempty pairs last at to are (omega (arith, lt, within)) (omega (arith, lt, past))
 
 -- an insertion that is not Nothing adds text
-brings : (pairs : List Pair) (first : ℕ) (w : Insertion) (skip : ℕ) (tail : List TextPart) (n : ℕ) → skip ≤ 1 → (w ≡ Nothing → ⊥) → 0 < n + length (text_of_parts (inserted_parts skip (inserted pairs first w) tail))
-brings pairs first Nothing skip tail n le some = absurd (some refl)
-brings pairs first w zero tail n le some = omega arith
-brings pairs first w (suc zero) tail n le some = omega arith
-brings pairs first w (suc (suc skip)) tail n le some = absurd (omega (arith, le))
+brings : (pairs : List Pair) (first : ℕ) (w : Insertion) (from to : Boundary) (n : ℕ) → (w ≡ Nothing → ⊥) → 0 < n + length (text_of_parts (inserted_parts from to (inserted pairs first w)))
+brings pairs first Nothing from to n some = absurd (some refl)
+brings pairs first w (BeforeGap i) to n some = omega arith
+brings pairs first w (BeforeToken i) to n some = omega arith
 
-real_one : (pairs : List Pair) (last : List ℕ) (first at n place skip to : ℕ) (w : Insertion) (tail : List TextPart) → AreNonempty pairs → place ≡ 2 * at + skip → skip ≤ 1
-    → ChangesSomething w at n → n ≤ length pairs → 2 * n ≤ to
-    → 0 < length (text_of_parts (slice_range (parts_of pairs last) place to)) + length (text_of_parts (inserted_parts skip (inserted pairs first w) tail))
-real_one pairs last first at n place skip to Nothing tail are e le some within past = omega (arith, removed_nonempty pairs last at n place skip to are e le some within past)
-real_one pairs last first at n place skip to w tail are e le some within past = brings pairs first w skip tail _ le (λ same. absurd (cc same))
+real_one : (pairs : List Pair) (last : List ℕ) (first n : ℕ) (from to : Boundary) (w : Insertion) → AreNonempty pairs
+    → ChangesSomething w (token_at from) n → n ≤ length pairs → 2 * n ≤ boundary_index to
+    → 0 < length (text_of_parts (slice_range (parts_of pairs last) (boundary_index from) (boundary_index to))) + length (text_of_parts (inserted_parts from to (inserted pairs first w)))
+real_one pairs last first n from to Nothing are some within past = omega (arith, removed_nonempty pairs last n from (boundary_index to) are some within past)
+real_one pairs last first n from to w are some within past = brings pairs first w from to _ (λ same. absurd (cc same))
 
 something : (first at past : ℕ) (w : Insertion) → ChangesEnd first w at past → ChangesSomething w at past
 something first at past Nothing end = end.1
 something first at past w end = end
 
-kept_real : (pairs : List Pair) (last : List ℕ) (first past at place skip : ℕ) (w : Insertion) (kept : List (Option KeptTokens)) → AreNonempty pairs → past ≤ length pairs → AreInOrder first past at w kept
-    → place ≡ 2 * at + skip → skip ≤ 1 → AreReal (parts_of pairs last) (replacements_from pairs first place skip w kept past)
-kept_real pairs last first past at place skip w [] are le o e s =
-    (real_one pairs last first at past place skip (2 * past) w [] are e s (something first at past w o) le (omega arith), tt)
-kept_real pairs last first past at place skip w (None ∷ kept) are le o e s = kept_real pairs last first past at place skip w kept are le o e s
-kept_real pairs last first past at place skip w (Some k ∷ kept) are le o e s =
+kept_real : (pairs : List Pair) (last : List ℕ) (first past : ℕ) (from : Boundary) (w : Insertion) (kept : List (Option KeptTokens)) → AreNonempty pairs → past ≤ length pairs → AreInOrder first past (token_at from) w kept
+    → AreReal (parts_of pairs last) (replacements_from pairs first from w kept past)
+kept_real pairs last first past from w [] are le o =
+    (real_one pairs last first past from (BeforeGap past) w are (something first (token_at from) past w o) le (omega arith), tt)
+kept_real pairs last first past from w (None ∷ kept) are le o = kept_real pairs last first past from w kept are le o
+kept_real pairs last first past from w (Some k ∷ kept) are le o =
     let end = kept_le first past k.to k.after kept o.2 in (
-      real_one pairs last first at k.from place skip (2 * k.from + 1) w empty_gap are e s o.0 (omega (arith, o.1, end, le)) (omega arith),
-      kept_real pairs last first past k.to (2 * k.to) 0 k.after kept are le o.2 (omega arith) (omega arith),
+      real_one pairs last first k.from from (BeforeToken k.from) w are o.0 (omega (arith, o.1, end, le)) (omega arith),
+      kept_real pairs last first past (BeforeGap k.to) k.after kept are le o.2,
     )
 
 fixed_real : (pairs : List Pair) (last : List ℕ) (first past : ℕ) (fix : Option Fix) → AreNonempty pairs → past ≤ length pairs → HasValidFix first past fix
@@ -296,7 +297,7 @@ fixed_real : (pairs : List Pair) (last : List ℕ) (first past : ℕ) (fix : Opt
 fixed_real pairs last first past None are le fits = tt
 fixed_real pairs last first past (Some CommentMarker) are le fits = tt
 fixed_real pairs last first past (Some (Tokens before kept)) are le fits =
-    kept_real pairs last first past first (2 * first + 1) 1 before kept are le fits refl (omega arith)
+    kept_real pairs last first past (BeforeToken first) before kept are le fits
 
 pub selected_real : (pairs : List Pair) (last : List ℕ) (at : ℕ) (fs : List Finding) → AreNonempty pairs → AreTaken at pairs fs
     → AreReal (parts_of pairs last) (flat_map (finding_replacements pairs) fs)

@@ -21,16 +21,18 @@ use Rattle.tf_rules.specs.Fixes.{ChangesEnd, AreInOrder}
 use Rattle.tf_fix.specs.Inner.Nonempty.{HasValidFix}
 use Rattle.tf_rules.specs.declared.rule.Rule.TheVariants.{CommentSyntax}
 use Rattle.tf_fix.specs.Insertions.{inserted}
-use Rattle.tf_fix.specs.Edits.FindingReplacements.{pairs_parts, inserted_parts, empty_gap, replacements_from, fix_replacements, finding_replacements, step_replacements}
+use Rattle.tf_fix.specs.Edits.FindingReplacements.{pairs_parts, inserted_parts, replacements_from, fix_replacements, finding_replacements, step_replacements}
 use Rattle.tf_fix.specs.OfRule.{IsOfRule, AreOfRule}
 use Rattle.tf_rules.specs.Fixes.{is_comment_fix}
 use Rattle.tf_rules.specs.Table.{is_comment_rule}
-use Rattle.tf_fix.specs.Edits.Parts.{TextPart, parts_of, parts, text_of_parts}
+use Rattle.tf_fix.specs.Edits.Parts.{TextPart, parts_of, parts, text_of_parts, boundary_index}
 use Rattle.tf_fix.specs.Edits.Parts.TextPart.{Gap, Token}
 use Rattle.tf_fix.specs.Edits.Replacements.{Replacement, replaced_from, replaced_text}
 use Rattle.tf_fix.specs.JoinedTokens.{Prev, joins_prev, space}
 use Rattle.tf_fix.specs.Edits.SettledSpaces.{settled}
 use Rattle.tf_fix.specs.Selection.{selected}
+use Rattle.tf_fix.specs.declared.boundary.Boundary.{Boundary}
+use Rattle.tf_fix.specs.declared.boundary.Boundary.TheVariants.{Gap as BeforeGap, Token as BeforeToken}
 use Rattle.tf_fix.proofs.PartLemmas.{known, range_last, range_none, gap_and_token_first, token_first, parts_drop}
 use Rattle.tf_fix.proofs.SelectionLemmas.{AreTaken, selected_are, selected_of, kept_le}
 
@@ -91,31 +93,33 @@ inner_range pairs last gap a b lt within =
     ∙ sym (ap (λ t. pairs_parts (with_gap gap t)) side)
 
 -- from a place on, what is before the first that is kept stays
-from_place : (pairs : List Pair) (last : List ℕ) (first a place skip : ℕ) (w : Insertion) (kept : List (Option KeptTokens)) (past : ℕ) (rs : List Replacement)
-    → replaced_from a (parts_of pairs last) (replacements_from pairs first place skip w kept past ++ rs)
-    ≡ slice_range (parts_of pairs last) a place ++ replaced_from place (parts_of pairs last) (replacements_from pairs first place skip w kept past ++ rs)
-from_place pairs last first a place skip w [] past rs =
+from_place : (pairs : List Pair) (last : List ℕ) (first a : ℕ) (from : Boundary) (w : Insertion) (kept : List (Option KeptTokens)) (past : ℕ) (rs : List Replacement)
+    → replaced_from a (parts_of pairs last) (replacements_from pairs first from w kept past ++ rs)
+    ≡ slice_range (parts_of pairs last) a (boundary_index from) ++ replaced_from (boundary_index from) (parts_of pairs last) (replacements_from pairs first from w kept past ++ rs)
+from_place pairs last first a from w [] past rs =
     let xs = parts_of pairs last in
-    ap (λ t. slice_range xs a place ++ (t ++ (inserted_parts skip (inserted pairs first w) [] ++ replaced_from (2 * past) xs rs))) (sym (range_none xs place place (omega arith)))
-from_place pairs last first a place skip w (None ∷ kept) past rs = from_place pairs last first a place skip w kept past rs
-from_place pairs last first a place skip w (Some k ∷ kept) past rs =
+    let place = boundary_index from in
+    ap (λ t. slice_range xs a place ++ (t ++ (inserted_parts from (BeforeGap past) (inserted pairs first w) ++ replaced_from (2 * past) xs rs))) (sym (range_none xs place place (omega arith)))
+from_place pairs last first a from w (None ∷ kept) past rs = from_place pairs last first a from w kept past rs
+from_place pairs last first a from w (Some k ∷ kept) past rs =
     let xs = parts_of pairs last in
-    ap (λ t. slice_range xs a place ++ (t ++ (inserted_parts skip (inserted pairs first w) empty_gap ++ replaced_from (2 * k.from + 1) xs (replacements_from pairs first (2 * k.to) 0 k.after kept past ++ rs))))
+    let place = boundary_index from in
+    ap (λ t. slice_range xs a place ++ (t ++ (inserted_parts from (BeforeToken k.from) (inserted pairs first w) ++ replaced_from (2 * k.from + 1) xs (replacements_from pairs first (BeforeGap k.to) k.after kept past ++ rs))))
     (sym (range_none xs place place (omega arith)))
 
 -- a range that is kept, and what follows it
 kept_one : (pairs : List Pair) (last gap : List ℕ) (first past : ℕ) (k : KeptTokens) (kept : List (Option KeptTokens)) (rs : List Replacement) (following : List TextPart) → k.from < k.to → k.to ≤ length pairs
-    → replaced_from (2 * k.to) (parts_of pairs last) (replacements_from pairs first (2 * k.to) 0 k.after kept past ++ rs) ≡ following
-    → Gap gap ∷ replaced_from (2 * k.from + 1) (parts_of pairs last) (replacements_from pairs first (2 * k.to) 0 k.after kept past ++ rs) ≡ pairs_parts (with_gap gap (slice_range pairs k.from k.to)) ++ following
+    → replaced_from (2 * k.to) (parts_of pairs last) (replacements_from pairs first (BeforeGap k.to) k.after kept past ++ rs) ≡ following
+    → Gap gap ∷ replaced_from (2 * k.from + 1) (parts_of pairs last) (replacements_from pairs first (BeforeGap k.to) k.after kept past ++ rs) ≡ pairs_parts (with_gap gap (slice_range pairs k.from k.to)) ++ following
 kept_one pairs last gap first past k kept rs following some within rest =
     let xs = parts_of pairs last in
-    ap (λ t. Gap gap ∷ t) (from_place pairs last first (2 * k.from + 1) (2 * k.to) 0 k.after kept past rs)
-    ∙ ap (λ t. t ++ replaced_from (2 * k.to) xs (replacements_from pairs first (2 * k.to) 0 k.after kept past ++ rs)) (inner_range pairs last gap k.from k.to some within)
+    ap (λ t. Gap gap ∷ t) (from_place pairs last first (2 * k.from + 1) (BeforeGap k.to) k.after kept past rs)
+    ∙ ap (λ t. t ++ replaced_from (2 * k.to) xs (replacements_from pairs first (BeforeGap k.to) k.after kept past ++ rs)) (inner_range pairs last gap k.from k.to some within)
     ∙ ap (λ t. pairs_parts (with_gap gap (slice_range pairs k.from k.to)) ++ t) rest
 
 -- what follows a range that is kept
 kept_body : (pairs : List Pair) (last : List ℕ) (first past at : ℕ) (w : Insertion) (kept : List (Option KeptTokens)) (rs : List Replacement) → AreInOrder first past at w kept → past ≤ length pairs
-    → replaced_from (2 * at) (parts_of pairs last) (replacements_from pairs first (2 * at) 0 w kept past ++ rs) ≡ pairs_parts (inserted_and_kept_pairs pairs first w kept) ++ replaced_from (2 * past) (parts_of pairs last) rs
+    → replaced_from (2 * at) (parts_of pairs last) (replacements_from pairs first (BeforeGap at) w kept past ++ rs) ≡ pairs_parts (inserted_and_kept_pairs pairs first w kept) ++ replaced_from (2 * past) (parts_of pairs last) rs
 kept_body pairs last first past at w [] rs o le =
     let xs = parts_of pairs last in
     ap (λ t. t ++ ((pairs_parts (inserted pairs first w) ++ []) ++ replaced_from (2 * past) xs rs)) (range_none xs (2 * at) (2 * at) (omega arith))
@@ -125,12 +129,12 @@ kept_body pairs last first past at w (Some k ∷ kept) rs o le =
     let xs = parts_of pairs last in
     let ins = inserted pairs first w in
     let more = replaced_from (2 * past) xs rs in
-    let following = replaced_from (2 * k.from + 1) xs (replacements_from pairs first (2 * k.to) 0 k.after kept past ++ rs) in
+    let following = replaced_from (2 * k.from + 1) xs (replacements_from pairs first (BeforeGap k.to) k.after kept past ++ rs) in
     let range = with_gap [] (slice_range pairs k.from k.to) in
     let rest = inserted_and_kept_pairs pairs first k.after kept in
     let end = kept_le first past k.to k.after kept o.2 in
-    ap (λ t. t ++ ((pairs_parts ins ++ empty_gap) ++ following)) (range_none xs (2 * at) (2 * at) (omega arith))
-    ∙ append_assoc (pairs_parts ins) empty_gap following
+    ap (λ t. t ++ ((pairs_parts ins ++ (Gap [] ∷ [])) ++ following)) (range_none xs (2 * at) (2 * at) (omega arith))
+    ∙ append_assoc (pairs_parts ins) (Gap [] ∷ []) following
     ∙ ap (λ t. pairs_parts ins ++ t) (kept_one pairs last [] first past k kept rs _ o.1 (omega (arith, end, le)) (kept_body pairs last first past k.to k.after kept rs o.2 le))
     ∙ sym (three ins range rest more)
 
@@ -153,35 +157,35 @@ written_is pairs first Nothing = not_written refl
 written_is pairs first w = is_written _ _ refl
 
 written_prefix_end : (pairs : List Pair) (gap : List ℕ) (first past : ℕ) (w : Insertion) (more : List TextPart) → Written pairs first w → ChangesEnd first w first past
-    → Gap gap ∷ (inserted_parts 1 (inserted pairs first w) [] ++ more) ≡ pairs_parts (with_gap gap (inserted pairs first w)) ++ more
+    → Gap gap ∷ (drop 1 (pairs_parts (inserted pairs first w) ++ []) ++ more) ≡ pairs_parts (with_gap gap (inserted pairs first w)) ++ more
 written_prefix_end pairs gap first past w more (not_written is) end = let both = subst (λ (x : Insertion). ChangesEnd first x first past) is end in absurd (omega (arith, both.0))
 written_prefix_end pairs gap first past w more (is_written p ps is) end = rw is (ap (λ t. t ++ more) (ap (λ t. Gap gap ∷ Token p.kind p.spelling ∷ t) (append-nil (pairs_parts ps))))
 
 prefix_kept : (pairs : List Pair) (gap : List ℕ) (first a b : ℕ) (w : Insertion) (rest : List Pair) (following more : List TextPart) → Written pairs first w → a < b → b ≤ length pairs
     → ((g : List ℕ) → Gap g ∷ following ≡ pairs_parts (with_gap g (slice_range pairs a b)) ++ (pairs_parts rest ++ more))
-    → Gap gap ∷ (inserted_parts 1 (inserted pairs first w) empty_gap ++ following) ≡ pairs_parts (with_gap gap (inserted pairs first w ++ (with_gap [] (slice_range pairs a b) ++ rest))) ++ more
+    → Gap gap ∷ (drop 1 (pairs_parts (inserted pairs first w) ++ (Gap [] ∷ [])) ++ following) ≡ pairs_parts (with_gap gap (inserted pairs first w ++ (with_gap [] (slice_range pairs a b) ++ rest))) ++ more
 prefix_kept pairs gap first a b w rest following more (not_written is) lt within here =
     rw is (here gap ∙ sym (append_assoc (pairs_parts (with_gap gap (slice_range pairs a b))) (pairs_parts rest) more)
     ∙ ap (λ t. t ++ more) (sym (body_append (with_gap gap (slice_range pairs a b)) rest) ∙ ap pairs_parts (sym (gap_twice pairs gap a b rest lt within))))
 prefix_kept pairs gap first a b w rest following more (is_written p ps is) lt within here =
     let leading : List Pair = record p { gap = gap } ∷ ps in
-    rw is (append_assoc (pairs_parts leading) empty_gap following ∙ ap (λ t. pairs_parts leading ++ t) (here []) ∙ sym (three leading (with_gap [] (slice_range pairs a b)) rest more))
+    rw is (append_assoc (pairs_parts leading) (Gap [] ∷ []) following ∙ ap (λ t. pairs_parts leading ++ t) (here []) ∙ sym (three leading (with_gap [] (slice_range pairs a b)) rest more))
 
 start_body : (pairs : List Pair) (last gap : List ℕ) (first past : ℕ) (w : Insertion) (kept : List (Option KeptTokens)) (rs : List Replacement) → AreInOrder first past first w kept → past ≤ length pairs
-    → Gap gap ∷ replaced_from (2 * first + 1) (parts_of pairs last) (replacements_from pairs first (2 * first + 1) 1 w kept past ++ rs)
+    → Gap gap ∷ replaced_from (2 * first + 1) (parts_of pairs last) (replacements_from pairs first (BeforeToken first) w kept past ++ rs)
     ≡ pairs_parts (with_gap gap (inserted_and_kept_pairs pairs first w kept)) ++ replaced_from (2 * past) (parts_of pairs last) rs
 start_body pairs last gap first past w [] rs o le =
     let xs = parts_of pairs last in
     let more = replaced_from (2 * past) xs rs in
-    ap (λ t. Gap gap ∷ (t ++ (inserted_parts 1 (inserted pairs first w) [] ++ more))) (range_none xs (2 * first + 1) (2 * first + 1) (omega arith))
+    ap (λ t. Gap gap ∷ (t ++ (drop 1 (pairs_parts (inserted pairs first w) ++ []) ++ more))) (range_none xs (2 * first + 1) (2 * first + 1) (omega arith))
     ∙ written_prefix_end pairs gap first past w more (written_is pairs first w) o
 start_body pairs last gap first past w (None ∷ kept) rs o le = start_body pairs last gap first past w kept rs o le
 start_body pairs last gap first past w (Some k ∷ kept) rs o le =
     let xs = parts_of pairs last in
     let more = replaced_from (2 * past) xs rs in
     let end = kept_le first past k.to k.after kept o.2 in
-    let following = replaced_from (2 * k.from + 1) xs (replacements_from pairs first (2 * k.to) 0 k.after kept past ++ rs) in
-    ap (λ t. Gap gap ∷ (t ++ (inserted_parts 1 (inserted pairs first w) empty_gap ++ following))) (range_none xs (2 * first + 1) (2 * first + 1) (omega arith))
+    let following = replaced_from (2 * k.from + 1) xs (replacements_from pairs first (BeforeGap k.to) k.after kept past ++ rs) in
+    ap (λ t. Gap gap ∷ (t ++ (drop 1 (pairs_parts (inserted pairs first w) ++ (Gap [] ∷ [])) ++ following))) (range_none xs (2 * first + 1) (2 * first + 1) (omega arith))
     ∙ prefix_kept pairs gap first k.from k.to w (inserted_and_kept_pairs pairs first k.after kept) following more (written_is pairs first w) o.1 (omega (arith, end, le))
     (λ g. kept_one pairs last g first past k kept rs _ o.1 (omega (arith, end, le)) (kept_body pairs last first past k.to k.after kept rs o.2 le))
 
@@ -192,8 +196,8 @@ one_fixed : (pairs : List Pair) (last : List ℕ) (at first past : ℕ) (fix : O
 one_fixed pairs last at first past (Some (Tokens w kept)) rs other le some within fits =
     let before = pairs_parts (slice_range pairs at first) in
     let gap = gap_at pairs first in
-    let more = replaced_from (2 * first + 1) (parts_of pairs last) (replacements_from pairs first (2 * first + 1) 1 w kept past ++ rs) in
-    from_place pairs last first (2 * at) (2 * first + 1) 1 w kept past rs
+    let more = replaced_from (2 * first + 1) (parts_of pairs last) (replacements_from pairs first (BeforeToken first) w kept past ++ rs) in
+    from_place pairs last first (2 * at) (BeforeToken first) w kept past rs
     ∙ ap (λ t. t ++ more) (open_range pairs last at first le (omega (arith, some, within)))
     ∙ append_assoc before (Gap gap ∷ []) more
     ∙ ap (λ t. before ++ t) (start_body pairs last gap first past w kept rs fits within)

@@ -17,9 +17,12 @@ use Rattle.tf_rules.specs.Fixes.{AreInOrder}
 use Rattle.tf_fix.specs.Inner.Nonempty.{IsFixableWithin, HasValidFix}
 use Rattle.tf_fix.specs.Edits.FindingReplacements.{replacements_from, fix_replacements, finding_replacements}
 use Rattle.tf_fix.specs.OfRule.{IsOfRule, AreOfRule}
+use Rattle.tf_fix.specs.Edits.Parts.{boundary_index}
 use Rattle.tf_fix.specs.Edits.Replacements.{Replacement, AreReplacementsInOrder}
 use Rattle.tf_fix.specs.Selection.{selected_from}
 use Rattle.tf_fix.specs.Inner.Views.{HasByte, HaveBytes}
+use Rattle.tf_fix.specs.declared.boundary.Boundary.{Boundary}
+use Rattle.tf_fix.specs.declared.boundary.Boundary.TheVariants.{Gap as BeforeGap, Token as BeforeToken}
 use Rattle.tf_fix.specs.declared.splice.Replacement.{Replacement as Replacing}
 
 -- ---- the loops over findings
@@ -101,18 +104,18 @@ pub next_le : (first past at : ℕ) (written : Insertion) (k : KeptTokens) (kept
 next_le first past at Nothing k kept o = omega (arith, o.0)
 next_le first past at written k kept o = o.0
 
-kept_order : (pairs : List Pair) (first past at place skip : ℕ) (written : Insertion) (kept : List (Option KeptTokens)) → AreInOrder first past at written kept
-    → place ≤ 2 * at + 1 → place ≤ 2 * past → AreReplacementsInOrder place (replacements_from pairs first place skip written kept past) (2 * past)
-kept_order pairs first past at place skip written [] o prev le = (omega arith, le, omega arith)
-kept_order pairs first past at place skip written (None ∷ kept) o prev le = kept_order pairs first past at place skip written kept o prev le
-kept_order pairs first past at place skip written (Some k ∷ kept) o prev le =
+kept_order : (pairs : List Pair) (first past at : ℕ) (from : Boundary) (written : Insertion) (kept : List (Option KeptTokens)) → AreInOrder first past at written kept
+    → boundary_index from ≤ 2 * at + 1 → boundary_index from ≤ 2 * past → AreReplacementsInOrder (boundary_index from) (replacements_from pairs first from written kept past) (2 * past)
+kept_order pairs first past at from written [] o prev le = (omega arith, le, omega arith)
+kept_order pairs first past at from written (None ∷ kept) o prev le = kept_order pairs first past at from written kept o prev le
+kept_order pairs first past at from written (Some k ∷ kept) o prev le =
     let next = next_le first past at written k kept o in
     let end = kept_le first past k.to k.after kept o.2 in
     let some = o.1 in (
       omega arith,
       omega (arith, prev, next),
       later_order (2 * k.from + 1) (2 * k.to) (2 * past) _ (omega (arith, some))
-          (kept_order pairs first past k.to (2 * k.to) 0 k.after kept o.2 (omega arith) (omega (arith, end))),
+          (kept_order pairs first past k.to (BeforeGap k.to) k.after kept o.2 (omega arith) (omega (arith, end))),
     )
 
 -- those of a finding are within its tokens
@@ -120,7 +123,7 @@ fixed_order : (pairs : List Pair) (first past : ℕ) (fix : Option Fix) → firs
 fixed_order pairs first past None some fits = absurd fits
 fixed_order pairs first past (Some CommentMarker) some fits = omega (arith, some)
 fixed_order pairs first past (Some (Tokens before kept)) some fits =
-    later_order (2 * first) (2 * first + 1) (2 * past) _ (omega arith) (kept_order pairs first past first (2 * first + 1) 1 before kept fits (omega arith) (omega (arith, some)))
+    later_order (2 * first) (2 * first + 1) (2 * past) _ (omega arith) (kept_order pairs first past first (BeforeToken first) before kept fits (omega arith) (omega (arith, some)))
 
 pub selected_order : (pairs : List Pair) (at : ℕ) (fs : List Finding) → AreTaken at pairs fs → AreReplacementsInOrder (2 * at) (flat_map (finding_replacements pairs) fs) (2 * length pairs)
 selected_order pairs at [] are = omega (arith, are)

@@ -1,8 +1,7 @@
 //! Places between the gaps and tokens of a text.
 
 ghost use Rattle.std.specs.Prelude.{◌≡◌, ◌≤◌, ◌+◌, ◌*◌, ◌<◌, ◌↔◌, length, take, IsTrue, slice_range};
-ghost use Rattle.tf_fix.specs.Edits.Parts.{parts, text_of_parts};
-ghost use Rattle.tf_fix.specs.Inner.Views.{boundary_index};
+ghost use Rattle.tf_fix.specs.Edits.Parts.{parts, text_of_parts, boundary_index};
 
 use hcl_scan::Scanned;
 

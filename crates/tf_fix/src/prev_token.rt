@@ -2,10 +2,10 @@
 
 ghost use Rattle.std.specs.Prelude.{◌≡◌, ◌≤◌, ◌<◌, ◌+◌, ◌*◌, length, slice_range, slice_get, Some};
 ghost use Rattle.std.specs.Option.{option_map};
-ghost use Rattle.tf_fix.specs.Edits.Parts.{parts};
+ghost use Rattle.tf_fix.specs.Edits.Parts.{parts, boundary_index};
 ghost use Rattle.tf_fix.specs.Edits.SettledSpaces.{prev_after, is_glued};
 ghost use Rattle.tf_fix.specs.JoinedTokens.{joins_prev};
-ghost use Rattle.tf_fix.specs.Inner.Views.{boundary_index, prev_view, prev_at};
+ghost use Rattle.tf_fix.specs.Inner.Views.{prev_view, prev_at};
 
 use crate::boundary::{Boundary, is_after, is_before_gap, is_before_token};
 use hcl_scan::Scanned;

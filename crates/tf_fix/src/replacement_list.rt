@@ -6,7 +6,7 @@ ghost use Rattle.tf_rules.specs.Findings.{AreValidFindings};
 ghost use Rattle.tf_fix.specs.Edits.FindingReplacements.{replacements_from, finding_replacements, step_replacements};
 ghost use Rattle.tf_fix.specs.Selection.{selected};
 ghost use Rattle.tf_fix.specs.Inner.Nonempty.{AreNonempty, IsFixableWithin};
-ghost use Rattle.tf_fix.specs.Inner.Views.{boundary_index, skip_of, replacements, HasByte, HaveBytes};
+ghost use Rattle.tf_fix.specs.Inner.Views.{replacements, HasByte, HaveBytes};
 
 use crate::boundary::Boundary;
 use crate::packed::{PackedReplacement, push_packed};
@@ -33,8 +33,7 @@ fn push_kept_replacements(
     ensures items { IfOk result
         (λ _. replacements scanned.now.pairs all.new.items
         ≡ replacements scanned.now.pairs all.old.items
-        ++ replacements_from scanned.now.pairs first
-        (boundary_index from) (skip_of from) written kept.now past) }
+        ++ replacements_from scanned.now.pairs first from written kept.now past) }
     ensures bytes { IfOk result
         (λ _. HaveBytes scanned.now.pairs all.old.items
         → HaveBytes scanned.now.pairs all.new.items) }

@@ -8,9 +8,11 @@ use Rattle.tf_rules.specs.declared.fix.Fix.TheVariants.{CommentMarker, Tokens}
 use Rattle.tf_rules.specs.declared.fix.Insertion.{Insertion}
 use Rattle.tf_rules.specs.declared.fix.KeptTokens.{KeptTokens}
 use Rattle.tf_fix.specs.Insertions.{inserted}
-use Rattle.tf_fix.specs.Edits.Parts.{TextPart, at_gap, at_token}
+use Rattle.tf_fix.specs.Edits.Parts.{TextPart, boundary_index}
 use Rattle.tf_fix.specs.Edits.Parts.TextPart.{Gap, Token}
 use Rattle.tf_fix.specs.Edits.Replacements.{Replacement}
+use Rattle.tf_fix.specs.declared.boundary.Boundary.{Boundary}
+use Rattle.tf_fix.specs.declared.boundary.Boundary.TheVariants.{Gap as BeforeGap, Token as BeforeToken}
 use Rattle.tf_fix.specs.Selection.{selected}
 
 -- the parts of pairs alone
@@ -18,24 +20,40 @@ abbrev pub pairs_parts : List Pair → List TextPart
 pairs_parts [] = []
 pairs_parts (p ∷ ps) = Gap p.gap ∷ Token p.kind p.spelling ∷ pairs_parts ps
 
--- What is inserted at a place: after the gap of the first token no further gap precedes what is
--- inserted, and there is none before a kept token that follows directly.
-abbrev pub inserted_parts : ℕ → List Pair → List TextPart → List TextPart
-inserted_parts skip ps tail = drop skip (pairs_parts ps ++ tail)
+-- the parts from a place on: directly before a token its gap stays, so their first gap goes
+abbrev pub after_gap : Boundary → List TextPart → List TextPart
+after_gap (BeforeGap i) parts = parts
+after_gap (BeforeToken i) parts = drop 1 parts
 
-abbrev pub empty_gap : List TextPart
-empty_gap = Gap [] ∷ []
+-- the last of the parts up to a place: directly before a token an empty gap, since its gap is gone
+abbrev pub before_token : Boundary → List TextPart
+before_token (BeforeGap i) = []
+before_token (BeforeToken i) = Gap [] ∷ []
+
+-- the parts of tokens that are inserted from one place to another
+abbrev pub inserted_parts : Boundary → Boundary → List Pair → List TextPart
+inserted_parts from to ps = after_gap from (pairs_parts ps ++ before_token to)
+
+-- the replacement from one place to another; first is the number of the finding's first token
+abbrev pub replacement_at : List Pair → ℕ → Boundary → Boundary → Insertion → Replacement
+replacement_at pairs first from to written =
+    record {
+      from = boundary_index from;
+      to = boundary_index to;
+      inserted_parts = inserted_parts from to (inserted pairs first written);
+    }
 
 -- The replacements from a place on: `written` is inserted there, and then the ranges of `kept`
 -- stay, each with what is inserted after it.
-abbrev pub replacements_from : List Pair → ℕ → ℕ → ℕ → Insertion → List (Option KeptTokens) → ℕ → List Replacement
-replacements_from pairs first place skip written [] past =
-    record { from = place; to = at_gap past; inserted_parts = inserted_parts skip (inserted pairs first written) [] } ∷ []
-replacements_from pairs first place skip written (None ∷ kept) past =
-    replacements_from pairs first place skip written kept past
-replacements_from pairs first place skip written (Some k ∷ kept) past =
-    record { from = place; to = at_token k.from; inserted_parts = inserted_parts skip (inserted pairs first written) empty_gap }
-    ∷ replacements_from pairs first (at_gap k.to) 0 k.after kept past
+abbrev pub replacements_from : List Pair → ℕ → Boundary → Insertion → List (Option KeptTokens)
+    → ℕ → List Replacement
+replacements_from pairs first from written [] past =
+    replacement_at pairs first from (BeforeGap past) written ∷ []
+replacements_from pairs first from written (None ∷ kept) past =
+    replacements_from pairs first from written kept past
+replacements_from pairs first from written (Some k ∷ kept) past =
+    replacement_at pairs first from (BeforeToken k.from) written
+    ∷ replacements_from pairs first (BeforeGap k.to) k.after kept past
 
 -- The replacements that fix the tokens from number `first` to number `past` (exclusive): whole
 -- tokens and gaps. Comments are fixed by an edit inside the token.
@@ -43,7 +61,7 @@ abbrev pub fix_replacements : List Pair → ℕ → ℕ → Option Fix → List 
 fix_replacements pairs first past None = []
 fix_replacements pairs first past (Some CommentMarker) = []
 fix_replacements pairs first past (Some (Tokens before kept)) =
-    replacements_from pairs first (at_token first) 1 before kept past
+    replacements_from pairs first (BeforeToken first) before kept past
 
 abbrev pub finding_replacements : List Pair → Finding → List Replacement
 finding_replacements pairs finding = fix_replacements pairs finding.first finding.past finding.fix

@@ -1,22 +1,16 @@
 -- For proofs: what the values of the code represent.
-use Rattle.std.specs.Prelude.{ℕ, ◌+◌, ◌*◌, ◌<◌, ◌≤◌, List, [], ◌∷◌, length, map, Some, None, ⊤}
+use Rattle.std.specs.Prelude.{ℕ, ◌<◌, ◌≤◌, List, [], ◌∷◌, length, map, Some, None, ⊤}
 use Rattle.hcl_token.specs.Tokens.{Pair}
 use Rattle.tf_fix.specs.Insertions.{spelling_at, inserted}
-use Rattle.tf_fix.specs.Edits.FindingReplacements.{inserted_parts, empty_gap}
+use Rattle.tf_fix.specs.Edits.FindingReplacements.{inserted_parts, replacement_at}
 use Rattle.tf_fix.specs.Edits.Parts.{TextPart}
 use Rattle.tf_fix.specs.JoinedTokens.{Prev}
 use Rattle.tf_fix.specs.Edits.Replacements.{Replacement}
 use Rattle.tf_fix.specs.declared.boundary.Boundary.{Boundary}
-use Rattle.tf_fix.specs.declared.boundary.Boundary.TheVariants.{Gap as BeforeGap, Token as BeforeToken}
 use Rattle.tf_fix.specs.declared.prev_token.PrevToken.{PrevToken}
 use Rattle.tf_fix.specs.declared.prev_token.PrevToken.TheVariants.{Nothing as NothingNear, Token as TokenNear}
 use Rattle.tf_rules.specs.declared.fix.Insertion.{Insertion}
 use Rattle.tf_fix.specs.declared.splice.Replacement.{Replacement as Replacing}
-
--- how many parts are before the place
-abbrev pub boundary_index : Boundary → ℕ
-boundary_index (BeforeGap i) = 2 * i
-boundary_index (BeforeToken i) = 2 * i + 1
 
 abbrev pub prev_view : PrevToken → Prev
 prev_view NothingNear = None
@@ -25,30 +19,16 @@ prev_view (TokenNear kind spelling) = Some (kind, spelling.now)
 abbrev pub prev_at : Pair → Prev
 prev_at p = Some (p.kind, p.spelling)
 
--- how many of the inserted parts are the gap before this place, which is there already
-abbrev pub skip_of : Boundary → ℕ
-skip_of (BeforeGap i) = 0
-skip_of (BeforeToken i) = 1
-
--- what comes last, before the token at this place
-abbrev pub tail_of : Boundary → List TextPart
-tail_of (BeforeGap i) = []
-tail_of (BeforeToken i) = empty_gap
-
 abbrev pub replacement_parts : List Pair → Boundary → Boundary → ℕ → Insertion → List TextPart
-replacement_parts pairs from to first written = inserted_parts (skip_of from) (inserted pairs first written) (tail_of to)
+replacement_parts pairs from to first written =
+    inserted_parts from to (inserted pairs first written)
 
 -- the token of this number is there, and has a byte
 abbrev pub HasByte : List Pair → ℕ → Type 0
 HasByte pairs i = (i < length pairs) × (1 ≤ length (spelling_at pairs i))
 
 abbrev pub replacement : List Pair → Replacing → Replacement
-replacement pairs r =
-    record {
-      from = boundary_index r.from;
-      to = boundary_index r.to;
-      inserted_parts = replacement_parts pairs r.from r.to r.first r.insertion;
-    }
+replacement pairs r = replacement_at pairs r.first r.from r.to r.insertion
 
 abbrev pub replacements : List Pair → List Replacing → List Replacement
 replacements pairs rs = map (replacement pairs) rs

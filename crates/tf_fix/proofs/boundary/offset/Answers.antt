@@ -1,6 +1,5 @@
 use Rattle.std.proofs.Common.{◌≡◌, ◌+◌, ◌-◌, ◌*◌, ◌≤◌, length, take, ap, subst, ◌∙◌, arith}
-use Rattle.tf_fix.specs.Edits.Parts.{parts, text_of_parts}
-use Rattle.tf_fix.specs.Inner.Views.{boundary_index}
+use Rattle.tf_fix.specs.Edits.Parts.{parts, text_of_parts, boundary_index}
 use Rattle.tf_fix.specs.declared.boundary.Boundary.{Boundary}
 use Rattle.tf_fix.proofs.PrevTokenLemmas.{start_at, stop_at}
 use Rattle.tf_fix.proofs.boundary.offset.Goals as goal

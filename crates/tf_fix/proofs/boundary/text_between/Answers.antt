@@ -1,6 +1,5 @@
 use Rattle.std.proofs.Common.{◌≡◌, ℕ, List, length, take, slice_range, ap, sym, ◌∙◌, arith}
-use Rattle.tf_fix.specs.Edits.Parts.{parts, text_of_parts}
-use Rattle.tf_fix.specs.Inner.Views.{boundary_index}
+use Rattle.tf_fix.specs.Edits.Parts.{parts, text_of_parts, boundary_index}
 use Rattle.tf_fix.proofs.SettledLemmas.{parts_written}
 use Rattle.tf_fix.proofs.PartLemmas.{length_written, text_within, text_range}
 use Rattle.tf_fix.proofs.boundary.text_between.Goals as goal

@@ -1,6 +1,7 @@
 use Rattle.std.proofs.Common.{◌∙◌, ◌+◌, ◌*◌, ◌≤◌, subst, arith, rules}
+use Rattle.tf_fix.specs.Edits.Parts.{boundary_index}
 use Rattle.tf_fix.specs.declared.boundary.Boundary.{Boundary}
-use Rattle.tf_fix.specs.Inner.Views.{boundary_index, prev_view}
+use Rattle.tf_fix.specs.Inner.Views.{prev_view}
 use Rattle.tf_fix.proofs.PrevTokenLemmas.{is_not, empty_is, nonempty_is, glued_after_gap, glued_after_whitespace, glued_short, glued_after_token}
 use Rattle.tf_fix.proofs.prev_token.is_glued.Goals as goal
 

@@ -1,6 +1,7 @@
 use Rattle.std.proofs.Common.{◌+◌, ◌*◌, ◌≤◌, length, subst, arith}
+use Rattle.tf_fix.specs.Edits.Parts.{boundary_index}
 use Rattle.tf_fix.specs.declared.boundary.Boundary.{Boundary}
-use Rattle.tf_fix.specs.Inner.Views.{boundary_index, prev_view}
+use Rattle.tf_fix.specs.Inner.Views.{prev_view}
 use Rattle.tf_fix.proofs.PrevTokenLemmas.{empty_is, nonempty_is, prev_empty, prev_whitespace, before_gap}
 use Rattle.tf_fix.proofs.prev_token.prev_before.Goals as goal
 

@@ -1,4 +1,5 @@
-use Rattle.tf_fix.specs.Inner.Views.{boundary_index, prev_view}
+use Rattle.tf_fix.specs.Edits.Parts.{boundary_index}
+use Rattle.tf_fix.specs.Inner.Views.{prev_view}
 use Rattle.tf_fix.proofs.PrevTokenLemmas.{is_not, prev_token}
 use Rattle.tf_fix.proofs.prev_token.prev_before_gap.Goals as goal
 

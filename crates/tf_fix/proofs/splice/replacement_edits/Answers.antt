@@ -2,8 +2,8 @@ use Rattle.std.proofs.Common.{◌≡◌, ◌≤◌, ◌-◌, ◌*◌, ◌∷◌,
 use Rattle.edit_record.specs.Lists.Pieces.{EditEntry, changed_entries}
 use Rattle.tf_fix.specs.Edits.Replacements.{replaced_pieces}
 use Rattle.tf_fix.specs.JoinedTokens.{Prev}
-use Rattle.tf_fix.specs.Edits.Parts.{parts}
-use Rattle.tf_fix.specs.Inner.Views.{boundary_index, prev_view, replacements}
+use Rattle.tf_fix.specs.Edits.Parts.{parts, boundary_index}
+use Rattle.tf_fix.specs.Inner.Views.{prev_view, replacements}
 use Rattle.tf_fix.specs.declared.splice.Replacement.{Replacement}
 use Rattle.tf_fix.proofs.InsertionLemmas.{insertion_after}
 use Rattle.tf_fix.proofs.ComparisonLemmas.{IsCompared, split_first, order_le, order_next, loop_step}

@@ -1,8 +1,8 @@
 use Rattle.std.proofs.Common.{length}
 use Rattle.edit_record.specs.Lists.Pieces.{changed_entries}
 use Rattle.tf_fix.specs.Edits.Replacements.{replaced_pieces}
-use Rattle.tf_fix.specs.Edits.Parts.{parts}
-use Rattle.tf_fix.specs.Inner.Views.{boundary_index, prev_view, replacements}
+use Rattle.tf_fix.specs.Edits.Parts.{parts, boundary_index}
+use Rattle.tf_fix.specs.Inner.Views.{prev_view, replacements}
 use Rattle.tf_fix.proofs.ComparisonLemmas.{IsCompared}
 use Rattle.tf_fix.proofs.splice.replacement_edits.Given as goal
 
