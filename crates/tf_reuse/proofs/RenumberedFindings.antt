@@ -15,7 +15,7 @@ use Rattle.hcl_grammar.specs.Nodes as node
 use Rattle.hcl_grammar_laws.proofs.Opens.{open_conditional, open_chain, open_prefixed, open_tailed, open_plain, open_number, open_identifier, open_call, open_tuple, open_object, open_for_tuple, open_for_object, open_quoted, open_heredoc, open_parens, open_name, open_legacy, open_attribute_splat, open_full_splat, open_index, open_literal, open_interp, open_if, open_for, call_arguments}
 use Rattle.hcl_scan.specs.Follows.{tokens_of}
 use Rattle.hcl_token.specs.Tokens.{Pair}
-use Rattle.tf_rules.specs.Rules.Equality.{is_empty_list, is_empty_list_kind, is_empty_list_primary, equality_findings, chain_findings, operation_findings, is_comparison_fixable, is_equal, is_equality, length_fix}
+use Rattle.tf_rules.specs.Rules.Equality.{is_empty_list, is_empty_list_kind, is_empty_list_primary, equality_findings, chain_findings, operation_findings, is_equal, is_equality, length_fix}
 use Rattle.tf_rules.specs.Rules.Index.{index_findings}
 use Rattle.tf_rules.specs.Rules.Interpolation.{is_post_kind, sole_part, sole_interpolation, interpolation_findings, is_object_key, is_elsewhere}
 use Rattle.tf_rules.specs.Arguments.{two_arguments}
@@ -165,6 +165,12 @@ not_second true true c e = absurd (cc)
 not_second true false c e = refl
 not_second false b c e = refl
 
+-- whether a comparison can be written as a length, by its list and the numbers of tokens
+abbrev is_fixable_by : List Pair → Expr → ℕ → ℕ → ℕ → Bool
+is_fixable_by pairs empty past from to =
+    (empty.past == empty.first + 2)
+    && (not (has_trivia (token_range pairs from to)) && not (is_here_close pairs (past - 1)))
+
 -- braces that hold nothing
 unfit : (i j : ℕ) → j < i + 5 → is_fix_valid i j (Some (inside i j)) ≡ false
 unfit i j l = not_second (nat_lt i (i + 2)) (nat_lt (i + 2) (j - 2)) (nat_lt i (j - 2) && nat_lt (j - 2) j) (span_too_short i j l)
@@ -183,7 +189,7 @@ module _ (old new : List Pair) {from to count : ℕ} (w : SameTokens (tokens_of 
   -- ---- comparisons with an empty list
 
   fixable_moved : {e e' : Expr} {b b' p p' a a' c c' : ℕ} → MovedExpr (Here w) (Same w) e e' → Here w b b' → Here w p p' → b < p → Here w a a' → Here w c c'
-      → is_comparison_fixable new e' p' a' c' ≡ is_comparison_fixable old e p a c
+      → is_fixable_by new e' p' a' c' ≡ is_fixable_by old e p a c
   fixable_moved {e} {e'} {p} {p'} {a} {a'} {c} {c'} m h g l f k =
       let x : (e'.past == e'.first + 2) ≡ (e.past == e.first + 2) = eq_moved old new w 2 (first_here m) (past_here m) in
       let y : has_trivia (token_range new a' c') ≡ has_trivia (token_range old a c) = trivia_moved old new w f k in

@@ -26,7 +26,7 @@ use Rattle.hcl_scan.specs.Follows.{tokens_of}
 use Rattle.hcl_token.specs.Tokens.{Pair}
 use Rattle.hcl_token.specs.declared.kind.Kind.TheVariants.{DotIndex}
 use Rattle.tf_rules.specs.declared.role.Role.{Role}
-use Rattle.tf_rules.specs.Rules.Equality.{is_equality, is_equal, is_empty_list, is_comparison_fixable, length_fix, operation_findings, chain_findings, equality_findings}
+use Rattle.tf_rules.specs.Rules.Equality.{is_equality, is_equal, is_empty_list, list_on_right, list_on_left, is_comparison_fixable, length_fix, operation_findings, chain_findings, equality_findings}
 use Rattle.tf_rules.specs.Rules.Index.{index_findings}
 use Rattle.tf_rules.specs.Rules.Interpolation.{sole_interpolation, is_object_key, is_interpolation_fixable, interpolation_findings}
 use Rattle.hcl_grammar.specs.TreeLayers.{ExprKindLayer, PrimaryLayer, TailLayer}
@@ -149,10 +149,10 @@ link_kept : (pairs : List Pair) (first : ℕ) (is_first : Bool) (left : Expr) (l
 link_kept pairs first is_first left l a b c d =
     let past = l.operand.past in
     let equal = is_equal l.operator in
-    let fixes_node = is_comparison_fixable pairs l.operand left.past left.past l.operand.first in
+    let fixes_node = is_comparison_fixable pairs (list_on_right first left l) in
     let right = keep (length pairs) EmptyListEquality first past plain_message (when fixes_node (length_fix first left.past equal)) (omega (arith, a, b, c)) d
     (fits first past fixes_node (length_fix first left.past equal) (compared first past first left.past equal (omega arith) a (omega (arith, b, c)))) in
-    let fixes_left = is_comparison_fixable pairs left past left.past l.operand.first in
+    let fixes_left = is_comparison_fixable pairs (list_on_left left l) in
     let other = keep (length pairs) EmptyListEquality first past plain_message (when fixes_left (length_fix l.operand.first past equal)) (omega (arith, a, b, c)) d
     (fits first past fixes_left (length_fix l.operand.first past equal) (compared first past l.operand.first past equal (omega (arith, a, b)) c (omega arith))) in
     choose (is_equality l.operator) (choose (is_empty_list l.operand) right (choose (is_first && is_empty_list left) other none)) none

@@ -5,7 +5,7 @@ use Rattle.hcl_grammar.specs.declared.tree.ExprKind.TheOpen.{ExprKind-F}
 use Rattle.hcl_grammar.specs.declared.tree.Operation.{Operation}
 use Rattle.hcl_token.specs.Tokens.{Pair}
 use Rattle.tf_rules.specs.declared.rule.Rule.TheVariants.{EmptyListEquality}
-use Rattle.tf_rules.specs.Rules.Equality.{is_equality, is_equal, is_empty_list, is_comparison_fixable, length_fix, operation_findings, chain_findings, equality_findings}
+use Rattle.tf_rules.specs.Rules.Equality.{is_equality, is_equal, is_empty_list, list_on_right, list_on_left, is_comparison_fixable, length_fix, operation_findings, chain_findings, equality_findings}
 use Rattle.hcl_grammar.specs.TreeLayers.{ExprKindLayer}
 use Rattle.tf_rules.proofs.AllFoundBy.{From, none, choose, both, maybe}
 
@@ -13,9 +13,9 @@ link : (pairs : List Pair) (first : ℕ) (is_first : Bool) (left : Expr) (l : Op
 link pairs first is_first left l =
     let equal = is_equal l.operator in
     choose (is_equality l.operator)
-    (choose (is_empty_list l.operand) (maybe (is_comparison_fixable pairs l.operand left.past left.past l.operand.first) (length_fix first left.past equal) refl refl refl)
+    (choose (is_empty_list l.operand) (maybe (is_comparison_fixable pairs (list_on_right first left l)) (length_fix first left.past equal) refl refl refl)
     (choose (is_first && is_empty_list left)
-    (maybe (is_comparison_fixable pairs left l.operand.past left.past l.operand.first) (length_fix l.operand.first l.operand.past equal) refl refl refl) none)) none
+    (maybe (is_comparison_fixable pairs (list_on_left left l)) (length_fix l.operand.first l.operand.past equal) refl refl refl) none)) none
 
 chain : (pairs : List Pair) (first : ℕ) (is_first : Bool) (left : Expr) (ls : List Operation) → From pairs EmptyListEquality (chain_findings pairs first is_first left ls)
 chain pairs first is_first left [] = none

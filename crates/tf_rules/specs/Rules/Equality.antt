@@ -36,42 +36,77 @@ is_empty_list_kind _ = false
 abbrev pub is_empty_list : Expr → Bool
 is_empty_list e = is_empty_list_kind (out-ExprKind e.kind)
 
--- A comparison of the empty list with the operand that ends before token `past`, with the operator
--- between tokens `from` and `to`. It can be written as a length if the list's brackets have nothing
--- between them, no comment or line end is next to the operator, and the operand does not end with a
--- heredoc.
-abbrev pub is_comparison_fixable : List Pair → Expr → ℕ → ℕ → ℕ → Bool
-is_comparison_fixable pairs empty past from to =
-    (empty.past == empty.first + 2)
-    && (not (has_trivia (token_range pairs from to)) && not (is_here_close pairs (past - 1)))
-
+-- `==`
 abbrev pub is_equal : BinaryOperator → Bool
 is_equal operator.Equal = true
 is_equal _ = false
+
+-- a comparison with an empty list
+pub record Comparison : Type 0 where
+  pub list : Expr
+  -- the tokens of the operand that it is compared with, up to number `operand_past` (exclusive)
+  pub operand_first : ℕ
+  pub operand_past : ℕ
+  -- the tokens between the two, up to number `between_past` (exclusive)
+  pub between_first : ℕ
+  pub between_past : ℕ
+
+-- the list is on the right, and is compared with all of the chain before the operator
+abbrev pub list_on_right : ℕ → Expr → Operation → Comparison
+list_on_right first left link =
+    record {
+      list = link.operand;
+      operand_first = first;
+      operand_past = left.past;
+      between_first = left.past;
+      between_past = link.operand.first;
+    }
+
+-- the list is on the left
+abbrev pub list_on_left : Expr → Operation → Comparison
+list_on_left left link =
+    record {
+      list = left;
+      operand_first = link.operand.first;
+      operand_past = link.operand.past;
+      between_first = left.past;
+      between_past = link.operand.first;
+    }
+
+-- It can be written as a length if the list's brackets have nothing between them, no comment or
+-- line end is next to the operator, and the operand does not end with a heredoc.
+abbrev pub is_comparison_fixable : List Pair → Comparison → Bool
+is_comparison_fixable pairs c =
+    (c.list.past == c.list.first + 2)
+    && (not (has_trivia (token_range pairs c.between_first c.between_past))
+    && not (is_here_close pairs (c.operand_past - 1)))
 
 -- `length(`, the tokens of the operand, `) == 0` or `) > 0`
 abbrev pub length_fix : ℕ → ℕ → Bool → Fix
 length_fix from to zero = keep_one Length (kept from to (if zero then IsZero else IsPositive))
 
--- The finding at an operator in a chain that begins at token first: of the empty list, which is one
--- of the expressions next to it, and the operand from token `from` to token `to` (exclusive).
-abbrev pub comparison_findings : List Pair → ℕ → Expr → Operation → Expr → ℕ → ℕ → List Finding
-comparison_findings pairs first left link empty from to =
+-- the finding, in a chain that begins at token first: up to the end of the operand on the right
+abbrev pub comparison_findings : List Pair → ℕ → Operation → Comparison → List Finding
+comparison_findings pairs first link c =
     finding_at EmptyListEquality first link.operand.past plain_message
-    (when (is_comparison_fixable pairs empty to left.past link.operand.first)
-    (length_fix from to (is_equal link.operator)))
+    (when (is_comparison_fixable pairs c)
+    (length_fix c.operand_first c.operand_past (is_equal link.operator)))
 
--- The comparison at an operator with these expressions next to it, in a chain that begins at token
--- first. The one on the right decides. What it is compared with is all of the chain before the
--- operator; at the first operator that is the expression next to it, which may be the list too.
+-- Which operand of an operator is the empty list: the right one, or else, at the first operator of
+-- a chain, `left`, which is the expression before it.
+abbrev pub by_list : Bool → Expr → Operation → List Finding → List Finding → List Finding
+    → List Finding
+by_list is_first left link right_is left_is neither_is =
+    if is_empty_list link.operand then right_is
+    else (if is_first && is_empty_list left then left_is else neither_is)
+
+-- the comparison at an operator that follows this expression, in a chain that begins at token first
 abbrev pub operation_findings : List Pair → ℕ → Bool → Expr → Operation → List Finding
 operation_findings pairs first is_first left link =
     if is_equality link.operator
-    then (if is_empty_list link.operand
-    then comparison_findings pairs first left link link.operand first left.past
-    else (if is_first && is_empty_list left
-    then comparison_findings pairs first left link left link.operand.first link.operand.past
-    else []))
+    then by_list is_first left link
+    (comparison_findings pairs first link (list_on_right first left link))
+    (comparison_findings pairs first link (list_on_left left link)) []
     else []
 
 -- one at each operator of a chain that compares with an empty list

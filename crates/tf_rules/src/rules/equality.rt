@@ -1,12 +1,13 @@
 //! Comparisons with an empty list.
 
-ghost use Rattle.std.specs.Prelude.{◌≡◌, ◌++◌, true, OnOk, length, [], if◌then◌else◌};
+ghost use Rattle.std.specs.Prelude.{◌≡◌, ◌++◌, ◌+◌, ◌-◌, ◌==◌, ◌&&◌, not, true, OnOk, length, [], if◌then◌else◌};
 ghost use Rattle.hcl_grammar.specs.declared.tree.ExprKind.{out-ExprKind};
-ghost use Rattle.tf_rules.specs.Rules.Equality.{is_empty_list, is_equality, is_equal, is_comparison_fixable, length_fix, operation_findings, chain_findings, equality_findings};
+ghost use Rattle.tf_rules.specs.Rules.Equality.{is_empty_list, is_equality, is_equal, length_fix, operation_findings, chain_findings, equality_findings};
 ghost use Rattle.tf_rules.specs.Fixes.{when};
 ghost use Rattle.tf_rules.specs.declared.rule.Rule.TheVariants.{EmptyListEquality};
 ghost use Rattle.tf_rules.specs.RuleSets.{has_rule};
 ghost use Rattle.tf_rules.specs.Findings.{plain_message, finding_at, valid_findings};
+ghost use Rattle.tf_rules.specs.Trivia.{token_range, has_trivia, is_here_close};
 
 use crate::context::LintContext;
 use crate::trivia::{has_trivia, is_here_close};
@@ -15,9 +16,13 @@ use hcl_grammar::tree::{BinaryOperator, Expr, ExprKind, Operation, Primary};
 use hcl_scan::Scanned;
 use std::alloc::AllocError;
 
-/// Whether the comparison with the empty list can be written as a length.
+/// Whether the comparison of the empty list with the operand that ends before token `past` can be
+/// written as a length, if tokens `from` to `to` (exclusive) are between the two.
 fn is_comparison_fixable(scanned: &Scanned<'_>, empty: &Expr, past: u32, from: u32, to: u32) -> bool
-    ensures { result ≡ is_comparison_fixable scanned.now.pairs empty.now past from to }
+    ensures { result
+        ≡ ((empty.now.past == empty.now.first + 2)
+        && (not (has_trivia (token_range scanned.now.pairs from to))
+        && not (is_here_close scanned.now.pairs (past - 1)))) }
 {
     empty.past >= 2
         && empty.past - 2 == empty.first
