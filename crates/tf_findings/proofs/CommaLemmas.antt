@@ -6,7 +6,7 @@ use Rattle.std.proofs.lemmas.List.Sums.{prefix_len-le-length}
 use Rattle.std.specs.List.{list_all, list_any}
 use Rattle.tf_rules.specs.declared.rule.Rule.{Rule}
 use Rattle.tf_findings.specs.declared.silencing.class.ByteClass.TheVariants.{NotComma}
-use Rattle.tf_findings.specs.Comments.{is_in_class, class_prefix_len, split_commas, cons_to_first, is_name, names_rule}
+use Rattle.tf_findings.specs.Inner.ByteCounts.{is_in_class, class_prefix_len, split_commas, cons_to_first, is_name, names_rule}
 
 below : (n m : ℕ) → n ≤ m → (n < m) ⊎ (n ≡ m)
 below zero zero h = inr refl

@@ -1,81 +1,86 @@
 -- What a comment says that silences rules, as `# tflint-ignore: terraform_deprecated_index,
 -- terraform_typed_variables # why`.
 -- TFLint, Annotations.
-use Rattle.std.specs.Prelude.{ℕ, ◌-◌, nat_le, nat_lt, not, ◌&&◌, ◌||◌, ◌==◌, Bool, List, [], ◌∷◌, take, drop, length, slice_index, codes, if◌then◌else◌}
-use Rattle.std.specs.List.{prefix_len, list_all, list_any}
+use Rattle.std.specs.Prelude.{ℕ, ◌-◌, nat_le, nat_lt, not, ◌&&◌, ◌||◌, ◌==◌, Bool, false, List, [], ◌∷◌, take, drop, length, map, slice_index, codes, Option, Some, None, if◌then◌else◌}
+use Rattle.std.specs.List.{list_all, list_any, before_first, slice_split}
 use Rattle.std.specs.Str.{byte, bytes_eq}
 use Rattle.hcl_token.specs.declared.kind.Kind.{Kind}
 use Rattle.hcl_token.specs.declared.kind.Kind.TheVariants.{LineComment, InlineComment}
 use Rattle.tf_rules.specs.declared.rule.Rule.{Rule}
 use Rattle.tf_rules.specs.Table.{name_of}
-use Rattle.tf_findings.specs.declared.silencing.class.ByteClass.{ByteClass}
-use Rattle.tf_findings.specs.declared.silencing.class.ByteClass.TheVariants.{Whitespace, NameByte, NotComma, NotHash}
 
--- a space or a tab; an ASCII letter, a digit, `_` or `-`; anything but a comma; anything but `#`
-abbrev pub is_in_class : ByteClass → ℕ → Bool
-is_in_class Whitespace b = b == byte " " || b == byte "\t"
-is_in_class NameByte b = (nat_le (byte "a") b && nat_le b (byte "z"))
+-- a space or a tab
+abbrev pub is_whitespace : ℕ → Bool
+is_whitespace b = b == byte " " || b == byte "\t"
+
+-- an ASCII letter, a digit, `_` or `-`
+abbrev pub is_name_byte : ℕ → Bool
+is_name_byte b = (nat_le (byte "a") b && nat_le b (byte "z"))
     || ((nat_le (byte "A") b && nat_le b (byte "Z"))
     || ((nat_le (byte "0") b && nat_le b (byte "9")) || (b == byte "_" || b == byte "-")))
-is_in_class NotComma b = not (b == byte ",")
-is_in_class NotHash b = not (b == byte "#")
 
--- how many bytes at the start are of the class
-abbrev pub class_prefix_len : ByteClass → List ℕ → ℕ
-class_prefix_len class = prefix_len (is_in_class class)
+-- a text without the whitespace that it begins with
+abbrev pub trimmed_start : List ℕ → List ℕ
+trimmed_start [] = []
+trimmed_start (b ∷ bs) = if is_whitespace b then trimmed_start bs else b ∷ bs
 
-abbrev pub skip_whitespace : List ℕ → List ℕ
-skip_whitespace t = drop (class_prefix_len Whitespace t) t
+-- a text without the whitespace that it ends in
+abbrev pub trimmed_end : List ℕ → List ℕ
+trimmed_end [] = []
+trimmed_end (b ∷ bs) = if list_all is_whitespace (b ∷ bs) then [] else b ∷ trimmed_end bs
 
-abbrev pub is_all_whitespace : List ℕ → Bool
-is_all_whitespace t = class_prefix_len Whitespace t == length t
+abbrev pub trimmed : List ℕ → List ℕ
+trimmed t = trimmed_end (trimmed_start t)
 
+-- whether the last byte of a text is whitespace
 abbrev pub ends_in_whitespace : List ℕ → Bool
-ends_in_whitespace t = nat_lt 0 (length t) && is_in_class Whitespace (slice_index t (length t - 1))
+ends_in_whitespace t = nat_lt 0 (length t) && is_whitespace (slice_index t (length t - 1))
 
-abbrev pub cons_to_first : ℕ → List (List ℕ) → List (List ℕ)
-cons_to_first b [] = []
-cons_to_first b (p ∷ ps) = (b ∷ p) ∷ ps
+-- what follows a word that a text begins with
+abbrev pub strip_prefix : List ℕ → List ℕ → Option (List ℕ)
+strip_prefix [] t = Some t
+strip_prefix (w ∷ word) [] = None
+strip_prefix (w ∷ word) (b ∷ bs) = if b == w then strip_prefix word bs else None
+
+-- the text before the first `#`, or all of it
+abbrev pub before_hash : List ℕ → List ℕ
+before_hash t = before_first (λ (b : ℕ). b == byte "#") t
+
+abbrev pub has_hash : List ℕ → Bool
+has_hash t = list_any (λ (b : ℕ). b == byte "#") t
 
 -- the parts of a text between its commas
-abbrev pub split_commas : List ℕ → List (List ℕ)
-split_commas [] = [] ∷ []
-split_commas (b ∷ bs) = if b == byte "," then [] ∷ split_commas bs else cons_to_first b (split_commas bs)
+abbrev pub split_at_commas : List ℕ → List (List ℕ)
+split_at_commas t = slice_split (λ (b : ℕ). b == byte ",") t
 
--- the name at the start of a part, after whitespace
-abbrev pub leading_name : List ℕ → List ℕ
-leading_name part = take (class_prefix_len NameByte (skip_whitespace part)) (skip_whitespace part)
-
--- whether a part is a name, with or without whitespace around it
+-- one or more bytes of a name
 abbrev pub is_name : List ℕ → Bool
-is_name part = nat_lt 0 (class_prefix_len NameByte (skip_whitespace part))
-    && is_all_whitespace (drop (class_prefix_len NameByte (skip_whitespace part)) (skip_whitespace part))
+is_name [] = false
+is_name (b ∷ bs) = list_all is_name_byte (b ∷ bs)
 
--- whether a part names the rule, or all
-abbrev pub names_rule : Rule → List ℕ → Bool
-names_rule rule part = bytes_eq (leading_name part) (name_of rule) || bytes_eq (leading_name part) (codes "all")
+-- whether a name is the rule's, or `all`
+abbrev pub means_rule : Rule → List ℕ → Bool
+means_rule rule name = bytes_eq name (name_of rule) || bytes_eq name (codes "all")
 
--- the text before the first `#`
-abbrev pub list_part : List ℕ → List ℕ
-list_part t = take (class_prefix_len NotHash t) t
+-- the names in a list: what is between its commas, without whitespace around it
+abbrev pub listed_names : List ℕ → List (List ℕ)
+listed_names t = map trimmed (split_at_commas t)
 
 -- The list after `tflint-ignore:`: names separated by commas, of which one means the rule. A reason
 -- may follow, after whitespace and `#`.
-abbrev pub list_names : Rule → List ℕ → Bool
-list_names rule t =
-    (class_prefix_len NotHash t == length t || ends_in_whitespace (list_part t))
-    && (list_all is_name (split_commas (list_part t)) && list_any (names_rule rule) (split_commas (list_part t)))
+abbrev pub list_silences : Rule → List ℕ → Bool
+list_silences rule t =
+    (not (has_hash t) || ends_in_whitespace (before_hash t))
+    && (list_all is_name (listed_names (before_hash t))
+    && list_any (means_rule rule) (listed_names (before_hash t)))
 
-abbrev pub begins_with : List ℕ → List ℕ → Bool
-begins_with word t = bytes_eq (take (length word) t) word
+abbrev pub rest_silences : Rule → Option (List ℕ) → Bool
+rest_silences rule None = false
+rest_silences rule (Some rest) = list_silences rule rest
 
-abbrev pub ignore_word : List ℕ
-ignore_word = codes "tflint-ignore:"
-
--- the body of a comment silences a rule: whitespace, `tflint-ignore:`, and the list
-abbrev pub body_silences : Rule → List ℕ → Bool
-body_silences rule t = begins_with ignore_word (skip_whitespace t)
-    && list_names rule (drop (length ignore_word) (skip_whitespace t))
+-- the text of a comment silences a rule: whitespace, `tflint-ignore:`, and the list
+abbrev pub text_silences : Rule → List ℕ → Bool
+text_silences rule t = rest_silences rule (strip_prefix (codes "tflint-ignore:") (trimmed_start t))
 
 -- a comment without what opens and closes it; other tokens hold nothing
 abbrev pub comment_body : Kind → List ℕ → List ℕ
@@ -86,4 +91,4 @@ comment_body _ spelling = []
 
 -- whether a token is a comment that silences the rule
 abbrev pub silences : Kind → List ℕ → Rule → Bool
-silences kind spelling rule = body_silences rule (comment_body kind spelling)
+silences kind spelling rule = text_silences rule (comment_body kind spelling)

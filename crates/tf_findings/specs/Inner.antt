@@ -1,3 +1,4 @@
 pub mod Collects
 pub mod Annotations
+pub mod ByteCounts
 pub mod NextComment

@@ -1,7 +1,7 @@
 //! Classes of bytes in a comment.
 
 ghost use Rattle.std.specs.Prelude.{◌≡◌, ◌≤◌, length};
-ghost use Rattle.tf_findings.specs.Comments.{is_in_class, class_prefix_len};
+ghost use Rattle.tf_findings.specs.Inner.ByteCounts.{is_in_class, class_prefix_len};
 
 /// A class of bytes.
 #[derive(Clone, Copy)]

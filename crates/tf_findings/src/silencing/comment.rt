@@ -6,8 +6,9 @@ ghost use Rattle.std.specs.Str.{bytes_eq};
 ghost use Rattle.tf_rules.specs.declared.rule.Rule.{Rule};
 ghost use Rattle.tf_rules.specs.RuleSets.{has_rule};
 ghost use Rattle.hcl_token.specs.Kinds.{is_line_comment, is_comment};
-ghost use Rattle.tf_findings.specs.Comments.{skip_whitespace, is_all_whitespace, ends_in_whitespace, split_commas, leading_name, is_name, names_rule, list_names, body_silences, comment_body, silences};
+ghost use Rattle.tf_findings.specs.Comments.{comment_body, silences};
 ghost use Rattle.tf_findings.specs.Inner.Annotations.{option_has};
+ghost use Rattle.tf_findings.specs.Inner.ByteCounts.{skip_whitespace, is_all_whitespace, ends_in_whitespace, split_commas, leading_name, is_name, names_rule, list_names, body_silences};
 
 use crate::silencing::class::{ByteClass, class_prefix_len, is_in_class};
 use hcl_token::Kind;

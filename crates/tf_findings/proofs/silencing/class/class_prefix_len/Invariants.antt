@@ -1,5 +1,5 @@
 use Rattle.std.proofs.Common.{◌≡◌, ◌+◌, drop}
-use Rattle.tf_findings.specs.Comments.{class_prefix_len}
+use Rattle.tf_findings.specs.Inner.ByteCounts.{class_prefix_len}
 use Rattle.tf_findings.proofs.silencing.class.class_prefix_len.Given as goal
 
 abbrev pub invariant-loop-b : goal.invariant-loop-b

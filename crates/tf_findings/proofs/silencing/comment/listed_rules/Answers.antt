@@ -3,7 +3,7 @@ use Rattle.std.specs.List.{list_all, list_any}
 use Rattle.tf_rules.specs.RuleSets.{has_rule}
 use Rattle.tf_findings.specs.declared.silencing.class.ByteClass.TheVariants.{NotComma}
 use Rattle.tf_findings.proofs.CommaLemmas.{first_not, last_one, one_more}
-use Rattle.tf_findings.specs.Comments.{class_prefix_len, split_commas, is_name, names_rule}
+use Rattle.tf_findings.specs.Inner.ByteCounts.{class_prefix_len, split_commas, is_name, names_rule}
 use Rattle.tf_findings.proofs.silencing.comment.listed_rules.Goals as goal
 
 pub returns-then-not-is_name : goal.returns-then-not-is_name

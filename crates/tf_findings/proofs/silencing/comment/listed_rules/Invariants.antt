@@ -2,7 +2,7 @@ use Rattle.std.proofs.Common.{◌≡◌, ◌&&◌, ◌||◌, length}
 use Rattle.std.specs.List.{list_all, list_any}
 use Rattle.tf_rules.specs.declared.rule.Rule.{Rule}
 use Rattle.tf_rules.specs.RuleSets.{has_rule}
-use Rattle.tf_findings.specs.Comments.{split_commas, is_name, names_rule}
+use Rattle.tf_findings.specs.Inner.ByteCounts.{split_commas, is_name, names_rule}
 use Rattle.tf_findings.proofs.silencing.comment.listed_rules.Given as goal
 
 abbrev pub invariant-loop-rest : goal.invariant-loop-rest
