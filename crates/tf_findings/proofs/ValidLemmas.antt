@@ -4,7 +4,8 @@ use Rattle.std.specs.Prelude.{filter, if◌then◌else◌}
 use Rattle.std.specs.List.{AllByRecursion}
 use Rattle.std.specs.List.Sorted.{IsPermutation}
 use Rattle.tf_rules.specs.declared.finding.Finding.{Finding}
-use Rattle.tf_rules.specs.Findings.{is_valid, valid_findings, IsValidFinding, AreValidFindings}
+use Rattle.tf_rules.specs.Findings.{is_valid, valid_findings}
+use Rattle.tf_rules.specs.ValidFindings.{IsValidFinding, AreValidFindings}
 use Rattle.tf_findings.proofs.FilterLemmas.{each_kept, each_in_order}
 
 -- the test says the same as the facts

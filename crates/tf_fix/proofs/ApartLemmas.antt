@@ -5,7 +5,8 @@ use Rattle.std.specs.List.Sorted.{IsNonDecreasingBy}
 use Rattle.std.proofs.lemmas.Bool.{and_parts, ltb-true, ltb-false}
 use Rattle.std.proofs.lemmas.Bool.Decides.{nat_tests}
 use Rattle.tf_rules.specs.declared.finding.Finding.{Finding}
-use Rattle.tf_rules.specs.Findings.{is_fixable, AreValidFindings}
+use Rattle.tf_rules.specs.Findings.{is_fixable}
+use Rattle.tf_rules.specs.ValidFindings.{AreValidFindings}
 use Rattle.tf_fix.specs.Selection.{are_apart, is_apart_from, selected_from, selected_apart}
 
 -- ---- tests

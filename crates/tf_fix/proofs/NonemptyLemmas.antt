@@ -16,7 +16,7 @@ use Rattle.hcl_scan.specs.Tokenization.{TokenizesFrom, IsTokenization, byte_orde
 use Rattle.hcl_scan.specs.Lexeme.{is_heredoc, is_decimal, is_identifier, fixed_spelling, Spells, IsLexeme}
 use Rattle.hcl_scan.specs.Modes.{Mode, mode_of, marker, marker_of, clear_line_start, after_literal, is_in_sequence, is_braces, is_at_line_start, modes_after}
 use Rattle.hcl_scan.specs.Modes.Mode.{Expression, Sequence, Braces, Quoted, Heredoc}
-use Rattle.tf_rules.specs.Fixes.{ChangesSomething, ChangesEnd, AreInOrder}
+use Rattle.tf_rules.specs.ValidFindings.{ChangesSomething, ChangesEnd, AreInOrder}
 use Rattle.tf_rules.specs.declared.finding.Finding.{Finding}
 use Rattle.tf_rules.specs.declared.fix.Fix.{Fix}
 use Rattle.tf_rules.specs.declared.fix.Fix.TheVariants.{CommentMarker, Tokens}

@@ -16,8 +16,7 @@ use Rattle.tf_rules.specs.declared.fix.Insertion.TheVariants.{Nothing}
 use Rattle.tf_rules.specs.declared.fix.KeptTokens.{KeptTokens}
 use Rattle.tf_rules.specs.declared.rule.Rule.{Rule}
 use Rattle.tf_fix.specs.StepText.{is_empty, gap_at, with_gap, inserted_and_kept_pairs, fixed_pairs, fixed_pairs_from, settled_pair, settled_pairs, fix_step_text}
-use Rattle.tf_rules.specs.Findings.{AreValidFindings}
-use Rattle.tf_rules.specs.Fixes.{ChangesEnd, AreInOrder}
+use Rattle.tf_rules.specs.ValidFindings.{AreValidFindings, ChangesEnd, AreInOrder}
 use Rattle.tf_fix.specs.Inner.Nonempty.{HasValidFix}
 use Rattle.tf_rules.specs.declared.rule.Rule.TheVariants.{CommentSyntax}
 use Rattle.tf_fix.specs.Insertions.{inserted}

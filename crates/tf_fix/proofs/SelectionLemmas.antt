@@ -12,8 +12,8 @@ use Rattle.tf_rules.specs.declared.fix.Insertion.{Insertion}
 use Rattle.tf_rules.specs.declared.fix.Insertion.TheVariants.{Nothing}
 use Rattle.tf_rules.specs.declared.fix.KeptTokens.{KeptTokens}
 use Rattle.tf_rules.specs.declared.rule.Rule.{Rule}
-use Rattle.tf_rules.specs.Findings.{is_fixable, IsFixValid, AreValidFindings}
-use Rattle.tf_rules.specs.Fixes.{AreInOrder}
+use Rattle.tf_rules.specs.Findings.{is_fixable}
+use Rattle.tf_rules.specs.ValidFindings.{IsFixValid, AreValidFindings, AreInOrder}
 use Rattle.tf_fix.specs.Inner.Nonempty.{IsFixableWithin, HasValidFix}
 use Rattle.tf_fix.specs.Edits.FindingReplacements.{replacements_from, fix_replacements, finding_replacements}
 use Rattle.tf_fix.specs.OfRule.{IsOfRule, AreOfRule}

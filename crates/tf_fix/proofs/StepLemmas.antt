@@ -19,7 +19,7 @@ use Rattle.tf_fix.specs.StepText.{fix_step_text}
 use Rattle.tf_fix.specs.declared.fault.LintFault.{LintFault}
 use Rattle.tf_fix.specs.Edits.CommentEdits.{comment_edit}
 use Rattle.tf_fix.specs.Edits.StepEdits.{fix_step_entries}
-use Rattle.tf_rules.specs.Findings.{AreValidFindings}
+use Rattle.tf_rules.specs.ValidFindings.{AreValidFindings}
 use Rattle.tf_fix.specs.Edits.FindingReplacements.{step_replacements}
 use Rattle.tf_fix.specs.OfRule.{AreOfRule}
 use Rattle.tf_rules.specs.Table.{is_comment_rule}

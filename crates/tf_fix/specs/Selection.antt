@@ -2,7 +2,8 @@
 use Rattle.std.specs.Prelude.{◌≡◌, ℕ, not, ◌&&◌, ◌||◌, nat_lt, nat_le, Bool, true, List, [], ◌∷◌, if◌then◌else◌}
 use Rattle.std.specs.List.Sorted.{IsNonDecreasingBy}
 use Rattle.tf_rules.specs.declared.finding.Finding.{Finding}
-use Rattle.tf_rules.specs.Findings.{is_fixable, AreValidFindings}
+use Rattle.tf_rules.specs.Findings.{is_fixable}
+use Rattle.tf_rules.specs.ValidFindings.{AreValidFindings}
 
 -- Of a list of findings, each is selected that can be fixed and begins after all that were selected
 -- before it, which end at token number `past` (exclusive).

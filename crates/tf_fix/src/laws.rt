@@ -6,7 +6,7 @@ ghost use Rattle.hcl_token.specs.TokenizedText.{TokenizedText};
 ghost use Rattle.hcl_token.specs.Tokens.{Pair, whole_text};
 ghost use Rattle.hcl_scan.specs.Tokenization.{MAX_TEXT, IsTokenization};
 ghost use Rattle.hcl_scan.specs.Follows.{AreApart};
-ghost use Rattle.tf_rules.specs.Findings.{AreValidFindings};
+ghost use Rattle.tf_rules.specs.ValidFindings.{AreValidFindings};
 ghost use Rattle.tf_rules.specs.declared.finding.Finding.{Finding};
 ghost use Rattle.tf_rules.specs.declared.rule.Rule.{Rule};
 ghost use Rattle.tf_rules.specs.declared.rule.Rule.TheVariants.{CommentSyntax};

@@ -7,7 +7,7 @@ ghost use Rattle.edit_record.specs.declared.lists.edit.BadEdits.{BadEdits};
 ghost use Rattle.hcl_scan.specs.Tokenization.{MAX_TEXT};
 ghost use Rattle.hcl_scan.specs.Follows.{AreApart};
 ghost use Rattle.tf_findings.specs.RuleFilter.{is_found_by};
-ghost use Rattle.tf_rules.specs.Findings.{AreValidFindings};
+ghost use Rattle.tf_rules.specs.ValidFindings.{AreValidFindings};
 ghost use Rattle.tf_fix.specs.StepText.{fix_step_text};
 ghost use Rattle.tf_fix.specs.Edits.StepEdits.{fix_step_entries, fix_step_edits};
 ghost use Rattle.tf_rules.specs.Table.{is_comment_rule};

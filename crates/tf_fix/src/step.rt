@@ -3,7 +3,7 @@
 ghost use Rattle.std.specs.Prelude.{◌≡◌, ◌≤◌, ◌⊎◌, ℕ, true, length, IfOk, IfErr};
 ghost use Rattle.hcl_scan.specs.Tokenization.{MAX_TEXT};
 ghost use Rattle.tf_fix.specs.ParsedTexts.{IsParseOf};
-ghost use Rattle.tf_rules.specs.Findings.{AreValidFindings};
+ghost use Rattle.tf_rules.specs.ValidFindings.{AreValidFindings};
 ghost use Rattle.tf_rules.specs.RuleSets.{has_rule};
 ghost use Rattle.tf_fix.specs.declared.parsed.Parsed.{Parsed};
 ghost use Rattle.tf_fix.specs.OneStep.{AreFindingsOf, IsTooLong, IsFixStep};

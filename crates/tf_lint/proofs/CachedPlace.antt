@@ -4,7 +4,7 @@ use Rattle.std.proofs.lemmas.List.{take_more, map-append}
 use Rattle.hcl_token.specs.declared.place.Place.{Place}
 use Rattle.hcl_token.specs.Place.{place_of}
 use Rattle.hcl_token.specs.Tokens.{Pair}
-use Rattle.tf_rules.specs.Findings.{AreValidFindings}
+use Rattle.tf_rules.specs.ValidFindings.{AreValidFindings}
 use Rattle.tf_rules.specs.declared.finding.Finding.{Finding}
 use Rattle.tf_lint.specs.Issues.{reports}
 use Rattle.tf_lint.specs.Reports.{Report, report, report_of}

@@ -15,7 +15,7 @@ use Rattle.hcl_text_laws.specs.declared.fault.ParseFault.{ParseFault}
 use Rattle.hcl_token.specs.TokenizedText.{TokenizedText}
 use Rattle.tf_findings.specs.Findings.{AreFindings}
 use Rattle.tf_lint.specs.LintedMembers.{AreLintedMembers}
-use Rattle.tf_rules.specs.Findings.{AreValidFindings}
+use Rattle.tf_rules.specs.ValidFindings.{AreValidFindings}
 use Rattle.tf_lint.proofs.DoesNotParse.{not_parsed}
 use Rattle.tf_lint.specs.Faults.{fault_of_scan, fault_of_parse, fault_of_lint}
 use Rattle.tf_fix.specs.OneStep.{RulesFind, AreFindingsOf, IsTooLong}

@@ -2,7 +2,7 @@
 use Rattle.std.specs.Prelude.{◌≡◌, length}
 use Rattle.hcl_token.specs.TokenLists.{IsTokenListOf}
 use Rattle.tf_lint.specs.LintedMembers.{AreLintedMembers}
-use Rattle.tf_rules.specs.Findings.{AreValidFindings}
+use Rattle.tf_rules.specs.ValidFindings.{AreValidFindings}
 use Rattle.tf_fix.specs.ParsedTexts.{IsParseOf}
 use Rattle.tf_fix.specs.OneStep.{RulesFind}
 use Rattle.tf_fix.specs.declared.parsed.Parsed.{Parsed}

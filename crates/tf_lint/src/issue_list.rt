@@ -2,7 +2,7 @@
 
 ghost use Rattle.std.specs.Prelude.{◌≡◌, ◌++◌, [], ◌∷◌, ◌<◌, length, map, string_bytes, IfOk, IfErr};
 ghost use Rattle.hcl_token.specs.Place.{place_of};
-ghost use Rattle.tf_rules.specs.Findings.{AreValidFindings};
+ghost use Rattle.tf_rules.specs.ValidFindings.{AreValidFindings};
 ghost use Rattle.tf_lint.specs.Issues.{reports, AreIssues};
 ghost use Rattle.tf_lint.specs.Reports.{report_of, report_lines};
 ghost use Rattle.tf_fix.specs.declared.fault.LintFault.TheVariants.{Memory};

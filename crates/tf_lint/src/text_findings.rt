@@ -15,7 +15,7 @@ ghost use Rattle.hcl_text_laws.specs.declared.fault.ParseFault.TheVariants.{Memo
 ghost use Rattle.tf_findings.specs.Findings.{AreNodeAndBlockFindings, AreFindings};
 ghost use Rattle.tf_lint.specs.Inner.BodyFindings.{AreBodyFindings};
 ghost use Rattle.tf_lint.specs.LintedMembers.{AreLintedMembers};
-ghost use Rattle.tf_rules.specs.Findings.{AreValidFindings};
+ghost use Rattle.tf_rules.specs.ValidFindings.{AreValidFindings};
 
 use crate::body::{BodyFindings, append_findings, lint_body};
 use crate::member::LintedMember;

@@ -1,5 +1,5 @@
 -- What a fix does with the tokens of a finding, and whether it can.
-use Rattle.std.specs.Prelude.{◌≡◌, ℕ, ◌+◌, ◌<◌, ◌≤◌, nat_lt, nat_le, ◌==◌, ◌&&◌, Bool, true, false, List, [], ◌∷◌, Option, Some, None, if◌then◌else◌, ⊤}
+use Rattle.std.specs.Prelude.{ℕ, ◌+◌, nat_lt, nat_le, ◌==◌, ◌&&◌, Bool, true, false, List, [], ◌∷◌, Option, Some, None, if◌then◌else◌}
 use Rattle.tf_rules.specs.declared.fix.Fix.{Fix}
 use Rattle.tf_rules.specs.declared.fix.Fix.TheVariants.{CommentMarker, Tokens}
 use Rattle.tf_rules.specs.declared.fix.Insertion.{Insertion}
@@ -30,18 +30,18 @@ abbrev pub is_comment_fix : Option Fix → Bool
 is_comment_fix (Some CommentMarker) = true
 is_comment_fix _ = false
 
--- the tokens from number at up to number to are removed, or something is inserted there
+-- tokens are removed from number `at` to number `to` (exclusive), or something is inserted there
 abbrev pub changes_something : Insertion → ℕ → ℕ → Bool
 changes_something Nothing at to = nat_lt at to
 changes_something _ at to = nat_le at to
 
--- At the end of the finding, the tokens from number at up to number `past` are removed, and some
--- before them are kept; or something is inserted.
+-- At the end of the finding, tokens are removed from number `at` to number `past` (exclusive), and
+-- some before them are kept; or something is inserted.
 abbrev pub changes_end : ℕ → Insertion → ℕ → ℕ → Bool
 changes_end first Nothing at past = nat_lt first at && nat_lt at past
 changes_end first _ at past = nat_le at past
 
--- the kept ranges are in order after number at, where `written` is inserted
+-- the kept ranges are in order after number `at`, where `written` is inserted
 abbrev pub are_in_order : ℕ → ℕ → ℕ → Insertion → List (Option KeptTokens) → Bool
 are_in_order first past at written [] = changes_end first written at past
 are_in_order first past at written (None ∷ kept) = are_in_order first past at written kept
@@ -53,22 +53,3 @@ are_in_order first past at written (Some k ∷ kept) =
 abbrev pub is_in_order : ℕ → ℕ → Fix → Bool
 is_in_order first past CommentMarker = past == first + 1
 is_in_order first past (Tokens before kept) = are_in_order first past first before kept
-
--- the same as facts on numbers
-abbrev pub ChangesSomething : Insertion → ℕ → ℕ → Type 0
-ChangesSomething Nothing at to = at < to
-ChangesSomething _ at to = at ≤ to
-
-abbrev pub ChangesEnd : ℕ → Insertion → ℕ → ℕ → Type 0
-ChangesEnd first Nothing at past = (first < at) × (at < past)
-ChangesEnd first _ at past = at ≤ past
-
-abbrev pub AreInOrder : ℕ → ℕ → ℕ → Insertion → List (Option KeptTokens) → Type 0
-AreInOrder first past at written [] = ChangesEnd first written at past
-AreInOrder first past at written (None ∷ kept) = AreInOrder first past at written kept
-AreInOrder first past at written (Some k ∷ kept) =
-    ChangesSomething written at k.from × (k.from < k.to) × AreInOrder first past k.to k.after kept
-
-abbrev pub IsInOrder : ℕ → ℕ → Fix → Type 0
-IsInOrder first past CommentMarker = past ≡ first + 1
-IsInOrder first past (Tokens before kept) = AreInOrder first past first before kept

@@ -16,3 +16,4 @@ pub mod Trivia
 pub mod TopLevelFindings
 pub mod Spelling
 pub mod Unbroken
+pub mod ValidFindings

@@ -3,7 +3,8 @@
 ghost use Rattle.std.specs.Prelude.{◌≡◌, ◌++◌, ◌&&◌, ℕ, nat_lt, nat_le, true, OnOk, OnErr};
 ghost use Rattle.std.specs.Prelude.{filter, List, ◌∷◌, []};
 ghost use Rattle.tf_rules.specs.declared.finding.Finding.{Finding};
-ghost use Rattle.tf_rules.specs.Findings.{is_fix_valid, is_fixable, is_valid, IsValidFinding};
+ghost use Rattle.tf_rules.specs.Findings.{is_fix_valid, is_fixable, is_valid};
+ghost use Rattle.tf_rules.specs.ValidFindings.{IsValidFinding};
 
 use crate::fix::Fix;
 use crate::packed::{PackedFix, pack_name};

@@ -3,7 +3,7 @@
 ghost use Rattle.std.specs.Prelude.{◌≡◌, ◌<◌, ◌≤◌, ◌+◌, ◌++◌, [], ◌∷◌, ℕ, not, nat_lt, filter, length, take, drop, IfOk, if◌then◌else◌};
 ghost use Rattle.hcl_token.specs.Place.{line_of};
 ghost use Rattle.tf_rules.specs.declared.rule.Rule.{Rule};
-ghost use Rattle.tf_rules.specs.Findings.{AreValidFindings};
+ghost use Rattle.tf_rules.specs.ValidFindings.{AreValidFindings};
 ghost use Rattle.tf_findings.specs.Silencing.{is_silenced, is_silenced_on};
 ghost use Rattle.tf_findings.specs.Inner.Annotations.{AreLinesIncreasing, AreIncreasing, is_silenced_by, silences_among, CanSilence};
 

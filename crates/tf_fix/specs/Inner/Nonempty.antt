@@ -1,7 +1,7 @@
 -- For proofs: what is known of a finding that is fixed.
 use Rattle.std.specs.Prelude.{ℕ, ◌<◌, ◌≤◌, List, [], ◌∷◌, length, Option, Some, None, ⊤}
 use Rattle.hcl_token.specs.Tokens.{Pair}
-use Rattle.tf_rules.specs.Fixes.{IsInOrder}
+use Rattle.tf_rules.specs.ValidFindings.{IsInOrder}
 use Rattle.tf_rules.specs.declared.fix.Fix.{Fix}
 use Rattle.tf_rules.specs.declared.finding.Finding.{Finding}
 

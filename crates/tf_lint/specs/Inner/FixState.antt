@@ -1,7 +1,7 @@
 -- For proofs: a text that a step made, and what the rules up to the first that changes it did.
 use Rattle.std.specs.Prelude.{ℕ, List, length}
 use Rattle.tf_rules.specs.declared.rule.Rule.{Rule}
-use Rattle.tf_rules.specs.Findings.{AreValidFindings}
+use Rattle.tf_rules.specs.ValidFindings.{AreValidFindings}
 use Rattle.tf_fix.specs.OneStep.{RulesFind}
 use Rattle.tf_fix.specs.ParsedTexts.{IsParseOf}
 use Rattle.tf_fix.specs.declared.parsed.Parsed.{Parsed}

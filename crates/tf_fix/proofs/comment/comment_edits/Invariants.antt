@@ -1,7 +1,7 @@
 use Rattle.std.proofs.Common.{◌≡◌, ◌++◌, length, drop, filter, map}
 use Rattle.tf_findings.specs.RuleFilter.{is_found_by}
 use Rattle.tf_fix.specs.Edits.CommentEdits.{comment_edit}
-use Rattle.tf_rules.specs.Findings.{AreValidFindings}
+use Rattle.tf_rules.specs.ValidFindings.{AreValidFindings}
 use Rattle.tf_fix.specs.Selection.{selected_from, selected}
 use Rattle.tf_fix.proofs.comment.comment_edits.Given as goal
 

@@ -3,7 +3,7 @@ use Rattle.std.specs.List.{flat_map}
 use Rattle.tf_findings.specs.RuleFilter.{is_found_by}
 use Rattle.tf_fix.specs.Inner.Views.{replacements, HaveBytes}
 use Rattle.tf_fix.specs.Edits.FindingReplacements.{finding_replacements, step_replacements}
-use Rattle.tf_rules.specs.Findings.{AreValidFindings}
+use Rattle.tf_rules.specs.ValidFindings.{AreValidFindings}
 use Rattle.tf_fix.specs.Selection.{selected_from, selected}
 use Rattle.tf_fix.proofs.replacement_list.selected_replacements.Given as goal
 

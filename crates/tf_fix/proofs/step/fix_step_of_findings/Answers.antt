@@ -7,7 +7,7 @@ use Rattle.tf_findings.specs.RuleFilter.{is_found_by, FindingsOfOneRule}
 use Rattle.tf_findings.proofs.ValidLemmas.{valid_kept}
 use Rattle.tf_rules.specs.SingleRule.{only}
 use Rattle.tf_rules.specs.RuleSets.{has_rule}
-use Rattle.tf_rules.specs.Findings.{AreValidFindings}
+use Rattle.tf_rules.specs.ValidFindings.{AreValidFindings}
 use Rattle.tf_rules.specs.declared.finding.Finding.{Finding}
 use Rattle.tf_rules.specs.declared.rule.Rule.{Rule}
 use Rattle.tf_rules.specs.declared.rule_set.RuleSet.{RuleSet}

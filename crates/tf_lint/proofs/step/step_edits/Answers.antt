@@ -1,6 +1,6 @@
 -- What was found in the text that was searched is what the rules of the set find in it.
 use Rattle.std.proofs.Common.{◌≡◌, ◌⊎◌, length, sym, subst}
-use Rattle.tf_rules.specs.Findings.{AreValidFindings}
+use Rattle.tf_rules.specs.ValidFindings.{AreValidFindings}
 use Rattle.tf_lint.specs.Steps.{CannotStep}
 use Rattle.tf_lint.specs.Faults.{fault_of_lint}
 use Rattle.tf_lint.specs.declared.fault.FixFault.{FixFault}

@@ -11,7 +11,7 @@ use Rattle.tf_lint.specs.Steps.{Refuses}
 use Rattle.tf_rules.specs.declared.finding.Finding.{Finding}
 use Rattle.tf_rules.specs.declared.rule.Rule.{Rule}
 use Rattle.tf_rules.specs.declared.rule_set.RuleSet.{RuleSet}
-use Rattle.tf_rules.specs.Findings.{AreValidFindings}
+use Rattle.tf_rules.specs.ValidFindings.{AreValidFindings}
 use Rattle.tf_rules.specs.Table.{all_rules}
 use Rattle.tf_lint.specs.Inner.LeadsTo.{LeadsTo}
 use Rattle.tf_lint.specs.Inner.FirstChange.{RunFixable, IsFirstChange, FixesFrom, RefusesFrom, rewrite_by}

@@ -5,8 +5,9 @@ use Rattle.tf_rules.specs.declared.fix.Fix.TheVariants.{CommentMarker, Tokens}
 use Rattle.tf_rules.specs.declared.fix.Insertion.{Insertion}
 use Rattle.tf_rules.specs.declared.fix.Insertion.TheVariants.{Nothing}
 use Rattle.tf_rules.specs.declared.fix.KeptTokens.{KeptTokens}
-use Rattle.tf_rules.specs.Findings.{is_fix_valid, IsFixValid}
-use Rattle.tf_rules.specs.Fixes.{changes_something, changes_end, are_in_order, ChangesSomething, ChangesEnd, AreInOrder}
+use Rattle.tf_rules.specs.Findings.{is_fix_valid}
+use Rattle.tf_rules.specs.ValidFindings.{IsFixValid, ChangesSomething, ChangesEnd, AreInOrder}
+use Rattle.tf_rules.specs.Fixes.{changes_something, changes_end, are_in_order}
 use Rattle.tf_rules.proofs.finding.is_valid_is_exact.Goals as goal
 
 left : (a b : Bool) → (a && b) ≡ true → a ≡ true

@@ -3,7 +3,7 @@ use Rattle.std.specs.Prelude.{filter}
 use Rattle.hcl_token.specs.Place.{line_of}
 use Rattle.tf_rules.specs.declared.finding.Finding.{Finding}
 use Rattle.tf_rules.specs.declared.rule.Rule.{Rule}
-use Rattle.tf_rules.specs.Findings.{AreValidFindings}
+use Rattle.tf_rules.specs.ValidFindings.{AreValidFindings}
 use Rattle.tf_findings.specs.Inner.Annotations.{AreLinesIncreasing, is_silenced_by}
 use Rattle.tf_findings.proofs.silencing.unsilenced.retain_unsilenced.Given as goal
 
