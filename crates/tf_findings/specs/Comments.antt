@@ -66,8 +66,8 @@ means_rule rule name = bytes_eq name (name_of rule) || bytes_eq name (codes "all
 abbrev pub listed_names : List ℕ → List (List ℕ)
 listed_names t = map trimmed (split_at_commas t)
 
--- The list after `tflint-ignore:`: names separated by commas, of which one means the rule. A reason
--- may follow, after whitespace and `#`.
+-- The list after `tflint-ignore:`: names separated by commas, and one of them means the rule. A
+-- reason may follow, after whitespace and `#`.
 abbrev pub list_silences : Rule → List ℕ → Bool
 list_silences rule t =
     (not (has_hash t) || ends_in_whitespace (before_hash t))

@@ -18,9 +18,9 @@ fn is_before(a: &Finding, b: &Finding) -> bool
     order(a, b).is_lt()
 }
 
-/// Whether findings `i` and `i + 1`, of which the second is to be before the first, are two of
-/// three and more that fall. Those are left as they are: a sort turns them around as a whole. The
-/// answer decides only how long a sort takes, so that no clause states it.
+/// Whether findings `i` and `i + 1`, which are out of order, are two of three and more that fall.
+/// Those are left as they are: a sort turns them around as a whole. The answer decides only how
+/// long a sort takes, so that no clause states it.
 fn is_in_fall(found: &[Finding], i: usize) -> bool
     requires { (0 < i) × (i + 1 < length found.now) }
 {
@@ -28,8 +28,7 @@ fn is_in_fall(found: &[Finding], i: usize) -> bool
         || (found.len() - i > 2 && is_before(&found[i + 2], &found[i + 1]))
 }
 
-/// Exchanges findings `i` and `i + 1`, of which the second is to be before the first, if no others
-/// beside them fall.
+/// Exchanges findings `i` and `i + 1`, which are out of order, if no others beside them fall.
 fn exchange_pair(found: &mut [Finding], i: usize)
     requires within { (0 < i) × (i + 1 < length found.old) }
     requires falls { (d : Finding)
@@ -58,8 +57,8 @@ fn exchange_at(found: &mut [Finding], i: usize)
     }
 }
 
-/// Exchanges neighbours of which the second is to be before the first and no others beside them
-/// fall; the first two of all are left to the sort.
+/// Exchanges neighbours that are out of order, if no others beside them fall. The first two of all
+/// are left to the sort.
 pub fn exchange_neighbours(found: &mut [Finding])
     ensures permutation { IsPermutation found.old found.new }
     ensures stable { IsStable report_order found.old found.new }

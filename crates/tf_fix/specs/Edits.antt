@@ -1,4 +1,4 @@
--- By which edits a step makes its text: the text in pieces, of which some are replaced.
+-- By which edits a step makes its text: it replaces some parts of the old text.
 pub mod CommentEdits
 pub mod FindingReplacements
 pub mod Parts

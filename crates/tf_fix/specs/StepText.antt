@@ -23,7 +23,7 @@ abbrev pub with_gap : List ℕ → List Pair → List Pair
 with_gap gap [] = []
 with_gap gap (p ∷ ps) = record p { gap = gap } ∷ ps
 
--- what is written, and then the tokens that are kept, of which the first has no gap
+-- what is written, and then the tokens that are kept, the first without a gap
 abbrev pub inserted_and_kept_pairs : List Pair → ℕ → Insertion → List (Option KeptTokens) → List Pair
 inserted_and_kept_pairs pairs first written [] = inserted pairs first written
 inserted_and_kept_pairs pairs first written (None ∷ kept) = inserted_and_kept_pairs pairs first written kept

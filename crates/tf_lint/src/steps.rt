@@ -94,7 +94,7 @@ fn compose(
     }
 }
 
-/// Composes two lists of edits, of which the second edits the text that the first makes.
+/// Composes two lists of edits. The second edits the text that the first makes.
 fn squash_two(alloc: Global, edits_so_far: &Edits, more: &Edits) -> Result<Edits, FixFault>
     requires { AreComposable edits_so_far.now more.now }
     ensures composed { IfOk result (λ composed. IsSquash edits_so_far.now more.now composed) }

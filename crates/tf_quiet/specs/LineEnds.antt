@@ -27,7 +27,7 @@ line_end_by k.LineEnd zero here rest = here
 line_end_by k.LineEnd (suc depth) here rest = rest
 line_end_by _ depth here rest = rest
 
--- in these tokens, of which the first has number n
+-- in these tokens, whose first has number n
 abbrev pub line_end_in : List Token → ℕ → ℕ → Option ℕ
 line_end_in [] depth n = None
 line_end_in (t ∷ ts) depth n =

@@ -11,8 +11,8 @@ use Rattle.tf_reuse.specs.OneMember.{IsOneMember}
 use Rattle.tf_rules.specs.Preorder.{member}
 use Rattle.tf_rules.specs.declared.rule_set.RuleSet.{RuleSet}
 
--- A member that is derived from quiet tokens, of which a line end is the last: no rule finds
--- anything at its nodes.
+-- A member that is derived from quiet tokens, with a line end as the last: no rule finds anything
+-- at its nodes.
 abbrev pub QuietMembersHaveNoFindings : Type 0
 QuietMembersHaveNoFindings = (rules : RuleSet) (pairs : List Pair) (depth from to : ℕ) (x : Member)
     → IsOneMember (tokens_of pairs) depth x from to

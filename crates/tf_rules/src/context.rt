@@ -16,8 +16,8 @@ pub struct LintContext<'s, 't> {
 }
 
 impl<'s, 't> LintContext<'s, 't> {
-    /// Adds what a rule finds at the tokens from number `first` up to, not with, number `past`, if
-    /// it is valid in the text.
+    /// Adds what a rule finds at the tokens from number `first` to number `past` (exclusive), if it
+    /// is valid in the text.
     pub fn report(
         &self,
         rule: Rule,

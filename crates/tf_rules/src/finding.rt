@@ -39,7 +39,7 @@ impl Message {
     };
 }
 
-/// What a rule has found: its tokens, from number `first` up to, not with, number `past`.
+/// What a rule has found: its tokens, from number `first` to number `past` (exclusive).
 ///
 /// A text may have as many as it has tokens, so it is held in few bytes.
 #[derive(Clone, Copy)]

@@ -52,7 +52,7 @@ fn is_closing(kind: Kind) -> bool
     }
 }
 
-/// Whether the kind breaks a line outside of brackets, of which `depth` are open.
+/// Whether the kind breaks a line outside of brackets, where `depth` of them are open.
 fn is_outer_line_break(count_comments: bool, depth: usize, kind: Kind) -> bool
     ensures { result ≡ (depth == 0 && is_line_break count_comments kind) }
 {

@@ -9,7 +9,7 @@ ghost use Rattle.tf_rules.specs.Unbroken.{AreUnbroken};
 use crate::trivia::{has_line_break, is_line_break};
 use hcl_scan::Scanned;
 
-/// The tokens from number `first` up to, not with, number `past`. None of them is a line end or a
+/// The tokens from number `first` to number `past` (exclusive). None of them is a line end or a
 /// line comment.
 #[derive(Clone, Copy)]
 pub struct Unbroken {

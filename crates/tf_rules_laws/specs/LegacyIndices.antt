@@ -36,7 +36,7 @@ abbrev pub is_legacy : Kind → Bool
 is_legacy DotIndex = true
 is_legacy _ = false
 
--- the numbers of the legacy indices among these tokens, of which the first has number n
+-- the numbers of the legacy indices among these tokens, whose first has number n
 abbrev pub legacy_tokens : ℕ → List Token → List ℕ
 legacy_tokens n [] = []
 legacy_tokens n (t ∷ ts) =

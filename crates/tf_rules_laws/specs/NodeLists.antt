@@ -50,7 +50,7 @@ abbrev pub EveryNodeIsVisited : Type 0
 EveryNodeIsVisited = (b : Body) (ns : List Node) → IsPreorder (map member b.members) ns
     → (n : grammar.Node) → is_in_both n ≡ true → grammar.IsWithin n (grammar.body b) → IsAmong n ns
 
--- and the other way round
+-- the nodes of a body in the rules' list are in the grammar's list
 abbrev pub EveryVisitedNodeIsInGrammar : Type 0
 EveryVisitedNodeIsInGrammar = (b : Body) (ns : List Node) → IsPreorder (map member b.members) ns
     → (n : grammar.Node) → IsAmong n ns → grammar.IsWithin n (grammar.body b)

@@ -191,7 +191,7 @@ leads_back_over Tail-F.AttributeSplat leads = true
 leads_back_over Tail-F.FullSplat leads = false
 leads_back_over (Tail-F.Index e) leads = false
 
--- the same over these tails, of which the nearest is the first
+-- the same over these tails, the nearest first
 abbrev pub leads_back_to_splat : List Tail → Bool
 leads_back_to_splat [] = false
 leads_back_to_splat (t ∷ before) = leads_back_over (out-Tail t) (leads_back_to_splat before)

@@ -72,8 +72,7 @@ fn first_covers(annotations: &[Annotation], rule: Rule, line: usize) -> bool
     }
 }
 
-/// Returns whether an annotation, of which only the first two can, silences what the rule finds on
-/// this line.
+/// Returns whether an annotation silences what the rule finds on this line. Only the first two can.
 fn is_silenced_by(annotations: &[Annotation], rule: Rule, line: usize) -> bool
     requires { CanSilence line annotations.now }
     ensures { result ≡ is_silenced_by rule line annotations.now }

@@ -1,4 +1,4 @@
--- For proofs: what is known of the members of a block, of which the tokens were looked at in order.
+-- For proofs: what is known of the members of a block, whose tokens were looked at in order.
 use Rattle.std.specs.Prelude.{◌≡◌, ℕ, ◌+◌, not, ◌&&◌, ◌||◌, Bool, true, false, List, [], Option, Some, codes}
 use Rattle.std.specs.List.{flat_map}
 use Rattle.std.specs.Str.{bytes_eq}
@@ -56,8 +56,8 @@ pub record IsMemberWalk (pairs : List Pair) (names : Bool) (from to : ℕ) (type
       → NextIs (tokens_of pairs) false k.CloseBrace past
       → IsLeft pairs names typed described depth all to past
 
--- what is in braces, of which the opening one is token n: it is on lines of its own, and this is
--- said of its attributes
+-- what is in braces that open at token n: it is on lines of its own, and this is said of its
+-- attributes
 pub record IsSeenBody (pairs : List Pair) (names : Bool) (n : ℕ) (typed described : Bool) : Type 0 where
   pub opens : kind_of pairs n ≡ Some k.OpenBrace
   pub lines : (depth from past : ℕ) (all : List Member) → IsNewline (tokens_of pairs) (n + 1) from

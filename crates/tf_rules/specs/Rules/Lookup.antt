@@ -30,7 +30,7 @@ is_splat t = is_splat_tail (out-Tail t)
 abbrev pub has_splat : List Tail → Bool
 has_splat tails = list_any is_splat tails
 
--- a term with tails, if any, of which none is a splat
+-- a term, with tails if any, but no splat
 abbrev pub is_indexable_kind : ExprKindLayer → Bool
 is_indexable_kind (ExprKind-F.Postfix t tails) = not (has_splat tails)
 is_indexable_kind (ExprKind-F.Term t) = true

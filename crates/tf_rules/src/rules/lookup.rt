@@ -40,7 +40,7 @@ fn has_splat(tails: &[Tail]) -> bool
     tails.iter().any(|t| is_splat(t))
 }
 
-/// Whether an index can follow: a term with tails, if any, of which none is a splat.
+/// Whether an index can follow: a term, with tails if any, but no splat.
 fn is_indexable(kind: &ExprKind) -> bool
     ensures { result ≡ is_indexable_kind (out-ExprKind kind.now) }
 {

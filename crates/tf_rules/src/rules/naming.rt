@@ -116,7 +116,7 @@ fn check_local(
     check_name(cx, NameKind::Local, Some(a.name), a.name, a.name + 1, found)
 }
 
-/// As `check_local`, of the attribute that a block on one line may have.
+/// Adds the name of the attribute that a block on one line may have, if it is not in snake_case.
 fn check_optional_local(
     cx: &LintContext<'_, '_>,
     a: &Option<Boxed<Attribute>>,
@@ -133,7 +133,7 @@ fn check_optional_local(
     }
 }
 
-/// As `check_local`, of a member that is an attribute.
+/// Adds the name of a member that is an attribute, if it is not in snake_case.
 fn check_local_member(
     cx: &LintContext<'_, '_>,
     m: &Member,
@@ -150,7 +150,7 @@ fn check_local_member(
     }
 }
 
-/// As `check_local`, of each member that is an attribute.
+/// Adds the names of members that are attributes and not in snake_case.
 fn check_local_members(
     cx: &LintContext<'_, '_>,
     members: &[Member],
@@ -168,7 +168,7 @@ fn check_local_members(
     Ok(())
 }
 
-/// As `check_local`, of each attribute of a block.
+/// Adds the names of a block's attributes that are not in snake_case.
 fn check_local_attributes(
     cx: &LintContext<'_, '_>,
     b: &Block,
