@@ -2,7 +2,7 @@
 -- HCL native syntax specification, Expressions and Templates.
 --
 -- In `IsExpr ts d m e i j` the tokens are ts, and the expression e is derived from those from place
--- i up to place j. d: no more than d constructs are in one another; what nests is a construct at
+-- i up to place j. d: constructs are nested no more than d deep; what nests is a construct at
 -- `suc d` whose inside is at d. m: whether line ends and line comments are dropped here. `NextIs ts
 -- m t i`: after what is dropped, a token of kind t comes next; `next_index ts m i` is its number,
 -- and `after_next ts m i` the place after it.

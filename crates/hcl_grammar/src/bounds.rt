@@ -1,4 +1,4 @@
 //! How much a text may nest.
 
-/// How many constructs may be in one another. `specs/Grammar` says which constructs nest.
+/// How deep constructs may be nested. `specs/Grammar` says which constructs nest.
 pub const MAX_NESTING: usize = 100;

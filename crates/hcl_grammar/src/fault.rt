@@ -7,7 +7,7 @@ use std::alloc::{AllocError, AllocFailed};
 pub enum TokenFault {
     /// The first token that cannot go on; the length of the list, where it ends too early.
     Syntax(u32),
-    /// The token that opens one construct too many in one another.
+    /// The token that opens the construct which is nested too deep.
     TooDeep(u32),
     /// An allocation failed.
     Memory,

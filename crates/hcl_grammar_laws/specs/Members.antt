@@ -19,7 +19,7 @@ open_member_past (Member-F.Block b) = b.past
 abbrev pub member_past : Member → ℕ
 member_past m = open_member_past (out-Member m)
 
--- The answer at place i, and the place after it, where b constructs may be in one another.
+-- The answer at place i, and the place after it, where constructs may be nested b deep.
 pub record IsMemberResult (ts : List Token) (b i : ℕ) (answer : Result (Option Member) TokenFault)
     (new : ℕ) : Type 0 where
   -- a body that begins at the new place is one with the member before it

@@ -1,4 +1,4 @@
--- The number of constructs in one another is a bound.
+-- How deep constructs may be nested is a bound.
 use Rattle.std.specs.Prelude.{ℕ, ◌≤◌, List}
 use Rattle.hcl_grammar.specs.declared.tree.Tree.{Tree}
 use Rattle.hcl_grammar.specs.Bodies.{IsFile}

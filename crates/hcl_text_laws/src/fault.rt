@@ -16,7 +16,7 @@ pub enum ParseFault {
     /// ends too early.
     #[error("byte {at}: syntax error")]
     Syntax { at: usize },
-    /// The token that opens one construct too many in one another (`MAX_NESTING`).
+    /// The token that opens the construct which is nested too deep (`MAX_NESTING`).
     #[error("byte {at}: nested more than 100 deep")]
     TooDeep { at: usize },
     /// An allocation failed.

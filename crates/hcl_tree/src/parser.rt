@@ -51,16 +51,16 @@ fn to_parse_result(
     }
 }
 
-/// Returns the tree of a text that parses: its tokens follow the grammar, with at most
-/// `MAX_NESTING` constructs in one another.
+/// Returns the tree of a text that parses: its tokens follow the grammar, with constructs nested at
+/// most `MAX_NESTING` deep.
 ///
 /// Each node has the number of its first token and the number after its last. The text is read
 /// once, from left to right.
 ///
 /// # Errors
 ///
-/// The first error, reading from left to right: `Syntax`, or `TooDeep` for more than `MAX_NESTING`
-/// constructs in one another; `Memory` if an allocation fails before that.
+/// The first error, reading from left to right: `Syntax`, or `TooDeep` for constructs that are
+/// nested more than `MAX_NESTING` deep; `Memory` if an allocation fails before that.
 pub fn parse(alloc: Global, scanned: &Scanned<'_>) -> Result<Tree, ParseFault>
     // The text parses, and this is its tree.
     ensures parses { IfOk result (λ t. Parses scanned.now.text t) }
@@ -68,7 +68,7 @@ pub fn parse(alloc: Global, scanned: &Scanned<'_>) -> Result<Tree, ParseFault>
     // A text that parses is not refused, unless memory runs out.
     ensures only { (t : tree.Tree) → Parses scanned.now.text t
         → MatchResult result (λ x. x ≡ t) IsMemory }
-    // Where the tokens follow the grammar with more constructs in one another, that is the error.
+    // Where the tokens follow the grammar with constructs nested deeper, that is the error.
     ensures deeper { (d : ℕ) (t : tree.Tree) → IsFile (tokens_of scanned.now.pairs) d t
         → MatchResult result (λ x. x ≡ t) IsMemoryOrDeep }
     // The place of an error is where a token begins, or the length of the text.

@@ -148,7 +148,7 @@ module _ (ts : List Token) where
         m ← member_of
         members_step (members_from n) found m)
 
-  -- a body with at most n constructs in one another
+  -- a body with constructs nested at most n deep
   unfoldable pub members : ℕ → Step (List Member)
   members zero = members_from zero (λ i. Err (TooDeep i)) (length ts) []
   members (suc depth) = members_from (suc depth) (members depth) (length ts) []

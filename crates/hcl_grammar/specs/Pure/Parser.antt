@@ -532,7 +532,7 @@ module _ (ts : List Token) where
   abbrev pub too_deep : Deeper
   too_deep = record { expr = λ m g i. Err (TooDeep i); parts = λ m i. Err (TooDeep i) }
 
-  -- with no more constructs in one another than the number
+  -- with constructs nested no deeper than the number
   unfoldable pub under : ℕ → Deeper
   under zero = at_depth zero too_deep too_deep.expr
   under (suc zero) = at_depth (suc zero) (under zero) too_deep.expr
@@ -549,7 +549,7 @@ module _ (ts : List Token) where
   twice (suc zero) = too_deep.expr
   twice (suc (suc depth)) = (under depth).expr
 
-  -- expressions with at most n constructs in one another
+  -- expressions with constructs nested at most n deep
   abbrev pub expr : ℕ → Exprs
   expr depth = (under depth).expr
 

@@ -11,7 +11,7 @@ use Rattle.hcl_grammar.specs.Pure.Reading.{Reads}
 use Rattle.hcl_grammar.specs.Tokens.{Token}
 use Rattle.hcl_grammar_laws.specs.Members.{IsMemberResult}
 
--- the answer to the tokens where b constructs may be in one another
+-- the answer to the tokens where constructs may be nested b deep
 pub record IsParseResult (ts : List Token) (b : ℕ) (answer : Result Tree TokenFault) : Type 0 where
   -- a tree that is answered is derived
   pub derived : IfOk answer (λ t. IsFile ts b t)
