@@ -1,5 +1,5 @@
 -- What a fix of an input comes to, from what its calls answer.
-use Rattle.std.proofs.Common.{◌≡◌, ◌<◌, ℕ, zero, suc, List, [], Result, Ok, Err, OnOk, IfOk, IfErr, refl, sym, subst, inl, inr, arith}
+use Rattle.std.proofs.Common.{◌≡◌, ◌<◌, ℕ, zero, suc, List, Result, Ok, Err, OnOk, IfOk, IfErr, refl, sym, subst, inl, inr, arith}
 use Rattle.edit_record.specs.Lists.Journal.{JournalEntry}
 use Rattle.tf_rules.specs.declared.rule_set.RuleSet.{RuleSet}
 use Rattle.tf_stream.specs.Streams.{Source, Target, WritesBytes, Untouched}
@@ -7,16 +7,17 @@ use Rattle.tf_session.specs.declared.command.Command.TheVariants.{Fix}
 use Rattle.tf_session.specs.declared.command.Done.{Done}
 use Rattle.tf_session.specs.declared.fault.RunFault.{RunFault}
 use Rattle.tf_session.specs.Records.{DoesStep}
+use Rattle.tf_session.specs.Session.{SessionContents, with_records, without_records}
 use Rattle.tf_session.specs.Streams.{ReadsText}
 use Rattle.tf_cli.specs.declared.outcome.FileOutcome.{FileOutcome}
 use Rattle.tf_program.specs.Inputs.{IsOutcomeOf, FixesText, NotFixed, WriteBothFault, Fixes, FixInputFault}
 
-pub no_lines : (rules : RuleSet) (t : List ℕ) (js : List JournalEntry) (d : Done) (u : List ℕ)
-    (ks : List JournalEntry) → DoesStep (Fix rules) t js d u ks → NotFixed rules t js RunFault.Memory
-no_lines rules t js d u ks does = inr (refl, d, u, ks, does)
+pub no_lines : (rules : RuleSet) (old : SessionContents) (d : Done) (new : SessionContents) → DoesStep (Fix rules) old d new
+    → NotFixed rules old RunFault.Memory
+no_lines rules old d new does = inr (refl, d, new, does)
 
 pub not_fixed : (name : List ℕ) (rules : RuleSet) (fault : RunFault) (source : Source)
-    (target left_out : Target) (text : List ℕ) → ReadsText source text → NotFixed rules text [] fault
+    (target left_out : Target) (text : List ℕ) → ReadsText source text → NotFixed rules (without_records text) fault
     → Untouched target → Untouched left_out → FixInputFault name rules fault source target left_out
 not_fixed name rules fault source target left_out text taken why still quiet =
     inr (inl (text, taken, why, still, quiet))
@@ -24,7 +25,7 @@ not_fixed name rules fault source target left_out text taken why still quiet =
 -- a fix made this of the text
 abbrev FixesAlone : List ℕ → RuleSet → List ℕ → Done → List ℕ → List ℕ → Type 0
 FixesAlone name rules text d left new =
-    (records : List JournalEntry) × FixesText name rules text [] d left new records
+    (records : List JournalEntry) × FixesText name rules (without_records text) d left (with_records new records)
 
 pub fixes : (name : List ℕ) (rules : RuleSet) (source : Source) (target left_out : Target)
     (text : List ℕ) (d : Done) (left new out : List ℕ) (r : Result FileOutcome RunFault)
@@ -36,8 +37,7 @@ fixes name rules source target left_out text d left new out (Ok file_outcome) ta
   taken,
   d,
   left,
-  new,
-  made.0,
+  with_records new made.0,
   made.1,
   subst (λ (s : List ℕ). WritesBytes target s) is put,
   told,
@@ -57,8 +57,7 @@ not_write name rules source target left_out text d left new out (Err fault) take
       taken,
       d,
       left,
-      new,
-      made.0,
+      with_records new made.0,
       made.1,
       subst (λ (s : List ℕ). WriteBothFault fault target s left_out left) is not,
     ))

@@ -1,11 +1,10 @@
 -- What the work on one input reads, what it writes, and its outcome.
-use Rattle.std.specs.Prelude.{◌≡◌, ◌<◌, ◌⊎◌, ℕ, true, false, List, []}
-use Rattle.edit_record.specs.Lists.Journal.{JournalEntry}
+use Rattle.std.specs.Prelude.{◌≡◌, ◌<◌, ◌⊎◌, ℕ, true, false, List}
 use Rattle.tf_rules.specs.declared.rule_set.RuleSet.{RuleSet}
 use Rattle.tf_lint.specs.Reports.{Report, report_lines}
 use Rattle.tf_lint.specs.Steps.{IsReport}
 use Rattle.tf_stream.specs.Streams.{Source, Target, WritesBytes, Untouched}
-use Rattle.tf_session.specs.declared.command.Command.TheVariants.{Fmt, Fix}
+use Rattle.tf_session.specs.declared.command.Command.TheVariants.{Fix}
 use Rattle.tf_session.specs.declared.command.Done.{Done}
 use Rattle.tf_session.specs.declared.command.Fault.{Fault}
 use Rattle.tf_session.specs.declared.fault.RunFault.{RunFault}
@@ -13,6 +12,7 @@ use Rattle.tf_session.specs.declared.fault.SessionPart.{SessionPart}
 use Rattle.tf_session.specs.Faults.{run_fault_of}
 use Rattle.tf_session.specs.LintStream as lines
 use Rattle.tf_session.specs.Records.{DoesStep, RefusesStep}
+use Rattle.tf_session.specs.Session.{SessionContents, without_records}
 use Rattle.tf_session.specs.Streaming as streaming
 use Rattle.tf_session.specs.Streams.{ReadsText, IsReadStreamFault, IsWriteFault}
 use Rattle.tf_cli.specs.declared.outcome.FileOutcome.{FileOutcome}
@@ -28,8 +28,7 @@ IsOutcomeOf FileOutcome.NotFormatted count = ⊥
 -- The reader returned the whole text; the writer received the text that a fmt makes of it.
 abbrev pub Formats : FileOutcome → Source → Target → Type 0
 Formats file_outcome source target =
-    (file_outcome ≡ FileOutcome.Nothing) × (d : Done) × (new : List ℕ) × (records : List JournalEntry)
-    × streaming.StepsStream Fmt d new records source target
+    (file_outcome ≡ FileOutcome.Nothing) × streaming.FormatsStream source target
 
 -- The reader returned a whole text that a fmt does not refuse; the outcome says whether it is
 -- formatted.
@@ -45,20 +44,20 @@ Lints name rules file_outcome source target =
 
 -- ---- fix
 
--- The fix of text t with records js makes text u and records ks; `left` is the lines of what the
--- rules report of u, in a file of this name.
-abbrev pub FixesText : List ℕ → RuleSet → List ℕ → List JournalEntry → Done → List ℕ → List ℕ
-    → List JournalEntry → Type 0
-FixesText name rules t js d left u ks =
-    DoesStep (Fix rules) t js d u ks
-    × (reported : List Report) × IsReport rules u reported × (left ≡ report_lines name reported)
+-- The fix of the old text and records makes the new ones; `left` is the lines of what the rules
+-- report of the new text, in a file of this name.
+abbrev pub FixesText : List ℕ → RuleSet → SessionContents → Done → List ℕ → SessionContents → Type 0
+FixesText name rules old d left new =
+    DoesStep (Fix rules) old d new
+    × (reported : List Report) × IsReport rules new.text reported
+    × (left ≡ report_lines name reported)
 
 -- The fix refuses text and records; or it succeeds, and memory runs out for those lines.
-abbrev pub NotFixed : RuleSet → List ℕ → List JournalEntry → RunFault → Type 0
-NotFixed rules t js fault =
-    ((refusal : Fault) × (fault ≡ run_fault_of refusal) × RefusesStep (Fix rules) t js refusal)
+abbrev pub NotFixed : RuleSet → SessionContents → RunFault → Type 0
+NotFixed rules old fault =
+    ((refusal : Fault) × (fault ≡ run_fault_of refusal) × RefusesStep (Fix rules) old refusal)
     ⊎ ((fault ≡ RunFault.Memory)
-    × (d : Done) × (u : List ℕ) × (ks : List JournalEntry) × DoesStep (Fix rules) t js d u ks)
+    × (d : Done) × (new : SessionContents) × DoesStep (Fix rules) old d new)
 
 -- The write of the text failed, and the writer of the lines received nothing; or the text was
 -- written, and the write of the lines failed.
@@ -72,17 +71,17 @@ WriteBothFault fault target text left_out left =
 abbrev pub Fixes : List ℕ → RuleSet → FileOutcome → Source → Target → Target → Type 0
 Fixes name rules file_outcome source target left_out =
     (text : List ℕ) × ReadsText source text
-    × (d : Done) × (left : List ℕ) × (new : List ℕ) × (records : List JournalEntry)
-    × FixesText name rules text [] d left new records
-    × WritesBytes target new × WritesBytes left_out left × IsOutcomeOf file_outcome d.left
+    × (d : Done) × (left : List ℕ) × (new : SessionContents)
+    × FixesText name rules (without_records text) d left new
+    × WritesBytes target new.text × WritesBytes left_out left × IsOutcomeOf file_outcome d.left
 
 -- The text was not read whole, or not fixed, and nothing was written; or a write failed.
 abbrev pub FixInputFault : List ℕ → RuleSet → RunFault → Source → Target → Target → Type 0
 FixInputFault name rules fault source target left_out =
     (IsReadStreamFault fault source × Untouched target × Untouched left_out)
-    ⊎ ((text : List ℕ) × ReadsText source text × NotFixed rules text [] fault
+    ⊎ ((text : List ℕ) × ReadsText source text × NotFixed rules (without_records text) fault
     × Untouched target × Untouched left_out)
     ⊎ ((text : List ℕ) × ReadsText source text
-    × (d : Done) × (left : List ℕ) × (new : List ℕ) × (records : List JournalEntry)
-    × FixesText name rules text [] d left new records
-    × WriteBothFault fault target new left_out left)
+    × (d : Done) × (left : List ℕ) × (new : SessionContents)
+    × FixesText name rules (without_records text) d left new
+    × WriteBothFault fault target new.text left_out left)

@@ -24,6 +24,7 @@ use Rattle.tf_session.specs.RemovingRecord.{RemovesRecord, FailsAfter, UndoFails
 use Rattle.tf_session.specs.RemovingRecord.RefusesTake.{no_record, blocked, too_long, lengths_differ, not_undone, memory}
 use Rattle.tf_session.specs.Layers.{Layer, History, last_text, top_text, record_of, records_in, LayersAreConsistent, IsHistory, PushesLayer, HistoryStep, HistoryStepOrMemory, HistoryRun}
 use Rattle.tf_session.specs.Records.{HasWord, AddsRecordOf, RevertsLast, DoesStep, RefusesRevert, RefusesStep}
+use Rattle.tf_session.specs.Session.{with_records}
 use Rattle.tf_session.proofs.JournalOne.{TransformLengths}
 use Rattle.tf_session.proofs.Lists.{not_nil}
 use Rattle.tf_session.proofs.Runs.{run_more}
@@ -149,7 +150,7 @@ no_layers : (ls : List Layer) → records_in ls ≡ [] → ls ≡ []
 no_layers [] e = refl
 no_layers (l ∷ ls) e = absurd cc
 
-removed_last : (p : History) (d : Done) (u : List ℕ) (ks : List JournalEntry) → RevertsLast (top_text p) (records_in p.layers) d u ks → IsHistory p → Acted Revert p d u ks
+removed_last : (p : History) (d : Done) (u : List ℕ) (ks : List JournalEntry) → RevertsLast (with_records (top_text p) (records_in p.layers)) d (with_records u ks) → IsHistory p → Acted Revert p d u ks
 removed_last p d u ks h st =
     let l = layered p.layers ks h.0 [] h.1 in
     let all : p.layers ≡ l.low ++ l.here ∷ [] = l.all ∙ ap (λ (x : List Layer). l.low ++ l.here ∷ x) (no_layers l.high l.records_after_are) in
@@ -193,7 +194,7 @@ about p before it following e st =
       higher = subst (λ (x : List ℕ). TransformsInOrder Transforms (edits_of following) l.here.text x) (sym top) (subst (λ (x : List JournalEntry). TransformsInOrder Transforms (edits_of x) l.here.text (last_text l.here.text l.high)) l.records_after_are rest);
     }
 
-removed_one : MoveToEndIsUnique → (n : ℕ) (p : History) (d : Done) (u : List ℕ) (ks : List JournalEntry) → RemovesRecord n (top_text p) (records_in p.layers) d u ks → IsHistory p → Acted (Take n) p d u ks
+removed_one : MoveToEndIsUnique → (n : ℕ) (p : History) (d : Done) (u : List ℕ) (ks : List JournalEntry) → RemovesRecord n (with_records (top_text p) (records_in p.layers)) d (with_records u ks) → IsHistory p → Acted (Take n) p d u ks
 removed_one takes_one n p d u ks h st =
     let a = about p h.nth.before h.nth.item h.nth.after h.nth.all st in
     let l = a.layer in
@@ -225,7 +226,7 @@ removed_one takes_one n p d u ks h st =
       rise_on p.first l.low others a.low rise,
     )
 
-pub acted : MoveToEndIsUnique → (command : Command) (p : History) (d : Done) (u : List ℕ) (ks : List JournalEntry) → DoesStep command (top_text p) (records_in p.layers) d u ks → IsHistory p → Acted command p d u ks
+pub acted : MoveToEndIsUnique → (command : Command) (p : History) (d : Done) (u : List ℕ) (ks : List JournalEntry) → DoesStep command (with_records (top_text p) (records_in p.layers)) d (with_records u ks) → IsHistory p → Acted command p d u ks
 acted takes_one Fmt p d u ks h st =
     let made = h.0 in
     let g = push_on_layer (texts_differ (top_text p) made.text) Fmt Word.Fmt made p d u ks (λ w e. e) refl h.2.0 h.2.1 h.2.2 st in
@@ -245,7 +246,7 @@ undoes_last p before r e st =
     let a = about p before r [] e st in
     (last_text p.first a.layer.low, subst (λ (x : List ℕ). Transforms r.edits (last_text p.first a.layer.low) x) a.higher a.transforms)
 
-refused_last : ChangeResultIsUnique → (p : History) (e : Fault) → RefusesRevert (top_text p) (records_in p.layers) e → IsHistory p → HistoryStepOrMemory Revert p (Err e) p
+refused_last : ChangeResultIsUnique → (p : History) (e : Fault) → RefusesRevert (with_records (top_text p) (records_in p.layers)) e → IsHistory p → HistoryStepOrMemory Revert p (Err e) p
 refused_last unique p NoRecord h st = (refl, no_layers p.layers h, refl)
 refused_last unique p (Fault.Refused refused) h st =
     let back = undoes_last p h.1.0 h.0 h.1.1 st in
@@ -258,13 +259,13 @@ never_breaks takes_one lengths n p k expected found s st =
     let a = about p s.nth.before s.nth.item s.nth.after s.nth.all st in
     follows takes_one lengths s.nth.item.edits (edits_of s.nth.after) k expected found (last_text p.first a.layer.low) a.layer.here.text (top_text p) a.transforms a.higher s.fails
 
-always_undone : ChangeResultIsUnique → MoveToEndIsUnique → (n : ℕ) (p : History) (r : Refused) → UndoFails n (top_text p) (records_in p.layers) r → IsHistory p → ⊥
+always_undone : ChangeResultIsUnique → MoveToEndIsUnique → (n : ℕ) (p : History) (r : Refused) → UndoFails n (with_records (top_text p) (records_in p.layers)) r → IsHistory p → ⊥
 always_undone unique takes_one n p r h st =
     let a = about p h.nth.before h.nth.item h.nth.after h.nth.all st in
     let w = ((takes_one h.nth.item.edits (edits_of h.nth.after)).equivalent h.new_lists h.moved_edits h.is_moved (last_text p.first a.layer.low) (top_text p)).0 (a.layer.here.text, a.transforms, a.higher) in
     undone_or_refused unique h.moved_edits (top_text p) w.0 r h.refuses w.2
 
-refused_one : ChangeResultIsUnique → MoveToEndIsUnique → TransformLengths → (n : ℕ) (p : History) {e : Fault} → RefusesTake n (top_text p) (records_in p.layers) e → IsHistory p → HistoryStepOrMemory (Take n) p (Err e) p
+refused_one : ChangeResultIsUnique → MoveToEndIsUnique → TransformLengths → (n : ℕ) (p : History) {e : Fault} → RefusesTake n (with_records (top_text p) (records_in p.layers)) e → IsHistory p → HistoryStepOrMemory (Take n) p (Err e) p
 refused_one unique takes_one lengths n p (no_record none) st = (none, refl)
 refused_one unique takes_one lengths n p (blocked {k} s) st = ((k, s, refl), refl)
 refused_one unique takes_one lengths n p (too_long {k} s) st = ((k, s), refl)
@@ -277,7 +278,7 @@ refused_text : (command : Command) (p : History) (e : Fault) → (Rewrites comma
 refused_text command p Memory f h = (h, refl)
 refused_text command p _ f h = f h
 
-pub stays : ChangeResultIsUnique → MoveToEndIsUnique → TransformLengths → (command : Command) (p : History) (e : Fault) → RefusesStep command (top_text p) (records_in p.layers) e → IsHistory p → HistoryStepOrMemory command p (Err e) p
+pub stays : ChangeResultIsUnique → MoveToEndIsUnique → TransformLengths → (command : Command) (p : History) (e : Fault) → RefusesStep command (with_records (top_text p) (records_in p.layers)) e → IsHistory p → HistoryStepOrMemory command p (Err e) p
 stays unique takes_one lengths Fmt p e h st = refused_text Fmt p e (λ m. (Err e, m, (refl, refl))) h
 stays unique takes_one lengths (Fix rules) p e h st = refused_text (Fix rules) p e (λ m. (Err e, m, (refl, refl))) h
 stays unique takes_one lengths Revert p e h st = refused_last unique p e h st
@@ -287,12 +288,12 @@ stays unique takes_one lengths (Take n) p e h st = refused_one unique takes_one 
 -- command further.
 pub moved : ChangeResultIsUnique → MoveToEndIsUnique → TransformLengths → (first mid : History) (cs : List Command) (rs : List (Result Done Fault)) (command : Command) (reply : Result Done Fault) (t : List ℕ) (js : List JournalEntry) (u : List ℕ) (ks : List JournalEntry)
     → HistoryRun first cs rs mid → t ≡ top_text mid → js ≡ records_in mid.layers → IsHistory mid
-    → IfOk reply (λ d. DoesStep command t js d u ks) → IfErr reply (RefusesStep command t js) → OnErr reply (u ≡ t) → OnErr reply (ks ≡ js)
+    → IfOk reply (λ d. DoesStep command (with_records t js) d (with_records u ks)) → IfErr reply (RefusesStep command (with_records t js)) → OnErr reply (u ≡ t) → OnErr reply (ks ≡ js)
     → (n : History) × HistoryRun first (cs ++ command ∷ []) (rs ++ reply ∷ []) n × (u ≡ top_text n) × (ks ≡ records_in n.layers) × IsHistory n
 moved unique takes_one lengths first mid cs rs command (Ok d) t js u ks run top recs st does _ _ _ =
-    let does2 = subst (λ (x : List JournalEntry). DoesStep command (top_text mid) x d u ks) recs (subst (λ (x : List ℕ). DoesStep command x js d u ks) top does) in
+    let does2 = subst (λ (x : List JournalEntry). DoesStep command (with_records (top_text mid) x) d (with_records u ks)) recs (subst (λ (x : List ℕ). DoesStep command (with_records x js) d (with_records u ks)) top does) in
     let h = acted takes_one command mid d u ks does2 st in
     (h.0, run_more HistoryStepOrMemory first mid h.0 cs rs command (Ok d) run h.1, h.2, h.3, h.4)
 moved unique takes_one lengths first mid cs rs command (Err e) t js u ks run top recs st _ why ut kj =
-    let why2 = subst (λ (x : List JournalEntry). RefusesStep command (top_text mid) x e) recs (subst (λ (x : List ℕ). RefusesStep command x js e) top why) in
+    let why2 = subst (λ (x : List JournalEntry). RefusesStep command (with_records (top_text mid) x) e) recs (subst (λ (x : List ℕ). RefusesStep command (with_records x js) e) top why) in
     (mid, run_more HistoryStepOrMemory first mid mid cs rs command (Err e) run (stays unique takes_one lengths command mid e why2 st), ut ∙ top, kj ∙ recs, st)

@@ -20,6 +20,7 @@ use Rattle.tf_session.specs.Layers.{History, initial_history, top_text, records_
 use Rattle.tf_session.specs.Machine.{initial_stack, StackStep, StackMayAllocate, IsNotTake}
 use Rattle.tf_session.specs.Records.{DoesStep, RefusesStep}
 use Rattle.tf_session.specs.Runs.{StepOrMemory}
+use Rattle.tf_session.specs.Session.{SessionContents, with_records}
 use Rattle.tf_session.proofs.Histories.{acted, stays}
 use Rattle.tf_session.proofs.JournalOne.{TransformLengths}
 use Rattle.tf_session.proofs.Stacks.{did, refused}
@@ -29,10 +30,10 @@ abbrev pub Unambiguous : Type 0
 Unambiguous = (text : List ℕ) (rs ss : List JournalEntry) → IsJournalText text rs → IsJournalText text ss → rs ≡ ss
 
 -- what is saved, or else the file as it was, has the new text and records
-after : (old : FileContents) (saved : Option SavedTexts) (js : List JournalEntry) (u : List ℕ) (ks : List JournalEntry) → IsJournalText old.journal js → AreSaved old.text js u ks saved
-    → ((contents_after old saved).text ≡ u) × IsJournalText (contents_after old saved).journal ks
-after old None js u ks is same = (sym same.0, subst (IsJournalText old.journal) (sym same.1) is)
-after old (Some saved) js u ks is are = (are.1, inl are.2.0)
+after : (old : FileContents) (saved : Option SavedTexts) (js : List JournalEntry) (new : SessionContents) → IsJournalText old.journal js → AreSaved (with_records old.text js) new saved
+    → ((contents_after old saved).text ≡ new.text) × IsJournalText (contents_after old saved).journal new.records
+after old None js new is same = (sym same.0, subst (IsJournalText old.journal) (sym same.1) is)
+after old (Some saved) js new is are = (are.1, inl are.2.0)
 
 -- a text of a journal is decoded, unless memory runs out
 decoded : (text : List ℕ) (js : List JournalEntry) (reading : RecordFault) → IsJournalText text js → IsDecodeResult text (Err reading) → is_limit_result (Err (run_fault_of_record reading)) ≡ true
@@ -77,21 +78,21 @@ module _ {State : Type 0} (MayAllocate : Command → State → Type 0) (Step : C
       × (mid : State) × Step command s reply mid × Represents new mid)
 
   abbrev Does : Command → Type 0
-  Does command = (s : State) (js : List JournalEntry) (d : Done) (u : List ℕ) (ks : List JournalEntry) → DoesStep command (top s) js d u ks → HasRecords s js
+  Does command = (s : State) (js : List JournalEntry) (d : Done) (u : List ℕ) (ks : List JournalEntry) → DoesStep command (with_records (top s) js) d (with_records u ks) → HasRecords s js
       → (n : State) × Step command s (Ok d) n × (u ≡ top n) × HasRecords n ks
 
   abbrev Refuses : Command → Type 0
-  Refuses command = (s : State) (js : List JournalEntry) (fault : Fault) → RefusesStep command (top s) js fault → HasRecords s js → StepOrMemory MayAllocate Step command s (Err fault) s
+  Refuses command = (s : State) (js : List JournalEntry) (fault : Fault) → RefusesStep command (with_records (top s) js) fault → HasRecords s js → StepOrMemory MayAllocate Step command s (Err fault) s
 
   done : (command : Command) → Does command → (s : State) (old new : FileContents) (d : Done) → Represents old s → Invokes command old (Ok d) new → StepsOrStops command s (Ok d) old new
   done command does s old new d rep (name, effect, has, is_done, is_new) =
       let same : has.records ≡ rep.records = one old.journal has.records rep.records has.is_journal rep.journal in
-      let here : DoesStep command (top s) rep.records d has.new_text has.new_records =
-      subst (λ (x : Done). DoesStep command (top s) rep.records x has.new_text has.new_records) (sym is_done)
-      (subst (λ (t : List ℕ). DoesStep command t rep.records effect.done has.new_text has.new_records) rep.text
-      (subst (λ (js : List JournalEntry). DoesStep command old.text js effect.done has.new_text has.new_records) same has.does)) in
-      let step = does s rep.records d has.new_text has.new_records here rep.records_are in
-      let saved = after old effect.saved has.records has.new_text has.new_records has.is_journal has.saved in
+      let here : DoesStep command (with_records (top s) rep.records) d has.new =
+      subst (λ (x : Done). DoesStep command (with_records (top s) rep.records) x has.new) (sym is_done)
+      (subst (λ (t : List ℕ). DoesStep command (with_records t rep.records) effect.done has.new) rep.text
+      (subst (λ (js : List JournalEntry). DoesStep command (with_records old.text js) effect.done has.new) same has.does)) in
+      let step = does s rep.records d has.new.text has.new.records here rep.records_are in
+      let saved = after old effect.saved has.records has.new has.is_journal has.saved in
       inr (
         Ok d,
         refl,
@@ -100,7 +101,7 @@ module _ {State : Type 0} (MayAllocate : Command → State → Type 0) (Step : C
         step.1,
         subst (λ (file : FileContents). Represents file step.0) (sym is_new) (record {
           text = saved.0 ∙ step.2;
-          records = has.new_records;
+          records = has.new.records;
           journal = saved.1;
           records_are = step.3;
         }),
@@ -117,12 +118,12 @@ module _ {State : Type 0} (MayAllocate : Command → State → Type 0) (Step : C
   refusal command s old new Fault.Memory same rep step = inl (refl, same)
   refusal command s old new (Fault.Blocked number) same rep step = inr (Err (Fault.Blocked number), refl, refl, s, step, subst (λ (file : FileContents). Represents file s) (sym same) rep)
 
-  refused_step : (command : Command) → Refuses command → (s : State) (old new : FileContents) (js : List JournalEntry) (fault : Fault) → new ≡ old → Represents old s → IsJournalText old.journal js → RefusesStep command old.text js fault → StepsOrStops command s (Err (run_fault_of fault)) old new
+  refused_step : (command : Command) → Refuses command → (s : State) (old new : FileContents) (js : List JournalEntry) (fault : Fault) → new ≡ old → Represents old s → IsJournalText old.journal js → RefusesStep command (with_records old.text js) fault → StepsOrStops command s (Err (run_fault_of fault)) old new
   refused_step command refuses s old new js fault same rep is why =
       let records : js ≡ rep.records = one old.journal js rep.records is rep.journal in
-      let here : RefusesStep command (top s) rep.records fault =
-      subst (λ (t : List ℕ). RefusesStep command t rep.records fault) rep.text
-      (subst (λ (x : List JournalEntry). RefusesStep command old.text x fault) records why) in
+      let here : RefusesStep command (with_records (top s) rep.records) fault =
+      subst (λ (t : List ℕ). RefusesStep command (with_records t rep.records) fault) rep.text
+      (subst (λ (x : List JournalEntry). RefusesStep command (with_records old.text x) fault) records why) in
       refusal command s old new fault same rep (refuses s rep.records fault here rep.records_are)
 
   stopped : (command : Command) → Refuses command → (s : State) (old new : FileContents) (fault : RunFault) → Represents old s → HasNoEffect command old.text old.journal fault → new ≡ old → StepsOrStops command s (Err fault) old new
@@ -130,9 +131,9 @@ module _ {State : Type 0} (MayAllocate : Command → State → Type 0) (Step : C
       inl (ap (λ (f : RunFault). is_limit_result (Err f)) is ∙ decoded old.journal rep.records reading rep.journal why, same)
   stopped command refuses s old new fault rep (inr (inl (js, is, inl (refusing, is_fault, why)))) same =
       subst (λ (f : RunFault). StepsOrStops command s (Err f) old new) (sym is_fault) (refused_step command refuses s old new js refusing same rep is why)
-  stopped command refuses s old new fault rep (inr (inl (js, is, inr (memory, _, _, _, _, _)))) same =
+  stopped command refuses s old new fault rep (inr (inl (js, is, inr (memory, _, _, _, _)))) same =
       inl (ap (λ (f : RunFault). is_limit_result (Err f)) memory, same)
-  stopped command refuses s old new fault rep (inr (inr (js, is, (d, u, ks, does, _, why)))) same = inl (unsaved ks fault why, same)
+  stopped command refuses s old new fault rep (inr (inr (js, is, (d, new_contents, does, _, why)))) same = inl (unsaved new_contents.records fault why, same)
 
   invoked : (command : Command) → Does command → Refuses command → (s : State) (old new : FileContents) (result : Result Done RunFault) → Represents old s → Invokes command old result new → StepsOrStops command s result old new
   invoked command does refuses s old new (Ok d) rep h = done command does s old new d rep h
@@ -220,16 +221,16 @@ all_are_any : (commands : List Command) → AllByRecursion IsAny commands
 all_are_any [] = tt
 all_are_any (command ∷ commands) = (tt, all_are_any commands)
 
-layer_did : MoveToEndIsUnique → (command : Command) (s : History) (js : List JournalEntry) (d : Done) (u : List ℕ) (ks : List JournalEntry) → DoesStep command (top_text s) js d u ks → HasHistoryRecords s js
+layer_did : MoveToEndIsUnique → (command : Command) (s : History) (js : List JournalEntry) (d : Done) (u : List ℕ) (ks : List JournalEntry) → DoesStep command (with_records (top_text s) js) d (with_records u ks) → HasHistoryRecords s js
     → (n : History) × HistoryStep command s (Ok d) n × (u ≡ top_text n) × HasHistoryRecords n ks
 layer_did takes_one command s js d u ks does st =
-    let here : DoesStep command (top_text s) (records_in s.layers) d u ks = subst (λ (x : List JournalEntry). DoesStep command (top_text s) x d u ks) st.0 does in
+    let here : DoesStep command (with_records (top_text s) (records_in s.layers)) d (with_records u ks) = subst (λ (x : List JournalEntry). DoesStep command (with_records (top_text s) x) d (with_records u ks)) st.0 does in
     let h = acted takes_one command s d u ks here st.1 in
     (h.0, h.1, h.2, (h.3, h.4))
 
-layer_refused : ChangeResultIsUnique → MoveToEndIsUnique → TransformLengths → (command : Command) (s : History) (js : List JournalEntry) (fault : Fault) → RefusesStep command (top_text s) js fault → HasHistoryRecords s js → HistoryStepOrMemory command s (Err fault) s
+layer_refused : ChangeResultIsUnique → MoveToEndIsUnique → TransformLengths → (command : Command) (s : History) (js : List JournalEntry) (fault : Fault) → RefusesStep command (with_records (top_text s) js) fault → HasHistoryRecords s js → HistoryStepOrMemory command s (Err fault) s
 layer_refused unique takes_one lengths command s js fault why st =
-    let here : RefusesStep command (top_text s) (records_in s.layers) fault = subst (λ (x : List JournalEntry). RefusesStep command (top_text s) x fault) st.0 why in
+    let here : RefusesStep command (with_records (top_text s) (records_in s.layers)) fault = subst (λ (x : List JournalEntry). RefusesStep command (with_records (top_text s) x) fault) st.0 why in
     stays unique takes_one lengths command s fault here st.1
 
 pub are_history_run : Unambiguous → ChangeResultIsUnique → MoveToEndIsUnique → TransformLengths → InvocationsAreHistoryRun

@@ -1,19 +1,19 @@
 -- Why a stream is refused, from why one of its calls is.
-use Rattle.std.proofs.Common.{ℕ, List, refl, inl, inr}
-use Rattle.edit_record.specs.Lists.Journal.{JournalEntry}
+use Rattle.std.proofs.Common.{refl, inl, inr}
 use Rattle.tf_stream.specs.Streams.{Source, Target, Untouched}
 use Rattle.tf_session.specs.declared.command.Command.{Command}
 use Rattle.tf_session.specs.declared.command.Fault.{Fault}
 use Rattle.tf_session.specs.declared.fault.RunFault.{RunFault}
 use Rattle.tf_session.specs.Faults.{run_fault_of}
 use Rattle.tf_session.specs.Records.{RefusesStep}
+use Rattle.tf_session.specs.Session.{SessionContents}
 use Rattle.tf_session.specs.Journals.{Loads, LoadFault, JournaledStreamFault}
 
 pub not_loaded : (command : Command) (fault : RunFault) (text_in journal_in : Source) (journal_out text_out : Target)
     → LoadFault fault text_in journal_in → Untouched journal_out → Untouched text_out → JournaledStreamFault command fault text_in journal_in journal_out text_out
 not_loaded command fault text_in journal_in journal_out text_out n u v = inl (n, u, v)
 
-pub not_done : (command : Command) (refusal : Fault) (text_in journal_in : Source) (journal_out text_out : Target) (text : List ℕ) (records : List JournalEntry)
-    → Loads text records text_in journal_in → RefusesStep command text records refusal → Untouched journal_out → Untouched text_out
+pub not_done : (command : Command) (refusal : Fault) (text_in journal_in : Source) (journal_out text_out : Target) (contents : SessionContents)
+    → Loads contents text_in journal_in → RefusesStep command contents refusal → Untouched journal_out → Untouched text_out
     → JournaledStreamFault command (run_fault_of refusal) text_in journal_in journal_out text_out
-not_done command refusal text_in journal_in journal_out text_out text records l r u v = inr (inl ((text, records, l, refusal, refl, r), u, v))
+not_done command refusal text_in journal_in journal_out text_out contents l r u v = inr (inl ((contents, l, refusal, refl, r), u, v))

@@ -23,6 +23,7 @@ use Rattle.tf_lint.specs.declared.steps.FixedText.{FixedText}
 use Rattle.tf_session.specs.Rewrites.{Rewrites}
 use Rattle.tf_session.specs.Machine.{done}
 use Rattle.tf_session.specs.Records.{HasWord, AddsRecord, AddsRecordOf, ReplacesText, DoesStep, StepsTo}
+use Rattle.tf_session.specs.Session.{with_records, without_records}
 
 -- the edits of a text that differs lead to it
 leads : (t : List ℕ) (change : Option NewText) → texts_differ t (changed_text t change) ≡ true → IfSome change (λ c. Transforms c.edits t c.text.items)
@@ -57,7 +58,7 @@ adds command word has false t js ks change fixed left e makes turns h = h
 
 -- the command pushes what it made
 abbrev PutsMade : Command → List ℕ → List JournalEntry → Done → List ℕ → List JournalEntry → Type 0
-PutsMade command t js d u ks = (made : Rewrite) × Rewrites command t (Ok made) × ReplacesText command made t js d u ks
+PutsMade command t js d u ks = (made : Rewrite) × Rewrites command t (Ok made) × ReplacesText command made (with_records t js) d (with_records u ks)
 
 push_here : (command : Command) (word : Word) → HasWord command word → (t : List ℕ) (js : List JournalEntry) (change : Option NewText) (fixed left : ℕ) (reply : Result Done Fault) (u : List ℕ) (ks : List JournalEntry)
     → MakesOf command t change fixed left → Leads t change
@@ -80,13 +81,13 @@ push_lent command word has lent t js change fixed left reply u ks same makes tur
 pub push_layout : (lent t : List ℕ) (js : List JournalEntry) (change : Option NewText) (fixed left : ℕ) (reply : Result Done Fault) (u : List ℕ) (ks : List JournalEntry) → lent ≡ t
     → MakesOf Fmt lent change fixed left → Leads lent change
     → IfOk reply (λ d. d ≡ done (texts_differ t (changed_text t change)) fixed left) → IfOk reply (λ d. u ≡ changed_text t change)
-    → IfOk reply (λ d. AddsRecord (texts_differ t (changed_text t change)) Word.Fmt (changed_edits t change) js ks) → IfOk reply (λ d. DoesStep Fmt t js d u ks)
+    → IfOk reply (λ d. AddsRecord (texts_differ t (changed_text t change)) Word.Fmt (changed_edits t change) js ks) → IfOk reply (λ d. DoesStep Fmt (with_records t js) d (with_records u ks))
 push_layout lent t js change fixed left reply u ks same makes turns replied put added = push_lent Fmt Word.Fmt refl lent t js change fixed left reply u ks same makes turns replied put added
 
 pub push_fix : (rules : RuleSet) (lent t : List ℕ) (js : List JournalEntry) (change : Option NewText) (fixed left : ℕ) (reply : Result Done Fault) (u : List ℕ) (ks : List JournalEntry) → lent ≡ t
     → MakesOf (Fix rules) lent change fixed left → Leads lent change
     → IfOk reply (λ d. d ≡ done (texts_differ t (changed_text t change)) fixed left) → IfOk reply (λ d. u ≡ changed_text t change)
-    → IfOk reply (λ d. AddsRecord (texts_differ t (changed_text t change)) Word.Fix (changed_edits t change) js ks) → IfOk reply (λ d. DoesStep (Fix rules) t js d u ks)
+    → IfOk reply (λ d. AddsRecord (texts_differ t (changed_text t change)) Word.Fix (changed_edits t change) js ks) → IfOk reply (λ d. DoesStep (Fix rules) (with_records t js) d (with_records u ks))
 push_fix rules lent t js change fixed left reply u ks same makes turns replied put added = push_lent (Fix rules) Word.Fix refl lent t js change fixed left reply u ks same makes turns replied put added
 
 -- ---- a text formatted or fixed, with no record before it
@@ -110,7 +111,7 @@ formats text new p reads layout short turns =
     (done (texts_differ text new) 0 0, record_of Word.Fmt (texts_differ text new) (layout_edits p.scanned), (made, makes, (refl, refl, adds_first Fmt Word.Fmt refl (texts_differ text new) text made makes here)))
 
 pub fix_transforms : (rules : RuleSet) (text : List ℕ) (made : Rewrite) → Rewrites (Fix rules) text (Ok made) → Transforms made.edits text made.text
-    → (records : List JournalEntry) × DoesStep (Fix rules) text [] (done (texts_differ text made.text) made.fixed made.left) made.text records
+    → (records : List JournalEntry) × DoesStep (Fix rules) (without_records text) (done (texts_differ text made.text) made.fixed made.left) (with_records made.text records)
 fix_transforms rules text made makes turns =
     (record_of Word.Fix (texts_differ text made.text) made.edits, (made, makes, (refl, refl, adds_first (Fix rules) Word.Fix refl (texts_differ text made.text) text made makes turns)))
 
@@ -119,7 +120,7 @@ same_differ t = rw ((bytes_eq-Decides t t).1 refl) refl
 
 -- the same of a text of which no edits were kept
 pub fixes_text : (rules : RuleSet) (lent text new : List ℕ) (f : FixedText) (changed : Bool) (d : Done) → lent ≡ text → FixesTo rules lent f → new ≡ fixed_text_or text f.text → changed ≡ texts_differ text new
-    → d ≡ done changed f.fixed (remaining_count f.left) → (records : List JournalEntry) × DoesStep (Fix rules) text [] d new records
+    → d ≡ done changed f.fixed (remaining_count f.left) → (records : List JournalEntry) × DoesStep (Fix rules) (without_records text) d (with_records new records)
 fixes_text rules lent text new f changed d same fixes is told answered =
     let (edits, turns, makes) = subst (λ (t : List ℕ). FixesTo rules t f) same fixes in
     rw (answered, told, is) (fix_transforms rules text (rewrite_with edits text f) makes turns)

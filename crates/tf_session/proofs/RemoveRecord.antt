@@ -19,6 +19,7 @@ use Rattle.tf_session.specs.Machine.{done}
 use Rattle.tf_session.specs.NthItem.{Nth}
 use Rattle.tf_session.specs.RemovingRecord.{RemovesRecord, RefusesTake, fault_of_move, counted_records}
 use Rattle.tf_session.specs.RemovingRecord.RefusesTake.{not_undone, lengths_differ, blocked, too_long, memory}
+use Rattle.tf_session.specs.Session.{with_records}
 
 -- what undoing edits answers, by the laws of edits
 abbrev pub Undoes : EditList → Type 0
@@ -56,7 +57,7 @@ module _ (n : ℕ) (rs : List JournalEntry) (r : JournalEntry) (pos : 1 ≤ n) (
   nth_of = record { before = take (n - 1) rs; item = r; after = rest_of n rs; all = all_of; number = number_of }
 
   pub made : (t u : List ℕ) (others : List JournalEntry) (deleted : EditList) → IsMovedToEnd r.edits (edits_of (rest_of n rs)) (edits_of others) deleted → words_of others ≡ words_of (rest_of n rs)
-      → Transforms deleted u t → ((v : List ℕ) → Transforms deleted v t → v ≡ u) → RemovesRecord n t rs (done (texts_differ u t) 0 0) u (take (n - 1) rs ++ others)
+      → Transforms deleted u t → ((v : List ℕ) → Transforms deleted v t → v ≡ u) → RemovesRecord n (with_records t rs) (done (texts_differ u t) 0 0) (with_records u (take (n - 1) rs ++ others))
   made t u others deleted taken words turns initial_stack = record {
     nth = nth_of;
     new_records = others;
@@ -69,12 +70,12 @@ module _ (n : ℕ) (rs : List JournalEntry) (r : JournalEntry) (pos : 1 ≤ n) (
     done_is = refl;
   }
 
-  pub not_back : (t : List ℕ) (others : List EditList) (deleted : EditList) (refused : Refused) → IsMovedToEnd r.edits (edits_of (rest_of n rs)) others deleted → IsChangeCallResult Backward deleted t (Err refused) → RefusesTake n t rs (fault_of_refused refused)
+  pub not_back : (t : List ℕ) (others : List EditList) (deleted : EditList) (refused : Refused) → IsMovedToEnd r.edits (edits_of (rest_of n rs)) others deleted → IsChangeCallResult Backward deleted t (Err refused) → RefusesTake n (with_records t rs) (fault_of_refused refused)
   not_back t others deleted (Refused.Length expected found) taken not = not_undone (record { nth = nth_of; new_lists = others; moved_edits = deleted; is_moved = taken; refuses = not })
   not_back t others deleted (Refused.Differs step edit) taken not = not_undone (record { nth = nth_of; new_lists = others; moved_edits = deleted; is_moved = taken; refuses = not })
   not_back t others deleted Refused.Memory taken len = memory (nth_of, inr (others, deleted, taken, len))
 
-  pub refuses : (t : List ℕ) (e : MoveFault) → IsMoveToEndResult r.edits (rest_of n rs) (Err e) → RefusesTake n t rs (fault_of_move n e)
+  pub refuses : (t : List ℕ) (e : MoveFault) → IsMoveToEndResult r.edits (rest_of n rs) (Err e) → RefusesTake n (with_records t rs) (fault_of_move n e)
   refuses t (Length expected found) h = lengths_differ {k = h.0} (record { nth = nth_of; fails = h.1 })
   refuses t (Blocked k) h = blocked {k = k} (record { nth = nth_of; fails = h })
   refuses t TooLong h = too_long {k = h.0} (record { nth = nth_of; fails = h.1 })

@@ -13,6 +13,7 @@ use Rattle.tf_session.specs.Machine.{done}
 use Rattle.tf_session.specs.Records.{AddsRecordOf, DoesStep, ReplacesText}
 use Rattle.tf_session.specs.Journals.{Saves}
 use Rattle.tf_session.specs.RevertRestores.{ReadsBack, AddsOneRecord, RevertRestores}
+use Rattle.tf_session.specs.Session.{with_records}
 use Rattle.tf_session.proofs.Lists.{same_last}
 
 no_more : (xs : List ℕ) → xs ++ [] ≡ xs
@@ -52,7 +53,7 @@ pub record Put (command : Command) (t : List ℕ) (js : List JournalEntry) (u : 
   pub short : length u ≤ MAX_TEXT
 
 pub put_in : (command : Command) (made : Rewrite) (t : List ℕ) (js : List JournalEntry) (d : Done) (u : List ℕ) (ks : List JournalEntry) → length made.text ≤ MAX_TEXT
-    → ReplacesText command made t js d u ks → d.changed ≡ true → Put command t js u ks
+    → ReplacesText command made (with_records t js) d (with_records u ks) → d.changed ≡ true → Put command t js u ks
 put_in command made t js d u ks short p changed =
     let differs : texts_differ t made.text ≡ true = sym (ap (λ (x : Done). x.changed) p.1) ∙ changed in
     let adds = subst (λ (b : Bool). AddsRecordOf b command t made js ks) differs p.2 in
@@ -66,7 +67,7 @@ put_in command made t js d u ks short p changed =
     }
 
 pub put : (command : Command) (t : List ℕ) (js : List JournalEntry) (d : Done) (u : List ℕ) (ks : List JournalEntry) → AddsOneRecord command
-    → DoesStep command t js d u ks → d.changed ≡ true → Put command t js u ks
+    → DoesStep command (with_records t js) d (with_records u ks) → d.changed ≡ true → Put command t js u ks
 put Fmt t js d u ks other p changed = put_in Fmt p.0 t js d u ks p.1.short p.2 changed
 put (Fix rules) t js d u ks other p changed = put_in (Fix rules) p.0 t js d u ks (subst (λ (x : List ℕ). length x ≤ MAX_TEXT) p.1.new_reads.0 p.1.new_reads.1.short) p.2 changed
 put Revert t js d u ks other p changed = absurd other
@@ -74,22 +75,23 @@ put (Take n) t js d u ks other p changed = absurd other
 
 pub command_is_reverted : ((text : List ℕ) (rs ss : List JournalEntry) → IsJournalText text rs → IsJournalText text ss → rs ≡ ss) → RevertRestores
 command_is_reverted one command d again first second other s changed proceeds t =
-    let (text, records, loads, new, new_records, does, saves) = s in
-    let (text2, records2, loads2, u, us, takes, saves2) = t in
-    let p = put command text records d new new_records other does changed in
-    let same_text : new ≡ text2 = same_bytes _ first.text_out second.text_in new text2 proceeds.text saves.3 loads2.0 in
+    let (old, loads, new, does, saves) = s in
+    let (old2, loads2, new2, takes, saves2) = t in
+    let text = old.text in
+    let text2 = old2.text in
+    let p = put command text old.records d new.text new.records other does changed in
+    let same_text : new.text ≡ text2 = same_bytes _ first.text_out second.text_in new.text text2 proceeds.text saves.3 loads2.0 in
     let same_journal : saves.0 ≡ loads2.1 = same_bytes _ first.journal_out second.journal_in saves.0 loads2.1 proceeds.journal saves.2 loads2.2 in
-    let written : IsJournalText loads2.1 new_records = subst (λ (b : List ℕ). IsJournalText b new_records) same_journal (inl saves.1.0) in
-    let same_records : records2 ≡ new_records = one loads2.1 records2 new_records loads2.3 written in
-    let lasts = same_last us records takes.0 p.r (sym takes.1 ∙ same_records ∙ p.added) in
+    let written : IsJournalText loads2.1 new.records = subst (λ (b : List ℕ). IsJournalText b new.records) same_journal (inl saves.1.0) in
+    let same_records : old2.records ≡ new.records = one loads2.1 old2.records new.records loads2.3 written in
+    let lasts = same_last new2.records old.records takes.0 p.r (sym takes.1 ∙ same_records ∙ p.added) in
     let turns : record_transforms p.r text text2 = subst (λ (x : List ℕ). record_transforms p.r text x) same_text p.transforms in
     let turns2 : record_transforms takes.0 text text2 = subst (λ (r : JournalEntry). record_transforms r text text2) (sym lasts.1) turns in
-    let back : u ≡ text = sym (takes.2.1 text turns2) in
-    let changed2 : texts_differ u text2 ≡ true = ap (λ (x : List ℕ). texts_differ x text2) back ∙ ap (λ (x : List ℕ). texts_differ text x) (sym same_text) ∙ p.differs in
-    let saved : Saves text us second.journal_out second.text_out = subst (λ (x : List ℕ). Saves x us second.journal_out second.text_out) back saves2 in (
-      text,
-      records,
+    let back : new2.text ≡ text = sym (takes.2.1 text turns2) in
+    let changed2 : texts_differ new2.text text2 ≡ true = ap (λ (x : List ℕ). texts_differ x text2) back ∙ ap (λ (x : List ℕ). texts_differ text x) (sym same_text) ∙ p.differs in
+    let saved : Saves (with_records text new2.records) second.journal_out second.text_out = subst (λ (x : List ℕ). Saves (with_records x new2.records) second.journal_out second.text_out) back saves2 in (
+      old,
       loads,
-      subst (λ (rs : List JournalEntry). Saves text rs second.journal_out second.text_out) lasts.0 saved,
+      subst (λ (rs : List JournalEntry). Saves (with_records text rs) second.journal_out second.text_out) lasts.0 saved,
       takes.3 ∙ ap (λ (b : Bool). done b 0 0) changed2,
     )

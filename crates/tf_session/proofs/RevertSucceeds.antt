@@ -22,6 +22,7 @@ use Rattle.tf_session.specs.Records.{RefusesStep}
 use Rattle.tf_session.specs.Streams.{IsWriteFault}
 use Rattle.tf_session.specs.Journals.{MAX_JOURNAL, Loads, JournalTextFault, LoadReadFault, LoadDecodeFault, SaveFault, JournaledStreamFault}
 use Rattle.tf_session.specs.RevertRestores.{ReadsBack, AddsOneRecord, StreamsCommandAt, ReadsWhatWasWritten, Endpoints, is_from_outside, RevertSucceeds}
+use Rattle.tf_session.specs.Session.{SessionContents, with_records}
 use Rattle.tf_session.proofs.Lists.{not_nil, same_last}
 use Rattle.tf_session.proofs.Stacks.{undone_or_refused}
 use Rattle.tf_session.proofs.RevertRestores.{bytes_are_kept, same_bytes, put}
@@ -64,7 +65,7 @@ decoding (BadSteps at) bytes records is d = absurd (d.0 records is)
 -- ---- the last record makes the text
 
 refusing : ChangeResultIsUnique → (refusal : Fault) (text new : List ℕ) (records earlier : List JournalEntry) (r : JournalEntry) → records ≡ earlier ++ r ∷ [] → record_transforms r text new
-    → RefusesStep Revert new records refusal → is_from_outside (run_fault_of refusal) ≡ true
+    → RefusesStep Revert (with_records new records) refusal → is_from_outside (run_fault_of refusal) ≡ true
 refusing unique Fault.NoRecord text new records earlier r is turns p = absurd (not_nil earlier r (sym is ∙ p))
 refusing unique (Fault.Refused refused) text new records earlier r is turns p =
     let lasts = same_last earlier p.1.0 r p.0 (sym is ∙ p.1.1) in
@@ -92,11 +93,11 @@ write_fault part (Scan fault) target bytes p = absurd p
 write_fault part (Write named sent) target bytes p = refl
 write_fault part _ target bytes p = absurd p
 
-saving : (fault : RunFault) (text : List ℕ) (records : List JournalEntry) (journal_out text_out : Target) → length (journal_text records) ≤ MAX_JOURNAL
-    → SaveFault fault text records journal_out text_out → is_from_outside fault ≡ true
-saving fault text records journal_out text_out short (inl p) = no_text fault records short p.0
-saving fault text records journal_out text_out short (inr (inl p)) = write_fault SessionPart.Journal fault journal_out p.0 p.2
-saving fault text records journal_out text_out short (inr (inr p)) = write_fault SessionPart.Text fault text_out text p.3
+saving : (fault : RunFault) (contents : SessionContents) (journal_out text_out : Target) → length (journal_text contents.records) ≤ MAX_JOURNAL
+    → SaveFault fault contents journal_out text_out → is_from_outside fault ≡ true
+saving fault contents journal_out text_out short (inl p) = no_text fault contents.records short p.0
+saving fault contents journal_out text_out short (inr (inl p)) = write_fault SessionPart.Journal fault journal_out p.0 p.2
+saving fault contents journal_out text_out short (inr (inr p)) = write_fault SessionPart.Text fault text_out contents.text p.3
 
 -- ---- a command that changed the text
 
@@ -116,12 +117,12 @@ record Wrote (first : Endpoints) : Type 0 where
 
 wrote : (command : Command) (d : Done) (first : Endpoints) → AddsOneRecord command → StreamsCommandAt command d first → d.changed ≡ true → Wrote first
 wrote command d first other s changed =
-    let (text, records, loads, new, new_records, does, saves) = s in
-    let p = put command text records d new new_records other does changed in
+    let (old, loads, new, does, saves) = s in
+    let p = put command old.text old.records d new.text new.records other does changed in
     record {
-      text = text;
-      new = new;
-      earlier = records;
+      text = old.text;
+      new = new.text;
+      earlier = old.records;
       r = p.r;
       bytes = saves.0;
       short = p.short;
@@ -133,13 +134,13 @@ wrote command d first other s changed =
     }
 
 -- what was loaded is what it wrote
-loaded : TextIsOne → (first second : Endpoints) (w : Wrote first) → ReadsWhatWasWritten first second → (text : List ℕ) (records : List JournalEntry) → Loads text records second.text_in second.journal_in
-    → (text ≡ w.new) × (records ≡ w.earlier ++ w.r ∷ [])
-loaded one first second w proceeds text records loads =
-    let same_text : w.new ≡ text = same_bytes _ first.text_out second.text_in w.new text proceeds.text w.text_put loads.0 in
+loaded : TextIsOne → (first second : Endpoints) (w : Wrote first) → ReadsWhatWasWritten first second → (contents : SessionContents) → Loads contents second.text_in second.journal_in
+    → (contents.text ≡ w.new) × (contents.records ≡ w.earlier ++ w.r ∷ [])
+loaded one first second w proceeds contents loads =
+    let same_text : w.new ≡ contents.text = same_bytes _ first.text_out second.text_in w.new contents.text proceeds.text w.text_put loads.0 in
     let same_journal : w.bytes ≡ loads.1 = same_bytes _ first.journal_out second.journal_in w.bytes loads.1 proceeds.journal w.journal_put loads.2 in
     let written : IsJournalText loads.1 (w.earlier ++ w.r ∷ []) = subst (λ (b : List ℕ). IsJournalText b (w.earlier ++ w.r ∷ [])) same_journal (inl w.is_text) in
-    (sym same_text, one loads.1 records (w.earlier ++ w.r ∷ []) loads.3 written)
+    (sym same_text, one loads.1 contents.records (w.earlier ++ w.r ∷ []) loads.3 written)
 
 not_taken : (fault : ReadFault) (first second : Endpoints) (w : Wrote first) → ReadsWhatWasWritten first second → LoadReadFault fault second.text_in second.journal_in → fault ≡ ReadFault.Endless → ⊥
 not_taken fault first second w proceeds (inl p) e =
@@ -167,15 +168,15 @@ fault_of : ChangeResultIsUnique → TextIsOne → (first second : Endpoints) (w 
     → JournaledStreamFault Revert fault second.text_in second.journal_in second.journal_out second.text_out → is_from_outside fault ≡ true
 fault_of unique one first second w proceeds fault (inl (inl (taken, is, p), u, v)) = outside fault _ is (read_fault taken (not_taken taken first second w proceeds p))
 fault_of unique one first second w proceeds fault (inl (inr (reading, is, p), u, v)) = outside fault _ is (not_decoded reading first second w proceeds p)
-fault_of unique one first second w proceeds fault (inr (inl ((text, records, loads, refusal, is, p), u, v))) =
-    let (same_text, same_records) = loaded one first second w proceeds text records loads in
-    let turns : record_transforms w.r w.text text = subst (λ (x : List ℕ). record_transforms w.r w.text x) (sym same_text) w.transforms in
-    outside fault _ is (refusing unique refusal w.text text records w.earlier w.r same_records turns p)
-fault_of unique one first second w proceeds fault (inr (inr (text, records, loads, d, u, us, takes, p))) =
-    let (same_text, same_records) = loaded one first second w proceeds text records loads in
-    let lasts = same_last us w.earlier takes.0 w.r (sym takes.1 ∙ same_records) in
-    let short : length (journal_text us) ≤ MAX_JOURNAL = subst (λ (rs : List JournalEntry). length (journal_text rs) ≤ MAX_JOURNAL) (sym lasts.0) (kept_short first w) in
-    saving fault u us second.journal_out second.text_out short p
+fault_of unique one first second w proceeds fault (inr (inl ((contents, loads, refusal, is, p), u, v))) =
+    let (same_text, same_records) = loaded one first second w proceeds contents loads in
+    let turns : record_transforms w.r w.text contents.text = subst (λ (x : List ℕ). record_transforms w.r w.text x) (sym same_text) w.transforms in
+    outside fault _ is (refusing unique refusal w.text contents.text contents.records w.earlier w.r same_records turns p)
+fault_of unique one first second w proceeds fault (inr (inr (contents, loads, d, new, takes, p))) =
+    let (same_text, same_records) = loaded one first second w proceeds contents loads in
+    let lasts = same_last new.records w.earlier takes.0 w.r (sym takes.1 ∙ same_records) in
+    let short : length (journal_text new.records) ≤ MAX_JOURNAL = subst (λ (rs : List JournalEntry). length (journal_text rs) ≤ MAX_JOURNAL) (sym lasts.0) (kept_short first w) in
+    saving fault new second.journal_out second.text_out short p
 
 pub command_revert_succeeds : ChangeResultIsUnique → TextIsOne → RevertSucceeds
 command_revert_succeeds unique one command d first second other s changed proceeds fault p =

@@ -17,6 +17,7 @@ use Rattle.tf_session.specs.Rewrites.{Rewrites, is_memory_fault}
 use Rattle.tf_lint.specs.ParseFaults.{IsUtf8WithinLimit}
 use Rattle.tf_session.specs.Machine.{StackEntry, Stack, done, PushesText, StackStep, StackStepOrMemory, StackRun, IsNotTake, WithoutTake}
 use Rattle.tf_session.specs.Records.{IsJournalOfStack, AddsRecordOf, RevertsLast, DoesStep, RefusesRevert, RefusesStep}
+use Rattle.tf_session.specs.Session.{with_records}
 use Rattle.tf_session.proofs.Lists.{not_nil, same_last}
 use Rattle.tf_session.proofs.Runs.{run_more}
 
@@ -52,7 +53,7 @@ push_cases false command made t below js d u ks e um dd a st = (
 abbrev Did : Command → List ℕ → List StackEntry → Done → List ℕ → List JournalEntry → Type 0
 Did command t below d u ks = (n : Stack) × StackStep command (stack t below) (Ok d) n × (u ≡ n.top) × IsJournalOfStack ks n.top n.below
 
-removed : (t : List ℕ) (below : List StackEntry) (js : List JournalEntry) (d : Done) (u : List ℕ) (ks : List JournalEntry) → RevertsLast t js d u ks → IsJournalOfStack js t below → Did Revert t below d u ks
+removed : (t : List ℕ) (below : List StackEntry) (js : List JournalEntry) (d : Done) (u : List ℕ) (ks : List JournalEntry) → RevertsLast (with_records t js) d (with_records u ks) → IsJournalOfStack js t below → Did Revert t below d u ks
 removed t [] js d u ks p st = absurd (not_nil ks p.0 (sym p.1 ∙ st))
 removed t (under ∷ rest) js d u ks p st =
     let earlier = st.0 in
@@ -66,7 +67,7 @@ removed t (under ∷ rest) js d u ks p st =
       subst (λ (x : List JournalEntry). IsJournalOfStack x under.text rest) (sym lasts.0) st.5,
     )
 
-pub did : (command : Command) → IsNotTake command → (t : List ℕ) (below : List StackEntry) (js : List JournalEntry) (d : Done) (u : List ℕ) (ks : List JournalEntry) → DoesStep command t js d u ks → IsJournalOfStack js t below → Did command t below d u ks
+pub did : (command : Command) → IsNotTake command → (t : List ℕ) (below : List StackEntry) (js : List JournalEntry) (d : Done) (u : List ℕ) (ks : List JournalEntry) → DoesStep command (with_records t js) d (with_records u ks) → IsJournalOfStack js t below → Did command t below d u ks
 did Fmt _ t below js d u ks p st =
     let made = p.0 in
     let h = push_cases (texts_differ t made.text) Fmt made t below js d u ks refl p.2.0 p.2.1 p.2.2 st in
@@ -89,7 +90,7 @@ refused_text command s Memory f h = (h, refl)
 refused_text command s _ f h = f h
 
 module _ (unique : ChangeResultIsUnique) where
-  refused_take : (t : List ℕ) (below : List StackEntry) (js : List JournalEntry) (e : Fault) → RefusesRevert t js e → IsJournalOfStack js t below → StackStepOrMemory Revert (stack t below) (Err e) (stack t below)
+  refused_take : (t : List ℕ) (below : List StackEntry) (js : List JournalEntry) (e : Fault) → RefusesRevert (with_records t js) e → IsJournalOfStack js t below → StackStepOrMemory Revert (stack t below) (Err e) (stack t below)
   refused_take t [] js NoRecord p st = (refl, refl)
   refused_take t (under ∷ rest) js NoRecord p st = absurd (not_nil st.0 st.1 (sym st.2 ∙ p))
   refused_take t [] js (Fault.Refused refused) p st = absurd (not_nil p.1.0 p.0 (sym p.1.1 ∙ st))
@@ -101,7 +102,7 @@ module _ (unique : ChangeResultIsUnique) where
   refused_take t (under ∷ rest) js Memory p st = (λ e. cc, refl)
   refused_take t below js _ p st = absurd p
 
-  pub refused : (command : Command) → IsNotTake command → (t : List ℕ) (below : List StackEntry) (js : List JournalEntry) (e : Fault) → RefusesStep command t js e → IsJournalOfStack js t below → StackStepOrMemory command (stack t below) (Err e) (stack t below)
+  pub refused : (command : Command) → IsNotTake command → (t : List ℕ) (below : List StackEntry) (js : List JournalEntry) (e : Fault) → RefusesStep command (with_records t js) e → IsJournalOfStack js t below → StackStepOrMemory command (stack t below) (Err e) (stack t below)
   refused Fmt _ t below js e p st = refused_text Fmt (stack t below) e (λ h. (Err e, h, (refl, refl))) p
   refused (Fix rules) _ t below js e p st = refused_text (Fix rules) (stack t below) e (λ h. (Err e, h, (refl, refl))) p
   refused Revert _ t below js e p st = refused_take t below js e p st
@@ -111,13 +112,13 @@ module _ (unique : ChangeResultIsUnique) where
   -- command further.
   pub stepped : (first mid : Stack) (cs : List Command) (rs : List (Result Done Fault)) (command : Command) (reply : Result Done Fault) (t : List ℕ) (js : List JournalEntry) (u : List ℕ) (ks : List JournalEntry)
       → IsNotTake command → StackRun first cs rs mid → t ≡ mid.top → IsJournalOfStack js mid.top mid.below
-      → IfOk reply (λ d. DoesStep command t js d u ks) → IfErr reply (RefusesStep command t js) → OnErr reply (u ≡ t) → OnErr reply (ks ≡ js)
+      → IfOk reply (λ d. DoesStep command (with_records t js) d (with_records u ks)) → IfErr reply (RefusesStep command (with_records t js)) → OnErr reply (u ≡ t) → OnErr reply (ks ≡ js)
       → (n : Stack) × StackRun first (cs ++ command ∷ []) (rs ++ reply ∷ []) n × (u ≡ n.top) × IsJournalOfStack ks n.top n.below
   stepped first mid cs rs command (Ok d) t js u ks untaken run top st does _ _ _ =
-      let h = did command untaken mid.top mid.below js d u ks (subst (λ (x : List ℕ). DoesStep command x js d u ks) top does) st in
+      let h = did command untaken mid.top mid.below js d u ks (subst (λ (x : List ℕ). DoesStep command (with_records x js) d (with_records u ks)) top does) st in
       (h.0, run_more StackStepOrMemory first mid h.0 cs rs command (Ok d) run h.1, h.2, h.3)
   stepped first mid cs rs command (Err e) t js u ks untaken run top st _ why ut kj =
-      (mid, run_more StackStepOrMemory first mid mid cs rs command (Err e) run (refused command untaken mid.top mid.below js e (subst (λ (x : List ℕ). RefusesStep command x js e) top why) st), ut ∙ top, subst (λ (x : List JournalEntry). IsJournalOfStack x mid.top mid.below) (sym kj) st)
+      (mid, run_more StackStepOrMemory first mid mid cs rs command (Err e) run (refused command untaken mid.top mid.below js e (subst (λ (x : List ℕ). RefusesStep command (with_records x js) e) top why) st), ut ∙ top, subst (λ (x : List JournalEntry). IsJournalOfStack x mid.top mid.below) (sym kj) st)
 
 -- no take among some commands and one more
 pub without_before : (cs : List Command) (c : Command) → WithoutTake (cs ++ c ∷ []) → WithoutTake cs

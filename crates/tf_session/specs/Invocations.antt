@@ -20,39 +20,40 @@ use Rattle.tf_session.specs.Layers.{History, initial_history, top_text, records_
 use Rattle.tf_session.specs.Machine.{Stack, initial_stack, StackStep, WithoutTake}
 use Rattle.tf_session.specs.Records.{DoesStep, RefusesStep, IsJournalOfStack}
 use Rattle.tf_session.specs.Runs.{RunBy}
+use Rattle.tf_session.specs.Session.{SessionContents, with_records}
 
--- ---- one command: the text t and the records js before it, u and ks after it
+-- ---- one command: what a session has before it and after it
 
 -- a command leaves text and records as they were
-abbrev pub IsUnchanged : List ℕ → List JournalEntry → List ℕ → List JournalEntry → Type 0
-IsUnchanged t js u ks = (u ≡ t) × (ks ≡ js)
+abbrev pub IsUnchanged : SessionContents → SessionContents → Type 0
+IsUnchanged old new = (new.text ≡ old.text) × (new.records ≡ old.records)
 
 -- what is to be saved: the new text and the text of the new journal; nothing, if both are as they
 -- were
-abbrev pub AreSaved : List ℕ → List JournalEntry → List ℕ → List JournalEntry → Option SavedTexts → Type 0
-AreSaved t js u ks None = IsUnchanged t js u ks
-AreSaved t js u ks (Some saved) =
-    ¬ (IsUnchanged t js u ks) × (saved.text.items ≡ u) × IsSavedText ks saved.journal.items
+abbrev pub AreSaved : SessionContents → SessionContents → Option SavedTexts → Type 0
+AreSaved old new None = IsUnchanged old new
+AreSaved old new (Some saved) =
+    ¬ (IsUnchanged old new) × (saved.text.items ≡ new.text)
+    × IsSavedText new.records saved.journal.items
 
--- What is reported of a command that left text u in a file of this name: the name, if fmt changed
--- the text; after a fix the line of each issue that is left.
+-- What is reported of a command that left this text in a file of this name: the name, if fmt
+-- changed the text; after a fix the line of each issue that is left.
 abbrev pub AreReportLines : Command → List ℕ → Done → List ℕ → List ℕ → Type 0
-AreReportLines Fmt name d u lines = lines ≡ (if d.changed then name ++ codes "\n" else [])
-AreReportLines (Fix rules) name d u lines =
-    (reported : List Report) × IsReport rules u reported × (lines ≡ report_lines name reported)
-AreReportLines Revert name d u lines = lines ≡ []
-AreReportLines (Take n) name d u lines = lines ≡ []
+AreReportLines Fmt name d text lines = lines ≡ (if d.changed then name ++ codes "\n" else [])
+AreReportLines (Fix rules) name d text lines =
+    (reported : List Report) × IsReport rules text reported × (lines ≡ report_lines name reported)
+AreReportLines Revert name d text lines = lines ≡ []
+AreReportLines (Take n) name d text lines = lines ≡ []
 
--- The journal's bytes are the text of some records, and the command does its step on the text and
+-- The journal's bytes are the text of some records, and the command does its step on the text with
 -- these.
 pub record HasEffect (command : Command) (name text journal : List ℕ) (effect : Effect) : Type 0 where
   pub records : List JournalEntry
   pub is_journal : IsJournalText journal records
-  pub new_text : List ℕ
-  pub new_records : List JournalEntry
-  pub does : DoesStep command text records effect.done new_text new_records
-  pub saved : AreSaved text records new_text new_records effect.saved
-  pub lines : AreReportLines command name effect.done new_text effect.lines.items
+  pub new : SessionContents
+  pub does : DoesStep command (with_records text records) effect.done new
+  pub saved : AreSaved (with_records text records) new effect.saved
+  pub lines : AreReportLines command name effect.done new.text effect.lines.items
 
 -- ---- why a command has no effect
 
@@ -64,25 +65,27 @@ LinesMayAllocate Revert d = ⊥
 LinesMayAllocate (Take n) d = ⊥
 
 -- the command refuses text and records; or it succeeds, and memory runs out for what is reported
-abbrev pub StepOrLinesFault : Command → List ℕ → List JournalEntry → RunFault → Type 0
-StepOrLinesFault command t js fault =
-    ((refusal : Fault) × (fault ≡ run_fault_of refusal) × RefusesStep command t js refusal)
-    ⊎ ((fault ≡ Memory) × (d : Done) × (u : List ℕ) × (ks : List JournalEntry)
-    × DoesStep command t js d u ks × LinesMayAllocate command d)
+abbrev pub StepOrLinesFault : Command → SessionContents → RunFault → Type 0
+StepOrLinesFault command old fault =
+    ((refusal : Fault) × (fault ≡ run_fault_of refusal) × RefusesStep command old refusal)
+    ⊎ ((fault ≡ Memory) × (d : Done) × (new : SessionContents)
+    × DoesStep command old d new × LinesMayAllocate command d)
 
 -- the command succeeds and changes text or records, and there is no text of the new journal, since
 -- it would be too long, or memory ran out
-abbrev pub NewJournalFault : Command → List ℕ → List JournalEntry → RunFault → Type 0
-NewJournalFault command t js fault =
-    (d : Done) × (u : List ℕ) × (ks : List JournalEntry) × DoesStep command t js d u ks
-    × ¬ (IsUnchanged t js u ks) × JournalTextFault ks fault
+abbrev pub NewJournalFault : Command → SessionContents → RunFault → Type 0
+NewJournalFault command old fault =
+    (d : Done) × (new : SessionContents) × DoesStep command old d new × ¬ (IsUnchanged old new)
+    × JournalTextFault new.records fault
 
 -- Why nothing is to be saved or reported, in this order.
 abbrev pub HasNoEffect : Command → List ℕ → List ℕ → RunFault → Type 0
 HasNoEffect command text journal fault =
     BadJournalFault journal fault
-    ⊎ ((records : List JournalEntry) × IsJournalText journal records × StepOrLinesFault command text records fault)
-    ⊎ ((records : List JournalEntry) × IsJournalText journal records × NewJournalFault command text records fault)
+    ⊎ ((records : List JournalEntry) × IsJournalText journal records
+    × StepOrLinesFault command (with_records text records) fault)
+    ⊎ ((records : List JournalEntry) × IsJournalText journal records
+    × NewJournalFault command (with_records text records) fault)
 
 -- memory ran out, or the new journal would be too long
 abbrev pub is_limit : RunFault → Bool

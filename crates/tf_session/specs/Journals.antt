@@ -18,6 +18,7 @@ use Rattle.tf_session.specs.declared.fault.SessionPart.{SessionPart}
 use Rattle.tf_session.specs.Faults.{run_fault_of, run_fault_of_read, run_fault_of_record}
 use Rattle.tf_session.specs.Streams.{ReadsText, IsWriteFault, is_write}
 use Rattle.tf_session.specs.Records.{DoesStep, RefusesStep}
+use Rattle.tf_session.specs.Session.{SessionContents}
 
 -- the most bytes of a journal's text
 abbrev pub MAX_JOURNAL : ℕ
@@ -29,12 +30,12 @@ MAX_JOURNAL = 268435456
 abbrev pub Unread : Source → Type 0
 Unread source = Keeps source.before source.after
 
--- all that the first source had is this text, and all that the second had is the text of the
--- journal with these records
-abbrev pub Loads : List ℕ → List JournalEntry → Source → Source → Type 0
-Loads text records text_in journal_in =
-    ReadsText text_in text × (bytes : List ℕ) × ReadsAll MAX_JOURNAL journal_in bytes
-    × IsJournalText bytes records
+-- all that the first source had is the text, and all that the second had is the text of the journal
+-- with the records
+abbrev pub Loads : SessionContents → Source → Source → Type 0
+Loads contents text_in journal_in =
+    ReadsText text_in contents.text × (bytes : List ℕ) × ReadsAll MAX_JOURNAL journal_in bytes
+    × IsJournalText bytes contents.records
 
 -- There is no whole text, and nothing was read for the journal; or there is one, and nothing whole
 -- for the journal.
@@ -75,20 +76,21 @@ JournalTextFault records Endless = MAX_JOURNAL < length (journal_text records)
 JournalTextFault records Memory = (length (journal_text records) ≤ MAX_JOURNAL) × (0 < length records)
 JournalTextFault records _ = ⊥
 
--- to the first target went the text of the journal with these records, and to the second this text
-abbrev pub Saves : List ℕ → List JournalEntry → Target → Target → Type 0
-Saves text records journal_out text_out =
-    (bytes : List ℕ) × IsSavedText records bytes × WritesBytes journal_out bytes × WritesBytes text_out text
+-- to the first target went the text of the journal with the records, and to the second the text
+abbrev pub Saves : SessionContents → Target → Target → Type 0
+Saves contents journal_out text_out =
+    (bytes : List ℕ) × IsSavedText contents.records bytes × WritesBytes journal_out bytes
+    × WritesBytes text_out contents.text
 
 -- There is no text of the journal, and nothing was put; or not all of it was put, and nothing of
 -- the text; or all of it was, and not all of the text.
-abbrev pub SaveFault : RunFault → List ℕ → List JournalEntry → Target → Target → Type 0
-SaveFault fault text records journal_out text_out =
-    (JournalTextFault records fault × Untouched journal_out × Untouched text_out)
-    ⊎ ((bytes : List ℕ) × IsSavedText records bytes × IsWriteFault SessionPart.Journal fault journal_out bytes
-    × Untouched text_out)
-    ⊎ ((bytes : List ℕ) × IsSavedText records bytes × WritesBytes journal_out bytes
-    × IsWriteFault SessionPart.Text fault text_out text)
+abbrev pub SaveFault : RunFault → SessionContents → Target → Target → Type 0
+SaveFault fault contents journal_out text_out =
+    (JournalTextFault contents.records fault × Untouched journal_out × Untouched text_out)
+    ⊎ ((bytes : List ℕ) × IsSavedText contents.records bytes
+    × IsWriteFault SessionPart.Journal fault journal_out bytes × Untouched text_out)
+    ⊎ ((bytes : List ℕ) × IsSavedText contents.records bytes × WritesBytes journal_out bytes
+    × IsWriteFault SessionPart.Text fault text_out contents.text)
 
 -- a write or a flush of this part failed
 abbrev pub IsWriteOf : SessionPart → RunFault → Type 0
@@ -101,24 +103,21 @@ IsWriteOf part _ = ⊥
 -- targets.
 abbrev pub StreamsCommand : Command → Done → Source → Source → Target → Target → Type 0
 StreamsCommand command d text_in journal_in journal_out text_out =
-    (text : List ℕ) × (records : List JournalEntry) × Loads text records text_in journal_in
-    × (new : List ℕ) × (new_records : List JournalEntry)
-    × DoesStep command text records d new new_records
-    × Saves new new_records journal_out text_out
+    (old : SessionContents) × Loads old text_in journal_in
+    × (new : SessionContents) × DoesStep command old d new × Saves new journal_out text_out
 
 -- the command refused what was loaded
 abbrev pub CommandFault : Command → RunFault → Source → Source → Type 0
 CommandFault command fault text_in journal_in =
-    (text : List ℕ) × (records : List JournalEntry) × Loads text records text_in journal_in
-    × (refusal : Fault) × (fault ≡ run_fault_of refusal) × RefusesStep command text records refusal
+    (old : SessionContents) × Loads old text_in journal_in
+    × (refusal : Fault) × (fault ≡ run_fault_of refusal) × RefusesStep command old refusal
 
 -- the command was done on what was loaded, and what it made was not all put
 abbrev pub ResultSaveFault : Command → RunFault → Source → Source → Target → Target → Type 0
 ResultSaveFault command fault text_in journal_in journal_out text_out =
-    (text : List ℕ) × (records : List JournalEntry) × Loads text records text_in journal_in
-    × (d : Done) × (new : List ℕ) × (new_records : List JournalEntry)
-    × DoesStep command text records d new new_records
-    × SaveFault fault new new_records journal_out text_out
+    (old : SessionContents) × Loads old text_in journal_in
+    × (d : Done) × (new : SessionContents) × DoesStep command old d new
+    × SaveFault fault new journal_out text_out
 
 -- Nothing was loaded, and nothing put; or the command was refused, and nothing put; or not all that
 -- it made was put.

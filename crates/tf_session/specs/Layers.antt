@@ -18,6 +18,7 @@ use Rattle.tf_session.specs.Machine.{done}
 use Rattle.tf_session.specs.Runs.{StepOrMemory, RunBy}
 use Rattle.tf_session.specs.NthItem.{Nth}
 use Rattle.tf_session.specs.RemovingRecord.{CannotRemove, TakeMayAllocate}
+use Rattle.tf_session.specs.Session.{with_records}
 
 -- one text on another: the word of the command that pushed it, the edits between the two, and the
 -- upper text
@@ -128,7 +129,7 @@ abbrev pub HistoryMayAllocate : Command → History → Type 0
 HistoryMayAllocate Fmt h = IsUtf8WithinLimit (top_text h)
 HistoryMayAllocate (Fix rules) h = IsUtf8WithinLimit (top_text h)
 HistoryMayAllocate Revert h = h.layers ≢ []
-HistoryMayAllocate (Take n) h = TakeMayAllocate n (top_text h) (records_in h.layers)
+HistoryMayAllocate (Take n) h = TakeMayAllocate n (with_records (top_text h) (records_in h.layers))
 
 -- one command where memory may run out
 abbrev pub HistoryStepOrMemory : Command → History → Result Done Fault → History → Type 0

@@ -14,6 +14,7 @@ use Rattle.tf_lint.specs.Steps.{Rewrite, texts_differ}
 use Rattle.tf_session.specs.Rewrites.{Rewrites, RefusesText}
 use Rattle.tf_session.specs.Machine.{StackEntry, done}
 use Rattle.tf_session.specs.RemovingRecord.{RemovesRecord, RefusesTake}
+use Rattle.tf_session.specs.Session.{SessionContents, with_records, without_records}
 
 -- the word that the record of a command has; revert and take have no record
 abbrev pub HasWord : Command → Word → Type 0
@@ -40,8 +41,8 @@ IsJournalOfStack records top (under ∷ rest) =
     × IsRecordOf under.command under.text top r
     × (texts_differ under.text top ≡ true) × IsJournalOfStack earlier under.text rest
 
--- ---- One command over any session, its journal from outside too: the text t and the records js
--- before, u and ks after.
+-- ---- One command over any session, its journal from outside too: what the session has before and
+-- after.
 
 -- the record with this word and these edits is added, or nothing
 abbrev pub AddsRecord : Bool → Word → EditList → List JournalEntry → List JournalEntry → Type 0
@@ -55,33 +56,37 @@ AddsRecordOf true command t made js ks =
     (r : JournalEntry) × (ks ≡ js ++ r ∷ []) × IsRecordOf command t made.text r × (r.edits ≡ made.edits)
 AddsRecordOf false command t made js ks = ks ≡ js
 
-abbrev pub ReplacesText : Command → Rewrite → List ℕ → List JournalEntry → Done → List ℕ → List JournalEntry
-    → Type 0
-ReplacesText command made t js d u ks =
-    (u ≡ made.text) × (d ≡ done (texts_differ t made.text) made.fixed made.left)
-    × AddsRecordOf (texts_differ t made.text) command t made js ks
+-- the new text is what was made
+abbrev pub ReplacesText : Command → Rewrite → SessionContents → Done → SessionContents → Type 0
+ReplacesText command made old d new =
+    (new.text ≡ made.text) × (d ≡ done (texts_differ old.text made.text) made.fixed made.left)
+    × AddsRecordOf (texts_differ old.text made.text) command old.text made old.records new.records
 
 -- u is the one text that the record turns into t
 abbrev pub IsUniqueOld : JournalEntry → List ℕ → List ℕ → Type 0
 IsUniqueOld r u t = record_transforms r u t × ((v : List ℕ) → record_transforms r v t → v ≡ u)
 
 -- the last record is undone and removed
-abbrev pub RevertsLast : List ℕ → List JournalEntry → Done → List ℕ → List JournalEntry → Type 0
-RevertsLast t js d u ks =
-    (r : JournalEntry) × (js ≡ ks ++ r ∷ []) × IsUniqueOld r u t × (d ≡ done (texts_differ u t) 0 0)
+abbrev pub RevertsLast : SessionContents → Done → SessionContents → Type 0
+RevertsLast old d new =
+    (r : JournalEntry) × (old.records ≡ new.records ++ r ∷ []) × IsUniqueOld r new.text old.text
+    × (d ≡ done (texts_differ new.text old.text) 0 0)
 
 -- what a command that succeeds does
-abbrev pub DoesStep : Command → List ℕ → List JournalEntry → Done → List ℕ → List JournalEntry → Type 0
-DoesStep Fmt t js d u ks = (made : Rewrite) × Rewrites Fmt t (Ok made) × ReplacesText Fmt made t js d u ks
-DoesStep (Fix rules) t js d u ks =
-    (made : Rewrite) × Rewrites (Fix rules) t (Ok made) × ReplacesText (Fix rules) made t js d u ks
-DoesStep Revert t js d u ks = RevertsLast t js d u ks
-DoesStep (Take n) t js d u ks = RemovesRecord n t js d u ks
+abbrev pub DoesStep : Command → SessionContents → Done → SessionContents → Type 0
+DoesStep Fmt old d new =
+    (made : Rewrite) × Rewrites Fmt old.text (Ok made) × ReplacesText Fmt made old d new
+DoesStep (Fix rules) old d new =
+    (made : Rewrite) × Rewrites (Fix rules) old.text (Ok made)
+    × ReplacesText (Fix rules) made old d new
+DoesStep Revert old d new = RevertsLast old d new
+DoesStep (Take n) old d new = RemovesRecord n old d new
 
 -- what a command makes of a text that has no record before it, whatever it returns and records
 abbrev pub StepsTo : Command → List ℕ → List ℕ → Type 0
 StepsTo command text new =
-    (d : Done) × (records : List JournalEntry) × DoesStep command text [] d new records
+    (d : Done) × (records : List JournalEntry)
+    × DoesStep command (without_records text) d (with_records new records)
 
 -- this is the last record
 abbrev pub IsLast : List JournalEntry → JournalEntry → Type 0
@@ -90,20 +95,22 @@ IsLast js r = (earlier : List JournalEntry) × (js ≡ earlier ++ r ∷ [])
 -- Why a revert is refused: there is no record; or the edits of the last record can't be undone in
 -- the text, for this reason; or memory ran out, which can only be for a text of the length that
 -- these edits make.
-abbrev pub RefusesRevert : List ℕ → List JournalEntry → Fault → Type 0
-RefusesRevert t js NoRecord = js ≡ []
-RefusesRevert t js (Refused refused) =
-    (r : JournalEntry) × IsLast js r × IsChangeResult Backward r.edits t (Err refused)
-RefusesRevert t js Memory = (r : JournalEntry) × IsLast js r × HasExpectedLen Backward r.edits t
-RefusesRevert t js _ = ⊥
+abbrev pub RefusesRevert : SessionContents → Fault → Type 0
+RefusesRevert contents NoRecord = contents.records ≡ []
+RefusesRevert contents (Refused refused) =
+    (r : JournalEntry) × IsLast contents.records r
+    × IsChangeResult Backward r.edits contents.text (Err refused)
+RefusesRevert contents Memory =
+    (r : JournalEntry) × IsLast contents.records r × HasExpectedLen Backward r.edits contents.text
+RefusesRevert contents _ = ⊥
 
 -- why a command is refused
-abbrev pub RefusesStep : Command → List ℕ → List JournalEntry → Fault → Type 0
-RefusesStep Fmt t js fault = RefusesText Fmt t fault
-RefusesStep (Fix rules) t js fault = RefusesText (Fix rules) t fault
-RefusesStep Revert t js fault = RefusesRevert t js fault
-RefusesStep (Take n) t js fault = RefusesTake n t js fault
+abbrev pub RefusesStep : Command → SessionContents → Fault → Type 0
+RefusesStep Fmt contents fault = RefusesText Fmt contents.text fault
+RefusesStep (Fix rules) contents fault = RefusesText (Fix rules) contents.text fault
+RefusesStep Revert contents fault = RefusesRevert contents fault
+RefusesStep (Take n) contents fault = RefusesTake n contents fault
 
 -- why a command refuses a text that has no record before it
 abbrev pub RefusesAlone : Command → List ℕ → Fault → Type 0
-RefusesAlone command text fault = RefusesStep command text [] fault
+RefusesAlone command text fault = RefusesStep command (without_records text) fault

@@ -1,6 +1,6 @@
--- A take: reverting one record of any journal out of order, from outside too; the text t and the
--- records js before, u and ks after. What it means to remove one record from among others is this
--- project's own, and is defined here and in swaps of edit_record.
+-- A take: reverting one record of any journal out of order, from outside too. What it means to
+-- remove one record from among others is this project's own, and is defined here and in swaps of
+-- edit_record.
 use Rattle.std.specs.Prelude.{◌≡◌, ◌+◌, ◌<◌, ◌⊎◌, ℕ, List, ◌++◌, length, Err}
 use Rattle.edit_record.specs.Lists.Pieces.{EditList, Transforms}
 use Rattle.edit_record.specs.Lists.ChangeResults.{IsChangeResult, HasExpectedLen}
@@ -15,21 +15,22 @@ use Rattle.tf_session.specs.declared.command.Fault.{Fault}
 use Rattle.tf_lint.specs.Steps.{texts_differ}
 use Rattle.tf_session.specs.Machine.{done}
 use Rattle.tf_session.specs.NthItem.{Nth}
+use Rattle.tf_session.specs.Session.{SessionContents}
 
 -- Record n is removed. Its edits are swapped with those of each later record in turn; what these
 -- become is in the journal, each with the word of its record. The new text is the only one that the
 -- edits of record n, as they are after all others, turn into the old.
-pub record RemovesRecord (n : ℕ) (t : List ℕ) (js : List JournalEntry) (d : Done) (u : List ℕ)
-    (ks : List JournalEntry) : Type 0 where
-  pub nth : Nth n js
+pub record RemovesRecord (n : ℕ) (old : SessionContents) (d : Done) (new : SessionContents)
+    : Type 0 where
+  pub nth : Nth n old.records
   pub new_records : List JournalEntry
   pub moved_edits : EditList
   pub is_moved : IsMovedToEnd nth.item.edits (edits_of nth.after) (edits_of new_records) moved_edits
   pub words : words_of new_records ≡ words_of nth.after
-  pub transforms : Transforms moved_edits u t
-  pub only : (v : List ℕ) → Transforms moved_edits v t → v ≡ u
-  pub records : ks ≡ nth.before ++ new_records
-  pub done_is : d ≡ done (texts_differ u t) 0 0
+  pub transforms : Transforms moved_edits new.text old.text
+  pub only : (v : List ℕ) → Transforms moved_edits v old.text → v ≡ new.text
+  pub records : new.records ≡ nth.before ++ new_records
+  pub done_is : d ≡ done (texts_differ new.text old.text) 0 0
 
 -- ---- why record n is not removed
 
@@ -51,35 +52,39 @@ CannotRemove n records Fault.TooLong = (k : ℕ) × FailsAfter n records k SwapI
 CannotRemove n records _ = ⊥
 
 -- record n can be swapped with all later records, but its edits, as they are after them, can't be
--- undone in this text
-pub record UndoFails (n : ℕ) (t : List ℕ) (js : List JournalEntry) (refused : Refused) : Type 0 where
-  pub nth : Nth n js
+-- undone in the text
+pub record UndoFails (n : ℕ) (contents : SessionContents) (refused : Refused) : Type 0 where
+  pub nth : Nth n contents.records
   pub new_lists : List EditList
   pub moved_edits : EditList
   pub is_moved : IsMovedToEnd nth.item.edits (edits_of nth.after) new_lists moved_edits
-  pub refuses : IsChangeResult Backward moved_edits t (Err refused)
+  pub refuses : IsChangeResult Backward moved_edits contents.text (Err refused)
 
 -- Memory is allocated if the next record can be swapped with record n, and to undo the edits of
 -- record n as they are after all others, in a text of the length that they make.
-abbrev pub TakeMayAllocate : ℕ → List ℕ → List JournalEntry → Type 0
-TakeMayAllocate n t js =
-    (nth : Nth n js) × (MoveMayAllocate nth.item.edits nth.after
+abbrev pub TakeMayAllocate : ℕ → SessionContents → Type 0
+TakeMayAllocate n contents =
+    (nth : Nth n contents.records) × (MoveMayAllocate nth.item.edits nth.after
     ⊎ ((others : List EditList) × (moved_edits : EditList)
-    × IsMovedToEnd nth.item.edits (edits_of nth.after) others moved_edits × HasExpectedLen Backward moved_edits t))
+    × IsMovedToEnd nth.item.edits (edits_of nth.after) others moved_edits
+    × HasExpectedLen Backward moved_edits contents.text))
 
 -- Why record n is not removed, an error a row: there is none of this number. Or the first record
 -- after it that can't be swapped has an edit that meets one of record n; or the text without the
 -- one and with the other would be too long; or that record is for texts of another length. Or the
 -- edits of record n can't be undone in the text. Or memory ran out.
-pub data RefusesTake (n : ℕ) (t : List ℕ) (js : List JournalEntry) : Fault → Type 0 where
-  no_record : (n ≡ 0) ⊎ (length js < n) → RefusesTake n t js Fault.NoRecord
-  blocked : {k : ℕ} → FailsAfter n js k SomeMeet → RefusesTake n t js (Fault.Blocked (n + k + 1))
-  too_long : {k : ℕ} → FailsAfter n js k SwapIsTooLong → RefusesTake n t js Fault.TooLong
-  lengths_differ : {k expected found : ℕ} → FailsAfter n js k (λ a b. LengthMismatch a b expected found)
-      → RefusesTake n t js (Fault.Refused (Refused.Length expected found))
-  not_undone : {refused : Refused} → UndoFails n t js refused
-      → RefusesTake n t js (Fault.Refused refused)
-  memory : TakeMayAllocate n t js → RefusesTake n t js Fault.Memory
+pub data RefusesTake (n : ℕ) (contents : SessionContents) : Fault → Type 0 where
+  no_record : (n ≡ 0) ⊎ (length contents.records < n) → RefusesTake n contents Fault.NoRecord
+  blocked : {k : ℕ} → FailsAfter n contents.records k SomeMeet
+      → RefusesTake n contents (Fault.Blocked (n + k + 1))
+  too_long : {k : ℕ} → FailsAfter n contents.records k SwapIsTooLong
+      → RefusesTake n contents Fault.TooLong
+  lengths_differ : {k expected found : ℕ}
+      → FailsAfter n contents.records k (λ a b. LengthMismatch a b expected found)
+      → RefusesTake n contents (Fault.Refused (Refused.Length expected found))
+  not_undone : {refused : Refused} → UndoFails n contents refused
+      → RefusesTake n contents (Fault.Refused refused)
+  memory : TakeMayAllocate n contents → RefusesTake n contents Fault.Memory
 
 -- what `move_to_end` returns of the records after record n, of which it counts the first as 0
 abbrev pub fault_of_move : ℕ → MoveFault → Fault

@@ -1,6 +1,5 @@
 -- A command is reverted over what it wrote.
 use Rattle.std.specs.Prelude.{◌≡◌, ℕ, Bool, true, false, List, [], Some}
-use Rattle.edit_record.specs.Lists.Journal.{JournalEntry}
 use Rattle.tf_stream.specs.Streams.{Source, Target}
 use Rattle.tf_session.specs.declared.command.Command.{Command}
 use Rattle.tf_session.specs.declared.command.Command.TheVariants.{Fmt, Fix, Revert}
@@ -9,6 +8,7 @@ use Rattle.tf_session.specs.declared.fault.RunFault.{RunFault}
 use Rattle.tf_session.specs.declared.fault.RunFault.TheVariants.{Memory, Read, Write}
 use Rattle.tf_session.specs.Machine.{done}
 use Rattle.tf_session.specs.Journals.{Loads, Saves, StreamsCommand, JournaledStreamFault}
+use Rattle.tf_session.specs.Session.{SessionContents}
 
 -- the source has just what was written to the target, which held nothing before
 pub record ReadsBack (target : Target) (source : Source) : Type 0 where
@@ -48,8 +48,8 @@ abbrev pub RevertRestores : Type 0
 RevertRestores = (command : Command) (d again : Done) (first second : Endpoints) → AddsOneRecord command
     → StreamsCommandAt command d first → d.changed ≡ true
     → ReadsWhatWasWritten first second → StreamsCommandAt Revert again second
-    → (text : List ℕ) × (records : List JournalEntry) × Loads text records first.text_in first.journal_in
-    × Saves text records second.journal_out second.text_out × (again ≡ done true 0 0)
+    → (old : SessionContents) × Loads old first.text_in first.journal_in
+    × Saves old second.journal_out second.text_out × (again ≡ done true 0 0)
 
 -- memory ran out, or a read or a write failed
 abbrev pub is_from_outside : RunFault → Bool

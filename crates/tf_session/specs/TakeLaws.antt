@@ -1,7 +1,7 @@
 -- Laws of the machine with take, over lists of commands; and of a take over any text and journal.
 use Rattle.std.specs.Prelude.{◌≡◌, ◌+◌, ◌⊎◌, ℕ, List, ◌∷◌, length, replicate, Result}
 use Rattle.edit_record.specs.Lists.Pieces.{EditList, Transforms}
-use Rattle.edit_record.specs.Lists.Journal.{JournalEntry, edits_of}
+use Rattle.edit_record.specs.Lists.Journal.{edits_of}
 use Rattle.tf_session.specs.declared.command.Command.{Command}
 use Rattle.tf_session.specs.declared.command.Command.TheVariants.{Revert}
 use Rattle.tf_session.specs.declared.command.Done.{Done}
@@ -11,6 +11,7 @@ use Rattle.tf_session.specs.JournalLaws.{SquashToOne}
 use Rattle.tf_session.specs.ResultIsUnique.{AreSameUpToParseFault}
 use Rattle.tf_session.specs.RunLaws.{completed_commands, completed_replies}
 use Rattle.tf_session.specs.RemovingRecord.{RemovesRecord, RefusesTake}
+use Rattle.tf_session.specs.Session.{SessionContents}
 use Rattle.tf_session.specs.Runs.{RunBy}
 use Rattle.tf_session.specs.Layers.{History, initial_history, top_text, records_in, IsHistory, RemovesLayer, TakeStep, HistoryStep, HistoryRun}
 
@@ -75,12 +76,10 @@ TakeResultIsUnique = (n : ℕ) (old : History) (reply other : Result Done Fault)
 
 -- A take has one result, memory aside: it leaves one text and one journal; it is not both done and
 -- refused; and it is refused for one reason.
-pub record TakeResultIsUniqueOverRecords (n : ℕ) (t : List ℕ) (js : List JournalEntry)
-    : Type 0 where
-  pub one_result : (d e : Done) (u v : List ℕ) (ks ls : List JournalEntry)
-      → RemovesRecord n t js d u ks → RemovesRecord n t js e v ls
-      → (d ≡ e) × (u ≡ v) × (ks ≡ ls)
-  pub not_both : (d : Done) (u : List ℕ) (ks : List JournalEntry) (fault : Fault)
-      → RemovesRecord n t js d u ks → RefusesTake n t js fault → fault ≡ Memory
-  pub one_reason : (fault other : Fault) → RefusesTake n t js fault
-      → RefusesTake n t js other → (fault ≡ other) ⊎ (fault ≡ Memory) ⊎ (other ≡ Memory)
+pub record TakeResultIsUniqueOverRecords (n : ℕ) (old : SessionContents) : Type 0 where
+  pub one_result : (d e : Done) (new other : SessionContents) → RemovesRecord n old d new
+      → RemovesRecord n old e other → (d ≡ e) × (new ≡ other)
+  pub not_both : (d : Done) (new : SessionContents) (fault : Fault) → RemovesRecord n old d new
+      → RefusesTake n old fault → fault ≡ Memory
+  pub one_reason : (fault other : Fault) → RefusesTake n old fault
+      → RefusesTake n old other → (fault ≡ other) ⊎ (fault ≡ Memory) ⊎ (other ≡ Memory)

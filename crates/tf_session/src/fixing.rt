@@ -1,9 +1,10 @@
 //! What a fix makes of a text.
 
-ghost use Rattle.std.specs.Prelude.{◌≡◌, List, [], IfOk, IfErr};
+ghost use Rattle.std.specs.Prelude.{◌≡◌, List, IfOk, IfErr};
 ghost use Rattle.edit_record.specs.Lists.Journal.{JournalEntry};
 ghost use Rattle.tf_session.specs.Machine.{done};
 ghost use Rattle.tf_session.specs.Records.{DoesStep, RefusesStep};
+ghost use Rattle.tf_session.specs.Session.{with_records, without_records};
 ghost use Rattle.tf_session.specs.declared.command.Command.TheVariants.{Fix};
 ghost use Rattle.tf_lint.specs.Remaining.{IsRemaining};
 
@@ -26,9 +27,10 @@ pub fn fix_without_session(
     rules: RuleSet,
 ) -> Result<(Vec<u8>, Done, Remaining), Fault>
     ensures done { IfOk result (λ r. (records : List JournalEntry)
-        × DoesStep (Fix rules) text.items [] r.1 r.0.items records) }
+        × DoesStep (Fix rules) (without_records text.items) r.1 (with_records r.0.items records)) }
     ensures left { IfOk result (λ r. IsRemaining rules r.0.items r.2) }
-    ensures refused { IfErr result (λ fault. RefusesStep (Fix rules) text.items [] fault) }
+    ensures refused { IfErr result
+        (λ fault. RefusesStep (Fix rules) (without_records text.items) fault) }
 {
     let FixedText {
         text: new,

@@ -3,7 +3,7 @@
 
 ghost use Rattle.std.specs.Prelude.{◌≡◌, ◌++◌, true, false, [], codes, IfOk, IfErr, string_bytes};
 ghost use Rattle.tf_session.specs.declared.command.Command.TheVariants.{Fmt, Fix};
-ghost use Rattle.tf_session.specs.Session.{text_of, records_of};
+ghost use Rattle.tf_session.specs.Session.{contents_of, text_of, records_of};
 ghost use Rattle.tf_session.specs.Journals.{JournalTextFault};
 ghost use Rattle.tf_session.specs.Records.{DoesStep};
 ghost use Rattle.tf_session.specs.Invocations.{AreReportLines, HasEffect, HasNoEffect};
@@ -75,8 +75,8 @@ fn to_effect(session: Session, command: Command, report: StepReport) -> Result<E
     ensures done { IfOk result (λ effect. effect.done ≡ report.done) }
     ensures lines { IfOk result (λ effect. effect.lines ≡ report.lines) }
     ensures saved { IfOk result
-        (λ effect. AreSavedTexts (must_save command report.done) (text_of session)
-        (records_of session) effect.saved) }
+        (λ effect. AreSavedTexts (must_save command report.done) (contents_of session)
+        effect.saved) }
     ensures changed { IfErr result (λ fault. must_save command report.done ≡ true) }
     ensures fault { IfErr result (λ fault. JournalTextFault (records_of session) fault) }
 {
@@ -107,12 +107,10 @@ fn report_step(
     name: &str,
 ) -> Result<StepReport, RunFault>
     ensures done { IfOk result (λ report.
-        DoesStep command (text_of session.old) (records_of session.old)
-        report.done (text_of session.new) (records_of session.new)) }
+        DoesStep command (contents_of session.old) report.done (contents_of session.new)) }
     ensures lines { IfOk result (λ report.
         AreReportLines command name.now report.done (text_of session.new) report.lines.items) }
-    ensures fault { IfErr result
-        (StepOrLinesFault command (text_of session.old) (records_of session.old)) }
+    ensures fault { IfErr result (StepOrLinesFault command (contents_of session.old)) }
     ensures text { IfErr result
         (λ fault. is_limit fault ≡ false → text_of session.new ≡ text_of session.old) }
 {
@@ -132,12 +130,10 @@ fn report_step(
 /// Formats a session. If the text changed, the file's name is reported.
 fn report_fmt(alloc: Global, session: &mut Session, name: &str) -> Result<StepReport, RunFault>
     ensures done { IfOk result (λ report.
-        DoesStep Fmt (text_of session.old) (records_of session.old)
-        report.done (text_of session.new) (records_of session.new)) }
+        DoesStep Fmt (contents_of session.old) report.done (contents_of session.new)) }
     ensures lines { IfOk result (λ report.
         AreReportLines Fmt name.now report.done (text_of session.new) report.lines.items) }
-    ensures fault { IfErr result
-        (StepOrLinesFault Fmt (text_of session.old) (records_of session.old)) }
+    ensures fault { IfErr result (StepOrLinesFault Fmt (contents_of session.old)) }
     ensures text { IfErr result
         (λ fault. is_limit fault ≡ false → text_of session.new ≡ text_of session.old) }
 {
@@ -169,12 +165,10 @@ fn report_fix(
     rules: RuleSet,
 ) -> Result<StepReport, RunFault>
     ensures done { IfOk result (λ report.
-        DoesStep (Fix rules) (text_of session.old) (records_of session.old)
-        report.done (text_of session.new) (records_of session.new)) }
+        DoesStep (Fix rules) (contents_of session.old) report.done (contents_of session.new)) }
     ensures lines { IfOk result (λ report.
         AreReportLines (Fix rules) name.now report.done (text_of session.new) report.lines.items) }
-    ensures fault { IfErr result
-        (StepOrLinesFault (Fix rules) (text_of session.old) (records_of session.old)) }
+    ensures fault { IfErr result (StepOrLinesFault (Fix rules) (contents_of session.old)) }
     ensures text { IfErr result
         (λ fault. is_limit fault ≡ false → text_of session.new ≡ text_of session.old) }
 {

@@ -1,9 +1,9 @@
 //! Laws of the machines that `run` is proved to be. The functions do nothing: a call makes a law's
 //! clause available to the proof of its caller.
 
-ghost use Rattle.std.specs.Prelude.{List, ℕ};
-ghost use Rattle.edit_record.specs.Lists.Journal.{JournalEntry};
+ghost use Rattle.std.specs.Prelude.{ℕ};
 ghost use Rattle.tf_session.specs.ResultIsUnique.{CommandResultIsUnique};
+ghost use Rattle.tf_session.specs.Session.{SessionContents};
 ghost use Rattle.tf_session.specs.FmtLaws.{FmtKeepsTokens, FmtIsIdempotent};
 ghost use Rattle.tf_session.specs.JournalLaws.{JournalSquashesToOne};
 ghost use Rattle.tf_session.specs.TakeLaws.{CommandResultIsUniqueOverLayers, TakeResultIsUnique};
@@ -99,8 +99,7 @@ pub fn take_result_is_unique()
 /// A take over any text and journal, from outside too, has one result, memory aside: it is not both
 /// done and refused, and it is refused for one reason.
 pub fn take_result_is_unique_over_records()
-    ensures { (n : ℕ) (text : List ℕ) (records : List JournalEntry)
-        → TakeResultIsUniqueOverRecords n text records }
+    ensures { (n : ℕ) (contents : SessionContents) → TakeResultIsUniqueOverRecords n contents }
 {
     swap_is_unique();
     move_to_end_is_unique();

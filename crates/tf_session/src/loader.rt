@@ -5,7 +5,7 @@ ghost use Rattle.tf_stream.specs.Told.{has_failed};
 ghost use Rattle.tf_stream.specs.Streams.{source_of, ReadsAll, ReadAtFault};
 ghost use Rattle.tf_stream.specs.declared.fault.ReadFault.{ReadFault};
 ghost use Rattle.tf_session.specs.Faults.{run_fault_of_read};
-ghost use Rattle.tf_session.specs.Session.{text_of, records_of};
+ghost use Rattle.tf_session.specs.Session.{contents_of};
 ghost use Rattle.tf_session.specs.Journals.{MAX_JOURNAL, Loads, LoadFault};
 
 use crate::{RunFault, Session, Told};
@@ -53,8 +53,8 @@ pub fn load<R: Read, J: Read>(
     requires text_not_failed { has_failed text.old ≡ false }
     requires journal_not_failed { has_failed journal.old ≡ false }
     ensures loaded { IfOk result
-        (λ session. Loads (text_of session) (records_of session)
-        (source_of R.remaining text.old text.new) (source_of J.remaining journal.old journal.new)) }
+        (λ session. Loads (contents_of session) (source_of R.remaining text.old text.new)
+        (source_of J.remaining journal.old journal.new)) }
     ensures fault { IfErr result
         (λ fault. LoadFault fault (source_of R.remaining text.old text.new)
         (source_of J.remaining journal.old journal.new)) }

@@ -5,7 +5,7 @@ ghost use Rattle.std.specs.Prelude.{OnOk, OnErr, IfOk, IfErr, IsErrAnd};
 ghost use Rattle.edit_record.specs.Text.{journal_text};
 ghost use Rattle.tf_stream.specs.Told.{has_failed};
 ghost use Rattle.tf_stream.specs.Streams.{target_of, Untouched};
-ghost use Rattle.tf_session.specs.Session.{text_of, records_of};
+ghost use Rattle.tf_session.specs.Session.{contents_of, text_of, records_of};
 ghost use Rattle.tf_session.specs.Streams.{is_write};
 ghost use Rattle.tf_session.specs.Journals.{MAX_JOURNAL, IsSavedText, JournalTextFault};
 ghost use Rattle.tf_session.specs.Journals.{Saves, SaveFault, IsWriteOf};
@@ -96,11 +96,10 @@ pub fn save<J: Write, W: Write>(
     requires journal_not_failed { has_failed journal_out.old ≡ false }
     requires text_not_failed { has_failed text_out.old ≡ false }
     ensures saved { OnOk result
-        (Saves (text_of session.now) (records_of session.now)
-        (target_of J.contents journal_out.old journal_out.new)
+        (Saves (contents_of session.now) (target_of J.contents journal_out.old journal_out.new)
         (target_of W.contents text_out.old text_out.new)) }
     ensures fault { IfErr result
-        (λ fault. SaveFault fault (text_of session.now) (records_of session.now)
+        (λ fault. SaveFault fault (contents_of session.now)
         (target_of J.contents journal_out.old journal_out.new)
         (target_of W.contents text_out.old text_out.new)) }
     ensures journal_untouched { IfErr result

@@ -8,7 +8,7 @@ ghost use Rattle.edit_record.specs.Text.{IsJournalText};
 ghost use Rattle.tf_session.specs.Journals.{BadJournalFault};
 ghost use Rattle.tf_session.specs.Machine.{done};
 ghost use Rattle.tf_lint.specs.FixResult.{changed_text, changed_edits};
-ghost use Rattle.tf_session.specs.Session.{text_of, records_of};
+ghost use Rattle.tf_session.specs.Session.{contents_of, text_of, records_of};
 ghost use Rattle.tf_session.specs.Records.{DoesStep, RefusesStep, AddsRecord, RevertsLast, RefusesRevert};
 ghost use Rattle.tf_session.specs.RemovingRecord.{RemovesRecord, RefusesTake};
 
@@ -86,10 +86,8 @@ impl Session {
     /// text between would be too long (`TooLong`). `Memory`.
     pub fn step(&mut self, alloc: Global, command: Command) -> Reply
         ensures done { IfOk result
-            (λ d. DoesStep command (text_of self.old) (records_of self.old) d (text_of self.new)
-            (records_of self.new)) }
-        ensures refused { IfErr result
-            (λ fault. RefusesStep command (text_of self.old) (records_of self.old) fault) }
+            (λ d. DoesStep command (contents_of self.old) d (contents_of self.new)) }
+        ensures refused { IfErr result (λ fault. RefusesStep command (contents_of self.old) fault) }
         ensures text { OnErr result (text_of self.new ≡ text_of self.old) }
         ensures journal { OnErr result (records_of self.new ≡ records_of self.old) }
     {
@@ -114,12 +112,11 @@ impl Session {
     /// As for [`Session::step`] with `Command::Fix`. A refused fix changes nothing.
     pub fn fix(&mut self, alloc: Global, rules: RuleSet) -> Result<(Done, Remaining), Fault>
         ensures done { IfOk result
-            (λ r. DoesStep (Fix rules) (text_of self.old) (records_of self.old) r.0
-            (text_of self.new) (records_of self.new)) }
+            (λ r. DoesStep (Fix rules) (contents_of self.old) r.0 (contents_of self.new)) }
         ensures left { IfOk result (λ r. IsRemaining rules (text_of self.new) r.1) }
         ensures counted { IfOk result (λ r. r.0.left ≡ remaining_count r.1) }
         ensures refused { IfErr result
-            (λ fault. RefusesStep (Fix rules) (text_of self.old) (records_of self.old) fault) }
+            (λ fault. RefusesStep (Fix rules) (contents_of self.old) fault) }
         ensures text { OnErr result (text_of self.new ≡ text_of self.old) }
         ensures journal { OnErr result (records_of self.new ≡ records_of self.old) }
     {
@@ -183,10 +180,8 @@ impl Session {
     /// Undoes the last record and removes it. Nothing can fail once the record is undone.
     fn revert_last(&mut self, alloc: Global) -> Reply
         ensures done { IfOk result
-            (λ d. RevertsLast (text_of self.old) (records_of self.old) d (text_of self.new)
-            (records_of self.new)) }
-        ensures refused { IfErr result
-            (λ fault. RefusesRevert (text_of self.old) (records_of self.old) fault) }
+            (λ d. RevertsLast (contents_of self.old) d (contents_of self.new)) }
+        ensures refused { IfErr result (λ fault. RefusesRevert (contents_of self.old) fault) }
         ensures text { OnErr result (text_of self.new ≡ text_of self.old) }
         ensures journal { OnErr result (records_of self.new ≡ records_of self.old) }
     {
@@ -213,10 +208,8 @@ impl Session {
     /// records are made.
     fn remove_record(&mut self, alloc: Global, number: u32) -> Reply
         ensures done { IfOk result
-            (λ d. RemovesRecord number (text_of self.old) (records_of self.old) d (text_of self.new)
-            (records_of self.new)) }
-        ensures refused { IfErr result
-            (λ fault. RefusesTake number (text_of self.old) (records_of self.old) fault) }
+            (λ d. RemovesRecord number (contents_of self.old) d (contents_of self.new)) }
+        ensures refused { IfErr result (λ fault. RefusesTake number (contents_of self.old) fault) }
         ensures text { OnErr result (text_of self.new ≡ text_of self.old) }
         ensures journal { OnErr result (records_of self.new ≡ records_of self.old) }
     {

@@ -3,7 +3,7 @@
 ghost use Rattle.std.specs.Prelude.{◌≡◌, ◌↔◌, true, false, OnOk, IfOk, IfErr, IsErrOf, IsErrAnd};
 ghost use Rattle.tf_stream.specs.Told.{has_failed};
 ghost use Rattle.tf_stream.specs.Streams.{source_of, target_of};
-ghost use Rattle.tf_session.specs.Session.{text_of, records_of};
+ghost use Rattle.tf_session.specs.Session.{contents_of};
 ghost use Rattle.tf_session.specs.Streams.{is_write};
 ghost use Rattle.tf_session.specs.declared.command.Command.TheVariants.{Fmt};
 ghost use Rattle.tf_session.specs.Streaming.{StepsStream, StepStreamFault, FormatsStream};
@@ -35,7 +35,7 @@ pub fn step_text_stream<R: Read, W: Write>(
     requires text_not_failed { has_failed text.old ≡ false }
     requires out_not_failed { has_failed out.old ≡ false }
     ensures done { IfOk result
-        (λ made. StepsStream command made.1 (text_of made.0) (records_of made.0)
+        (λ made. StepsStream command made.1 (contents_of made.0)
         (source_of R.remaining text.old text.new) (target_of W.contents out.old out.new)) }
     ensures fault { IfErr result
         (λ fault. StepStreamFault command fault (source_of R.remaining text.old text.new)

@@ -8,6 +8,7 @@ ghost use Rattle.edit_record.specs.Swaps.MoveToEndResult.{moved_or};
 ghost use Rattle.tf_lint.specs.Steps.{texts_differ};
 ghost use Rattle.tf_session.specs.Machine.{done};
 ghost use Rattle.tf_session.specs.RemovingRecord.{RemovesRecord, RefusesTake};
+ghost use Rattle.tf_session.specs.Session.{with_records};
 
 use crate::command::{Fault, fault_of_move};
 use edit_record::laws::undo_is_exact;
@@ -39,11 +40,12 @@ pub fn without_record(
     number: usize,
 ) -> Result<TakeResult, Fault>
     ensures rewrites { IfOk result
-        (λ left. RemovesRecord number text.now records.now
-        (done (texts_differ left.text.items text.now) 0 0) left.text.items
-        (take left.from records.now ++ left.new_records.items)) }
+        (λ left. RemovesRecord number (with_records text.now records.now)
+        (done (texts_differ left.text.items text.now) 0 0)
+        (with_records left.text.items (take left.from records.now ++ left.new_records.items))) }
     ensures no_longer { IfOk result (λ left. left.from + length left.new_records.items ≤ length records.now) }
-    ensures refused { IfErr result (λ fault. RefusesTake number text.now records.now fault) }
+    ensures refused { IfErr result
+        (λ fault. RefusesTake number (with_records text.now records.now) fault) }
 {
     if number == 0 || number > records.len() {
         return Err(Fault::NoRecord);
@@ -62,11 +64,12 @@ fn without_existing_record(
     requires there { number ≤ length records.now }
     requires small { length records.now < 2 ^ 64 }
     ensures rewrites { IfOk result
-        (λ left. RemovesRecord number text.now records.now
-        (done (texts_differ left.text.items text.now) 0 0) left.text.items
-        (take left.from records.now ++ left.new_records.items)) }
+        (λ left. RemovesRecord number (with_records text.now records.now)
+        (done (texts_differ left.text.items text.now) 0 0)
+        (with_records left.text.items (take left.from records.now ++ left.new_records.items))) }
     ensures no_longer { IfOk result (λ left. left.from + length left.new_records.items ≤ length records.now) }
-    ensures refused { IfErr result (λ fault. RefusesTake number text.now records.now fault) }
+    ensures refused { IfErr result
+        (λ fault. RefusesTake number (with_records text.now records.now) fault) }
 {
     let record = &records[number - 1];
     match move_to_end(alloc, record.edits(), &records[number..]) {

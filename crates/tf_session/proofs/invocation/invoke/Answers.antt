@@ -3,7 +3,7 @@
 use Rattle.std.proofs.Common.{◌≡◌, ℕ, List, subst, rules, inl, inr}
 use Rattle.edit_record.specs.Lists.Journal.{JournalEntry}
 use Rattle.edit_record.specs.Text.{IsJournalText}
-use Rattle.tf_session.specs.Session.{text_of, records_of}
+use Rattle.tf_session.specs.Session.{contents_of, text_of, records_of, with_records}
 use Rattle.tf_session.specs.Records.{DoesStep}
 use Rattle.tf_session.specs.Invocations.{StepOrLinesFault}
 use Rattle.tf_session.proofs.Saving.{lines_are, made, not_made}
@@ -12,31 +12,29 @@ use Rattle.tf_session.proofs.invocation.invoke.Goals as goal
 pub returns-in-Ok-clause-effect : goal.returns-in-Ok-clause-effect
 returns-in-Ok-clause-effect c =
     let report = c.in-Ok.report in
-    let u = text_of c.report_step.new.session in
-    let ks = records_of c.report_step.new.session in
+    let new = contents_of c.report_step.new.session in
     let is : IsJournalText c.args.journal.items c.in_ok-journal.journal = search rules in
     let text : text_of c.start-session.result ≡ c.args.text.now.items = search rules in
-    let here = subst (λ (t : List ℕ). DoesStep c.args.command t (records_of c.start-session.result) report.done u ks) text c.in-Ok.ensures.done in
-    let does = subst (λ (js : List JournalEntry). DoesStep c.args.command c.args.text.now.items js report.done u ks) c.start-session.ensures.journal here in
-    made c.args.command c.args.name.now c.args.text.now.items c.args.journal.items c.in_ok-journal.journal report.done report.lines.items u ks c.to_effect.result
+    let here = subst (λ (t : List ℕ). DoesStep c.args.command (with_records t (records_of c.start-session.result)) report.done new) text c.in-Ok.ensures.done in
+    let does = subst (λ (js : List JournalEntry). DoesStep c.args.command (with_records c.args.text.now.items js) report.done new) c.start-session.ensures.journal here in
+    made c.args.command c.args.name.now c.args.text.now.items c.args.journal.items c.in_ok-journal.journal report.done report.lines.items new c.to_effect.result
     is does c.in-Ok.ensures.lines c.to_effect.ensures.done (lines_are report.lines c.to_effect.result c.to_effect.ensures.lines) c.to_effect.ensures.saved
 
 pub returns-in-Ok-clause-fault : goal.returns-in-Ok-clause-fault
 returns-in-Ok-clause-fault c =
     let report = c.in-Ok.report in
-    let u = text_of c.report_step.new.session in
-    let ks = records_of c.report_step.new.session in
+    let new = contents_of c.report_step.new.session in
     let is : IsJournalText c.args.journal.items c.in_ok-journal.journal = search rules in
     let text : text_of c.start-session.result ≡ c.args.text.now.items = search rules in
-    let here = subst (λ (t : List ℕ). DoesStep c.args.command t (records_of c.start-session.result) report.done u ks) text c.in-Ok.ensures.done in
-    let does = subst (λ (js : List JournalEntry). DoesStep c.args.command c.args.text.now.items js report.done u ks) c.start-session.ensures.journal here in
-    not_made c.args.command c.args.name.now c.args.text.now.items c.args.journal.items c.in_ok-journal.journal report.done u ks c.to_effect.result
+    let here = subst (λ (t : List ℕ). DoesStep c.args.command (with_records t (records_of c.start-session.result)) report.done new) text c.in-Ok.ensures.done in
+    let does = subst (λ (js : List JournalEntry). DoesStep c.args.command (with_records c.args.text.now.items js) report.done new) c.start-session.ensures.journal here in
+    not_made c.args.command c.args.name.now c.args.text.now.items c.args.journal.items c.in_ok-journal.journal report.done new c.to_effect.result
     is does c.to_effect.ensures.changed c.to_effect.ensures.fault
 
 pub returns-in-Err-clause-fault : goal.returns-in-Err-clause-fault
 returns-in-Err-clause-fault c =
     let is : IsJournalText c.args.journal.items c.in_ok-journal.journal = search rules in
     let text : text_of c.start-session.result ≡ c.args.text.now.items = search rules in
-    let here = subst (λ (t : List ℕ). StepOrLinesFault c.args.command t (records_of c.start-session.result) c.in-Err.fault) text c.in-Err.ensures.fault in
-    let why = subst (λ (js : List JournalEntry). StepOrLinesFault c.args.command c.args.text.now.items js c.in-Err.fault) c.start-session.ensures.journal here in
+    let here = subst (λ (t : List ℕ). StepOrLinesFault c.args.command (with_records t (records_of c.start-session.result)) c.in-Err.fault) text c.in-Err.ensures.fault in
+    let why = subst (λ (js : List JournalEntry). StepOrLinesFault c.args.command (with_records c.args.text.now.items js) c.in-Err.fault) c.start-session.ensures.journal here in
     inr (inl (c.in_ok-journal.journal, is, why))

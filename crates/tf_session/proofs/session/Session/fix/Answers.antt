@@ -7,7 +7,7 @@ use Rattle.tf_session.specs.declared.command.Fault.{Fault}
 use Rattle.tf_session.specs.Faults.{fault_of_fix}
 use Rattle.tf_session.specs.Records.{DoesStep}
 use Rattle.tf_session.specs.Rewrites.{RefusesText}
-use Rattle.tf_session.specs.Session.{text_of, records_of}
+use Rattle.tf_session.specs.Session.{contents_of, text_of, records_of}
 use Rattle.tf_session.proofs.PushChange.{MakesOf, push_fix}
 use Rattle.tf_session.proofs.ReadTexts.{refused_fix}
 use Rattle.tf_lint.specs.FixResult.{changed_text}
@@ -21,7 +21,7 @@ returns-in-Ok-clause-done c =
     let makes = subst (MakesOf (Fix c.args.rules) c.as_slice.result.now made.change made.fixed) (sym counted) c.in_ok-change.ensures.made in
     let does = push_fix c.args.rules c.as_slice.result.now (text_of c.args.self.now) (records_of c.args.self.now) made.change made.fixed c.len.result c.push_change.result (text_of c.push_change.new.self) (records_of c.push_change.new.self)
     c.as_slice.ensures.value makes c.in_ok-change.ensures.transforms c.push_change.ensures.replied c.push_change.ensures.pushed c.push_change.ensures.added in
-    subst (λ (r : Result Done Fault). IfOk r (λ (d : Done). DoesStep (Fix c.args.rules) (text_of c.args.self.now) (records_of c.args.self.now) d (text_of c.push_change.new.self) (records_of c.push_change.new.self))) c.in-Ok.is does
+    subst (λ (r : Result Done Fault). IfOk r (λ (d : Done). DoesStep (Fix c.args.rules) (contents_of c.args.self.now) d (contents_of c.push_change.new.self))) c.in-Ok.is does
 
 pub returns-in-Ok-clause-left : goal.returns-in-Ok-clause-left
 returns-in-Ok-clause-left c =

@@ -9,7 +9,7 @@ use Rattle.edit_record.specs.declared.lists.direction.Direction.TheVariants.{Bac
 use Rattle.tf_session.specs.declared.command.Fault.{Fault}
 use Rattle.tf_session.specs.Faults.{fault_of_refused}
 use Rattle.tf_session.specs.Records.{IsLast, IsUniqueOld, RefusesRevert}
-use Rattle.tf_session.specs.Session.{text_of, records_of}
+use Rattle.tf_session.specs.Session.{contents_of, text_of, records_of, with_records}
 use Rattle.tf_session.proofs.Lists.{ends_with_last, popped}
 use Rattle.tf_session.proofs.session.Session.revert_last.Goals as goal
 
@@ -29,7 +29,7 @@ returns-in-Ok-clause-done c =
 
 -- a last record that is not undone
 not_undone : (js : List JournalEntry) (r : JournalEntry) (t : List ℕ) (refused : Refused) → IsLast js r → IsChangeCallResult Backward r.edits t (Err refused)
-    → RefusesRevert t js (fault_of_refused refused)
+    → RefusesRevert (with_records t js) (fault_of_refused refused)
 not_undone js r t (Length expected found) last pieces = (r, last, pieces)
 not_undone js r t (Differs step edit) last pieces = (r, last, pieces)
 not_undone js r t Memory last pieces = (r, last, pieces)
@@ -41,8 +41,8 @@ returns-in-Err-clause-refused c =
     let at_end : slice_get (records_of c.args.self.now) (length (records_of c.args.self.now) - 1) ≡ Some c.in-Some.record.now = search rules in
     let refuses = not_undone records c.in-Some.record.now text c.in-Err.refused (take (length records - 1) records, ends_with_last records c.in-Some.record.now at_end)
     c.in-Err.ensures.pieces in
-    subst (λ (fault : Fault). RefusesRevert (text_of c.args.self.now) records fault) (sym c.from.ensures)
-    (subst (λ (t : List ℕ). RefusesRevert t records (fault_of_refused c.in-Err.refused)) c.as_slice.ensures.value refuses)
+    subst (λ (fault : Fault). RefusesRevert (contents_of c.args.self.now) fault) (sym c.from.ensures)
+    (subst (λ (t : List ℕ). RefusesRevert (with_records t records) (fault_of_refused c.in-Err.refused)) c.as_slice.ensures.value refuses)
 
 -- what the check tries anyway: with an answer here, a mutant is refused without a second search
 pub returns-in-Err-clause-journal : goal.returns-in-Err-clause-journal
