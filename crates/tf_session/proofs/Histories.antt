@@ -134,7 +134,7 @@ push_on_layer : (b : Bool) (command : Command) (word : Word) (made : Rewrite) (p
 push_on_layer true command word made p d u ks says e um dd a st =
     let l : Layer = record { word = word; edits = made.edits; text = made.text } in
     let same_word : a.0.word ≡ word = says a.0.word a.2.word in
-    let same_edits : a.0.edits ≡ made.edits = a.3 in
+    let same_edits : a.0.edits ≡ made.edits = a.2.edits in
     let same : a.0 ≡ record_of l = λ i. record { word = same_word i; edits = same_edits i } in
     let turns : Transforms made.edits (top_text p) made.text = subst (λ (x : EditList). Transforms x (top_text p) made.text) same_edits a.2.transforms in (
       history p.first (p.layers ++ l ∷ []),

@@ -13,6 +13,7 @@ use Rattle.tf_session.specs.Machine.{StackEntry, initial_stack}
 use Rattle.tf_session.specs.Records.{IsJournalOfStack}
 use Rattle.tf_session.specs.RunLaws.{completed_commands, completed_replies}
 use Rattle.tf_session.proofs.RunLaws.{bottom, same_bottoms, refused_do_not_count}
+use Rattle.tf_session.proofs.Stacks.{last_transforms}
 
 -- one list more
 turns_push : (cs : List EditList) (c : EditList) (t u v : List ℕ) → TransformsInOrder Transforms cs t u → Transforms c u v → TransformsInOrder Transforms (cs ++ c ∷ []) t v
@@ -22,8 +23,8 @@ turns_push (d ∷ cs) c t u v all one = (all.0, all.1, turns_push cs c all.0 u v
 journal_transforms_stack : (records : List JournalEntry) (top : List ℕ) (below : List StackEntry) → IsJournalOfStack records top below → TransformsInOrder Transforms (edits_of records) (bottom top below) top
 journal_transforms_stack records top [] h = subst (λ (rs : List JournalEntry). TransformsInOrder Transforms (edits_of rs) top top) (sym h) refl
 journal_transforms_stack records top (under ∷ rest) h =
-    let earlier = journal_transforms_stack h.0 under.text rest h.5 in
-    let all = turns_push (edits_of h.0) h.1.edits (bottom under.text rest) under.text top earlier h.3.transforms in
+    let earlier = journal_transforms_stack h.0 under.text rest h.8 in
+    let all = turns_push (edits_of h.0) h.1.edits (bottom under.text rest) under.text top earlier (last_transforms records top under rest h) in
     let same : edits_of records ≡ edits_of h.0 ++ h.1.edits ∷ [] = ap edits_of h.2 ∙ map_push (λ (r : JournalEntry). r.edits) h.0 h.1 in
     subst (λ (cs : List EditList). TransformsInOrder Transforms cs (bottom under.text rest) top) (sym same) all
 

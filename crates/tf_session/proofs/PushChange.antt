@@ -46,15 +46,14 @@ abbrev Leads : List ℕ → Option NewText → Type 0
 Leads t change = IfSome change (λ c. Transforms c.edits t c.text.items)
 
 adds : (command : Command) (word : Word) → HasWord command word → (b : Bool) (t : List ℕ) (js ks : List JournalEntry) (change : Option NewText) (fixed left : ℕ) → texts_differ t (changed_text t change) ≡ b
-    → MakesOf command t change fixed left → Leads t change
+    → Leads t change
     → AddsRecord b word (changed_edits t change) js ks → AddsRecordOf b command t (made_by t change fixed left) js ks
-adds command word has true t js ks change fixed left e makes turns h = (
+adds command word has true t js ks change fixed left e turns h = (
   record { word = word; edits = changed_edits t change },
   h,
-  record { made = made_by t change fixed left; makes = makes; text = refl; edits = refl; word = has; transforms = leads t change e turns },
-  refl,
+  record { word = has; edits = refl; transforms = leads t change e turns },
 )
-adds command word has false t js ks change fixed left e makes turns h = h
+adds command word has false t js ks change fixed left e turns h = h
 
 -- the command pushes what it made
 abbrev PutsMade : Command → List ℕ → List JournalEntry → Done → List ℕ → List JournalEntry → Type 0
@@ -65,7 +64,7 @@ push_here : (command : Command) (word : Word) → HasWord command word → (t : 
     → IfOk reply (λ d. d ≡ done (texts_differ t (changed_text t change)) fixed left) → IfOk reply (λ d. u ≡ changed_text t change)
     → IfOk reply (λ d. AddsRecord (texts_differ t (changed_text t change)) word (changed_edits t change) js ks) → IfOk reply (λ d. PutsMade command t js d u ks)
 push_here command word has t js change fixed left (Ok d) u ks makes turns replied put added =
-    (made_by t change fixed left, makes, (put, replied, adds command word has (texts_differ t (changed_text t change)) t js ks change fixed left refl makes turns added))
+    (made_by t change fixed left, makes, (put, replied, adds command word has (texts_differ t (changed_text t change)) t js ks change fixed left refl turns added))
 push_here command word has t js change fixed left (Err fault) u ks makes turns replied put added = replied
 
 push_lent : (command : Command) (word : Word) → HasWord command word → (lent t : List ℕ) (js : List JournalEntry) (change : Option NewText) (fixed left : ℕ) (reply : Result Done Fault) (u : List ℕ) (ks : List JournalEntry) → lent ≡ t
@@ -96,11 +95,11 @@ abbrev record_of : Word → Bool → EditList → List JournalEntry
 record_of word true edits = record { word = word; edits = edits } ∷ []
 record_of word false edits = []
 
-adds_first : (command : Command) (word : Word) → HasWord command word → (b : Bool) (text : List ℕ) (made : Rewrite) → Rewrites command text (Ok made) → Transforms made.edits text made.text
+adds_first : (command : Command) (word : Word) → HasWord command word → (b : Bool) (text : List ℕ) (made : Rewrite) → Transforms made.edits text made.text
     → AddsRecordOf b command text made [] (record_of word b made.edits)
-adds_first command word has true text made makes turns =
-    (record { word = word; edits = made.edits }, refl, record { made = made; makes = makes; text = refl; edits = refl; word = has; transforms = turns }, refl)
-adds_first command word has false text made makes turns = refl
+adds_first command word has true text made turns =
+    (record { word = word; edits = made.edits }, refl, record { word = has; edits = refl; transforms = turns })
+adds_first command word has false text made turns = refl
 
 pub formats : (text new : List ℕ) (p : Parsed) → IsParseOf text p → IsLayout p.scanned.text new → length new ≤ MAX_TEXT → Transforms (layout_edits p.scanned) p.scanned.text new
     → StepsTo Fmt text new
@@ -108,12 +107,12 @@ formats text new p reads layout short turns =
     let made : Rewrite = record { text = new; edits = layout_edits p.scanned; fixed = 0; left = 0 } in
     let makes = changes text new (layout_edits p.scanned) p reads layout short refl in
     let here = subst (λ (x : List ℕ). Transforms (layout_edits p.scanned) x new) reads.0 turns in
-    (done (texts_differ text new) 0 0, record_of Word.Fmt (texts_differ text new) (layout_edits p.scanned), (made, makes, (refl, refl, adds_first Fmt Word.Fmt refl (texts_differ text new) text made makes here)))
+    (done (texts_differ text new) 0 0, record_of Word.Fmt (texts_differ text new) (layout_edits p.scanned), (made, makes, (refl, refl, adds_first Fmt Word.Fmt refl (texts_differ text new) text made here)))
 
 pub fix_transforms : (rules : RuleSet) (text : List ℕ) (made : Rewrite) → Rewrites (Fix rules) text (Ok made) → Transforms made.edits text made.text
     → (records : List JournalEntry) × DoesStep (Fix rules) (without_records text) (done (texts_differ text made.text) made.fixed made.left) (with_records made.text records)
 fix_transforms rules text made makes turns =
-    (record_of Word.Fix (texts_differ text made.text) made.edits, (made, makes, (refl, refl, adds_first (Fix rules) Word.Fix refl (texts_differ text made.text) text made makes turns)))
+    (record_of Word.Fix (texts_differ text made.text) made.edits, (made, makes, (refl, refl, adds_first (Fix rules) Word.Fix refl (texts_differ text made.text) text made turns)))
 
 pub same_differ : (t : List ℕ) → texts_differ t t ≡ false
 same_differ t = rw ((bytes_eq-Decides t t).1 refl) refl

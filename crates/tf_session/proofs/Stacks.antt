@@ -33,21 +33,25 @@ abbrev PushesOntoStack : Command → Rewrite → List ℕ → List StackEntry �
 PushesOntoStack command made t below d u ks =
     (n : Stack) × PushesText command (Ok made) (stack t below) (Ok d) n × (u ≡ n.top) × IsJournalOfStack ks n.top n.below
 
-push_cases : (b : Bool) (command : Command) (made : Rewrite) (t : List ℕ) (below : List StackEntry) (js : List JournalEntry) (d : Done) (u : List ℕ) (ks : List JournalEntry)
+push_cases : (b : Bool) (command : Command) (made : Rewrite) (t : List ℕ) (below : List StackEntry) (js : List JournalEntry) (d : Done) (u : List ℕ) (ks : List JournalEntry) → Rewrites command t (Ok made)
     → texts_differ t made.text ≡ b → u ≡ made.text → d ≡ done (texts_differ t made.text) made.fixed made.left → AddsRecordOf b command t made js ks → IsJournalOfStack js t below
     → PushesOntoStack command made t below d u ks
-push_cases true command made t below js d u ks e um dd a st = (
+push_cases true command made t below js d u ks makes e um dd a st = (
   stack made.text ((record { text = t; command = command }) ∷ below),
   (ap (λ (x : Done). Ok x) dd, rw e refl),
   um,
-  (js, a.0, a.1, a.2, e, st),
+  (js, a.0, a.1, made, makes, refl, a.2, e, st),
 )
-push_cases false command made t below js d u ks e um dd a st = (
+push_cases false command made t below js d u ks makes e um dd a st = (
   stack t below,
   (ap (λ (x : Done). Ok x) dd, rw e refl),
   um ∙ sym (same_texts t made.text e),
   subst (λ (x : List JournalEntry). IsJournalOfStack x t below) (sym a) st,
 )
+
+-- the last record turns the text below the top into the top
+pub last_transforms : (records : List JournalEntry) (top : List ℕ) (under : StackEntry) (rest : List StackEntry) (st : IsJournalOfStack records top (under ∷ rest)) → record_transforms st.1 under.text top
+last_transforms records top under rest st = subst (λ (x : List ℕ). record_transforms st.1 under.text x) (sym st.5) st.6.transforms
 
 -- a step of a session, over a stack that its records represent
 abbrev Did : Command → List ℕ → List StackEntry → Done → List ℕ → List JournalEntry → Type 0
@@ -58,23 +62,23 @@ removed t [] js d u ks p st = absurd (not_nil ks p.0 (sym p.1 ∙ st))
 removed t (under ∷ rest) js d u ks p st =
     let earlier = st.0 in
     let lasts = same_last ks earlier p.0 st.1 (sym p.1 ∙ st.2) in
-    let turns : record_transforms p.0 under.text t = subst (λ (r : JournalEntry). record_transforms r under.text t) (sym lasts.1) st.3.transforms in
+    let turns : record_transforms p.0 under.text t = subst (λ (r : JournalEntry). record_transforms r under.text t) (sym lasts.1) (last_transforms js t under rest st) in
     let same : u ≡ under.text = sym (p.2.1 under.text turns) in
-    let changed : texts_differ u t ≡ true = ap (λ (x : List ℕ). texts_differ x t) same ∙ st.4 in (
+    let changed : texts_differ u t ≡ true = ap (λ (x : List ℕ). texts_differ x t) same ∙ st.7 in (
       stack under.text rest,
       (ap (λ (x : Done). Ok x) (p.3 ∙ ap (λ (b : Bool). done b 0 0) changed), refl),
       same,
-      subst (λ (x : List JournalEntry). IsJournalOfStack x under.text rest) (sym lasts.0) st.5,
+      subst (λ (x : List JournalEntry). IsJournalOfStack x under.text rest) (sym lasts.0) st.8,
     )
 
 pub did : (command : Command) → IsNotTake command → (t : List ℕ) (below : List StackEntry) (js : List JournalEntry) (d : Done) (u : List ℕ) (ks : List JournalEntry) → DoesStep command (with_records t js) d (with_records u ks) → IsJournalOfStack js t below → Did command t below d u ks
 did Fmt _ t below js d u ks p st =
     let made = p.0 in
-    let h = push_cases (texts_differ t made.text) Fmt made t below js d u ks refl p.2.0 p.2.1 p.2.2 st in
+    let h = push_cases (texts_differ t made.text) Fmt made t below js d u ks p.1 refl p.2.0 p.2.1 p.2.2 st in
     (h.0, (Ok made, p.1, h.1), h.2, h.3)
 did (Fix rules) _ t below js d u ks p st =
     let made = p.0 in
-    let h = push_cases (texts_differ t made.text) (Fix rules) made t below js d u ks refl p.2.0 p.2.1 p.2.2 st in
+    let h = push_cases (texts_differ t made.text) (Fix rules) made t below js d u ks p.1 refl p.2.0 p.2.1 p.2.2 st in
     (h.0, (Ok made, p.1, h.1), h.2, h.3)
 did Revert _ t below js d u ks p st = removed t below js d u ks p st
 did (Take n) untaken t below js d u ks p st = absurd untaken
@@ -96,7 +100,7 @@ module _ (unique : ChangeResultIsUnique) where
   refused_take t [] js (Fault.Refused refused) p st = absurd (not_nil p.1.0 p.0 (sym p.1.1 ∙ st))
   refused_take t (under ∷ rest) js (Fault.Refused refused) p st =
       let lasts = same_last p.1.0 st.0 p.0 st.1 (sym p.1.1 ∙ st.2) in
-      let turns = subst (λ (r : JournalEntry). record_transforms r under.text t) (sym lasts.1) st.3.transforms in
+      let turns = subst (λ (r : JournalEntry). record_transforms r under.text t) (sym lasts.1) (last_transforms js t under rest st) in
       absurd (undone_or_refused unique p.0.edits t under.text refused p.2 turns)
   refused_take t [] js Memory p st = absurd (not_nil p.1.0 p.0 (sym p.1.1 ∙ st))
   refused_take t (under ∷ rest) js Memory p st = (λ e. cc, refl)

@@ -23,22 +23,22 @@ HasWord (Fix rules) word = word ≡ Word.Fix
 HasWord Revert word = ⊥
 HasWord (Take n) word = ⊥
 
--- the record of a command that pushed the upper text on the lower: its word, the stated edits, and
--- it turns the one into the other
-pub record IsRecordOf (command : Command) (lower upper : List ℕ) (r : JournalEntry) : Type 0 where
-  pub made : Rewrite
-  pub makes : Rewrites command lower (Ok made)
-  pub text : upper ≡ made.text
-  pub edits : r.edits ≡ made.edits
+-- the record of a command that made this of a text: the command's word, the edits of what was made,
+-- and it turns the text into the new one
+pub record IsRecordOf (command : Command) (text : List ℕ) (made : Rewrite) (r : JournalEntry)
+    : Type 0 where
   pub word : HasWord command r.word
-  pub transforms : record_transforms r lower upper
+  pub edits : r.edits ≡ made.edits
+  pub transforms : record_transforms r text made.text
 
--- There is one record for each two neighbours, the oldest first, and neighbours differ.
+-- There is one record for each two neighbours, the oldest first: that of the command that made the
+-- upper of the lower. Neighbours differ.
 abbrev pub IsJournalOfStack : List JournalEntry → List ℕ → List StackEntry → Type 0
 IsJournalOfStack records top [] = records ≡ []
 IsJournalOfStack records top (under ∷ rest) =
     (earlier : List JournalEntry) × (r : JournalEntry) × (records ≡ earlier ++ r ∷ [])
-    × IsRecordOf under.command under.text top r
+    × (made : Rewrite) × Rewrites under.command under.text (Ok made) × (top ≡ made.text)
+    × IsRecordOf under.command under.text made r
     × (texts_differ under.text top ≡ true) × IsJournalOfStack earlier under.text rest
 
 -- ---- One command over any session, its journal from outside too: what the session has before and
@@ -49,14 +49,14 @@ abbrev pub AddsRecord : Bool → Word → EditList → List JournalEntry → Lis
 AddsRecord true word edits js ks = ks ≡ js ++ (record { word = word; edits = edits }) ∷ []
 AddsRecord false word edits js ks = ks ≡ js
 
--- a text that differs is the new one, with one record more, of just these edits; one that doesn't
--- adds none
-abbrev pub AddsRecordOf : Bool → Command → List ℕ → Rewrite → List JournalEntry → List JournalEntry → Type 0
-AddsRecordOf true command t made js ks =
-    (r : JournalEntry) × (ks ≡ js ++ r ∷ []) × IsRecordOf command t made.text r × (r.edits ≡ made.edits)
-AddsRecordOf false command t made js ks = ks ≡ js
+-- the record of a command that made this of a text is added, or nothing
+abbrev pub AddsRecordOf : Bool → Command → List ℕ → Rewrite → List JournalEntry
+    → List JournalEntry → Type 0
+AddsRecordOf true command text made js ks =
+    (r : JournalEntry) × (ks ≡ js ++ r ∷ []) × IsRecordOf command text made r
+AddsRecordOf false command text made js ks = ks ≡ js
 
--- the new text is what was made
+-- The new text is what was made. If it differs, its record is added.
 abbrev pub ReplacesText : Command → Rewrite → SessionContents → Done → SessionContents → Type 0
 ReplacesText command made old d new =
     (new.text ≡ made.text) × (d ≡ done (texts_differ old.text made.text) made.fixed made.left)
