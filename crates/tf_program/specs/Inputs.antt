@@ -1,8 +1,6 @@
 -- What the work on one input reads, what it writes, and its outcome.
 use Rattle.std.specs.Prelude.{◌≡◌, ◌<◌, ◌⊎◌, ℕ, true, false, List}
 use Rattle.tf_rules.specs.declared.rule_set.RuleSet.{RuleSet}
-use Rattle.tf_lint.specs.Reports.{Report, report_lines}
-use Rattle.tf_lint.specs.Steps.{IsReport}
 use Rattle.tf_stream.specs.Streams.{Source, Target, WritesBytes, Untouched}
 use Rattle.tf_session.specs.declared.command.Command.TheVariants.{Fix}
 use Rattle.tf_session.specs.declared.command.Done.{Done}
@@ -10,6 +8,7 @@ use Rattle.tf_session.specs.declared.command.Fault.{Fault}
 use Rattle.tf_session.specs.declared.fault.RunFault.{RunFault}
 use Rattle.tf_session.specs.declared.fault.SessionPart.{SessionPart}
 use Rattle.tf_session.specs.Faults.{run_fault_of}
+use Rattle.tf_session.specs.Invocations.{AreReportLines}
 use Rattle.tf_session.specs.LintStream as lines
 use Rattle.tf_session.specs.Records.{DoesStep, RefusesStep}
 use Rattle.tf_session.specs.Session.{SessionContents, without_records}
@@ -44,13 +43,11 @@ Lints name rules file_outcome source target =
 
 -- ---- fix
 
--- The fix of the old text and records makes the new ones; `left` is the lines of what the rules
--- report of the new text, in a file of this name.
+-- The fix makes the new text and records of the old ones; `left` is what is reported of it in a
+-- file of this name.
 abbrev pub FixesText : List ℕ → RuleSet → SessionContents → Done → List ℕ → SessionContents → Type 0
 FixesText name rules old d left new =
-    DoesStep (Fix rules) old d new
-    × (reported : List Report) × IsReport rules new.text reported
-    × (left ≡ report_lines name reported)
+    DoesStep (Fix rules) old d new × AreReportLines (Fix rules) name d new.text left
 
 -- The fix refuses text and records; or it succeeds, and memory runs out for those lines.
 abbrev pub NotFixed : RuleSet → SessionContents → RunFault → Type 0

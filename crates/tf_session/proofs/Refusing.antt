@@ -1,13 +1,14 @@
 -- What a stream answers where the whole text is refused, and what it does to a text alone.
 use Rattle.std.proofs.Common.{◌≡◌, ℕ, List, [], subst, refl, inl, inr}
 use Rattle.tf_rules.specs.declared.rule_set.RuleSet.{RuleSet}
-use Rattle.tf_stream.specs.Streams.{Source, Target, Untouched}
+use Rattle.tf_stream.specs.Streams.{Source, Target, ReadAtFault, Untouched}
+use Rattle.tf_stream.specs.declared.fault.ReadFault.{ReadFault}
 use Rattle.tf_session.specs.declared.command.Command.{Command}
 use Rattle.tf_session.specs.declared.command.Command.TheVariants.{Fmt}
 use Rattle.tf_session.specs.declared.command.Done.{Done}
 use Rattle.tf_session.specs.declared.command.Fault.{Fault}
-use Rattle.tf_session.specs.Faults.{run_fault_of}
-use Rattle.tf_session.specs.Streams.{ReadsText}
+use Rattle.tf_session.specs.Faults.{run_fault_of, run_fault_of_read}
+use Rattle.tf_session.specs.Streams.{ReadsText, ReadAllFault}
 use Rattle.tf_session.specs.Rewrites.{IsReadFault, RefusesText}
 use Rattle.tf_session.specs.Records.{DoesStep, RefusesStep}
 use Rattle.tf_session.specs.Session.{SessionContents, without_records}
@@ -28,6 +29,11 @@ pub refuses_alone : (command : Command) (contents : SessionContents) (text : Lis
 refuses_alone command contents text refusal same none why = subst (λ (x : SessionContents). RefusesStep command x refusal) (alone contents text same none) why
 
 -- ---- errors
+
+pub not_all_read : (limit : ℕ) (fault : ReadFault) (source : Source) → ReadAtFault limit fault source → ReadAllFault limit (run_fault_of_read fault) source
+not_all_read limit ReadFault.Read source read = read
+not_all_read limit ReadFault.Endless source read = read
+not_all_read limit ReadFault.Memory source read = read
 
 pub not_linted : (name : List ℕ) (rules : RuleSet) (refusal : Fault) (source : Source) (target : Target) (text : List ℕ)
     → ReadsText source text → IsReadFault text refusal → Untouched target → LintStreamFault name rules (run_fault_of refusal) source target

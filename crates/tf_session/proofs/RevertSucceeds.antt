@@ -8,7 +8,7 @@ use Rattle.edit_record.specs.Text.{record_text, journal_text, IsCurrentText, IsJ
 use Rattle.edit_record.specs.Decoding.{IsDecodeResult}
 use Rattle.edit_record.specs.declared.fault.RecordFault.{RecordFault}
 use Rattle.edit_record.specs.declared.fault.RecordFault.TheVariants.{BadHead, BadNumber, CutShort, BadEdits, BadEnd, BadSteps}
-use Rattle.tf_stream.specs.Streams.{Source, Target, ReadAtFault, WritesBytes}
+use Rattle.tf_stream.specs.Streams.{Source, Target, ReadsAll, ReadAtFault, WritesBytes}
 use Rattle.tf_stream.specs.declared.fault.ReadFault.{ReadFault}
 use Rattle.tf_session.specs.declared.command.Command.{Command}
 use Rattle.tf_session.specs.declared.command.Command.TheVariants.{Revert}
@@ -16,12 +16,12 @@ use Rattle.tf_session.specs.declared.command.Done.{Done}
 use Rattle.tf_session.specs.declared.command.Fault.{Fault}
 use Rattle.tf_session.specs.declared.fault.SessionPart.{SessionPart}
 use Rattle.tf_session.specs.declared.fault.RunFault.{RunFault}
-use Rattle.tf_session.specs.declared.fault.RunFault.TheVariants.{Scan, Memory, Write, Endless}
-use Rattle.tf_session.specs.Faults.{run_fault_of, run_fault_of_read, run_fault_of_record}
+use Rattle.tf_session.specs.declared.fault.RunFault.TheVariants.{Scan, Memory, Read, Write, Endless}
+use Rattle.tf_session.specs.Faults.{run_fault_of, run_fault_of_record}
 use Rattle.tf_session.specs.Records.{RefusesStep}
-use Rattle.tf_session.specs.Streams.{IsWriteFault}
-use Rattle.tf_session.specs.Journals.{MAX_JOURNAL, Loads, JournalTextFault, LoadReadFault, LoadDecodeFault, SaveFault, JournaledStreamFault}
-use Rattle.tf_session.specs.RevertRestores.{ReadsBack, AddsOneRecord, StreamsCommandAt, ReadsWhatWasWritten, Endpoints, is_from_outside, RevertSucceeds}
+use Rattle.tf_session.specs.Streams.{ReadAllFault, IsWriteFault}
+use Rattle.tf_session.specs.Journals.{MAX_JOURNAL, Loads, JournalTextFault, SaveFault, Endpoints, StreamsCommand, JournaledStreamFault}
+use Rattle.tf_session.specs.RevertRestores.{ReadsBack, AddsOneRecord, ReadsWhatWasWritten, is_from_outside, RevertSucceeds}
 use Rattle.tf_session.specs.Session.{SessionContents, with_records}
 use Rattle.tf_session.proofs.Lists.{not_nil, same_last}
 use Rattle.tf_session.proofs.Stacks.{undone_or_refused}
@@ -46,10 +46,12 @@ not_endless limit target source bytes back p short t =
     let within : length back.bytes ≤ limit = subst (λ (x : List ℕ). length x ≤ limit) (sym same) short in
     not_over source.before source.after t.0 back.bytes limit back.read t.1 within t.2
 
-read_fault : (fault : ReadFault) → (fault ≡ ReadFault.Endless → ⊥) → is_from_outside (run_fault_of_read fault) ≡ true
-read_fault ReadFault.Read never = refl
-read_fault ReadFault.Memory never = refl
-read_fault ReadFault.Endless never = absurd (never refl)
+-- what was read back was not all read, for an error from outside
+read_fault : (limit : ℕ) (fault : RunFault) (target : Target) (source : Source) (bytes : List ℕ) → ReadsBack target source → WritesBytes target bytes → length bytes ≤ limit → ReadAllFault limit fault source → is_from_outside fault ≡ true
+read_fault limit Memory target source bytes back p short t = refl
+read_fault limit Read target source bytes back p short t = refl
+read_fault limit Endless target source bytes back p short t = absurd (not_endless limit target source bytes back p short t)
+read_fault limit _ target source bytes back p short t = absurd t
 
 -- ---- what is read for the journal is the text of one
 
@@ -115,7 +117,7 @@ record Wrote (first : Endpoints) : Type 0 where
   journal_put : WritesBytes first.journal_out bytes
   text_put : WritesBytes first.text_out new
 
-wrote : (command : Command) (d : Done) (first : Endpoints) → AddsOneRecord command → StreamsCommandAt command d first → d.changed ≡ true → Wrote first
+wrote : (command : Command) (d : Done) (first : Endpoints) → AddsOneRecord command → StreamsCommand command d first → d.changed ≡ true → Wrote first
 wrote command d first other s changed =
     let (old, loads, new, does, saves) = s in
     let p = put command old.text old.records d new.text new.records other does changed in
@@ -142,17 +144,11 @@ loaded one first second w proceeds contents loads =
     let written : IsJournalText loads.1 (w.earlier ++ w.r ∷ []) = subst (λ (b : List ℕ). IsJournalText b (w.earlier ++ w.r ∷ [])) same_journal (inl w.is_text) in
     (sym same_text, one loads.1 contents.records (w.earlier ++ w.r ∷ []) loads.3 written)
 
-not_taken : (fault : ReadFault) (first second : Endpoints) (w : Wrote first) → ReadsWhatWasWritten first second → LoadReadFault fault second.text_in second.journal_in → fault ≡ ReadFault.Endless → ⊥
-not_taken fault first second w proceeds (inl p) e =
-    not_endless MAX_TEXT first.text_out second.text_in w.new proceeds.text w.text_put w.short (subst (λ (x : ReadFault). ReadAtFault MAX_TEXT x second.text_in) e p.0)
-not_taken fault first second w proceeds (inr p) e =
-    not_endless MAX_JOURNAL first.journal_out second.journal_in w.bytes proceeds.journal w.journal_put w.within (subst (λ (x : ReadFault). ReadAtFault MAX_JOURNAL x second.journal_in) e p.2)
-
-not_decoded : (fault : RecordFault) (first second : Endpoints) (w : Wrote first) → ReadsWhatWasWritten first second → LoadDecodeFault fault second.text_in second.journal_in → is_from_outside (run_fault_of_record fault) ≡ true
-not_decoded fault first second w proceeds p =
-    let same_journal : w.bytes ≡ p.1 = same_bytes _ first.journal_out second.journal_in w.bytes p.1 proceeds.journal w.journal_put p.3 in
-    let written : IsJournalText p.1 (w.earlier ++ w.r ∷ []) = subst (λ (b : List ℕ). IsJournalText b (w.earlier ++ w.r ∷ [])) same_journal (inl w.is_text) in
-    decoding fault p.1 (w.earlier ++ w.r ∷ []) written p.4
+not_decoded : (fault : RecordFault) (bytes : List ℕ) (first second : Endpoints) (w : Wrote first) → ReadsWhatWasWritten first second → ReadsAll MAX_JOURNAL second.journal_in bytes → IsDecodeResult bytes (Err fault) → is_from_outside (run_fault_of_record fault) ≡ true
+not_decoded fault bytes first second w proceeds all p =
+    let same_journal : w.bytes ≡ bytes = same_bytes _ first.journal_out second.journal_in w.bytes bytes proceeds.journal w.journal_put all in
+    let written : IsJournalText bytes (w.earlier ++ w.r ∷ []) = subst (λ (b : List ℕ). IsJournalText b (w.earlier ++ w.r ∷ [])) same_journal (inl w.is_text) in
+    decoding fault bytes (w.earlier ++ w.r ∷ []) written p
 
 kept_short : (first : Endpoints) (w : Wrote first) → length (journal_text w.earlier) ≤ MAX_JOURNAL
 kept_short first w =
@@ -165,10 +161,14 @@ outside : (fault given : RunFault) → fault ≡ given → is_from_outside given
 outside fault given e o = ap is_from_outside e ∙ o
 
 fault_of : ChangeResultIsUnique → TextIsOne → (first second : Endpoints) (w : Wrote first) → ReadsWhatWasWritten first second → (fault : RunFault)
-    → JournaledStreamFault Revert fault second.text_in second.journal_in second.journal_out second.text_out → is_from_outside fault ≡ true
-fault_of unique one first second w proceeds fault (inl (inl (taken, is, p), u, v)) = outside fault _ is (read_fault taken (not_taken taken first second w proceeds p))
-fault_of unique one first second w proceeds fault (inl (inr (reading, is, p), u, v)) = outside fault _ is (not_decoded reading first second w proceeds p)
-fault_of unique one first second w proceeds fault (inr (inl ((contents, loads, refusal, is, p), u, v))) =
+    → JournaledStreamFault Revert fault second → is_from_outside fault ≡ true
+fault_of unique one first second w proceeds fault (inl (inl (p, unread), nothing)) =
+    read_fault MAX_TEXT fault first.text_out second.text_in w.new proceeds.text w.text_put w.short p
+fault_of unique one first second w proceeds fault (inl (inr (inl (text, taken, p)), nothing)) =
+    read_fault MAX_JOURNAL fault first.journal_out second.journal_in w.bytes proceeds.journal w.journal_put w.within p
+fault_of unique one first second w proceeds fault (inl (inr (inr (text, bytes, taken, all, (reading, is, p))), nothing)) =
+    outside fault _ is (not_decoded reading bytes first second w proceeds all p)
+fault_of unique one first second w proceeds fault (inr (inl ((contents, loads, refusal, is, p), nothing))) =
     let (same_text, same_records) = loaded one first second w proceeds contents loads in
     let turns : record_transforms w.r w.text contents.text = subst (λ (x : List ℕ). record_transforms w.r w.text x) (sym same_text) w.transforms in
     outside fault _ is (refusing unique refusal w.text contents.text contents.records w.earlier w.r same_records turns p)

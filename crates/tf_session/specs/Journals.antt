@@ -2,21 +2,19 @@
 -- two targets.
 use Rattle.std.specs.Prelude.{◌≡◌, ◌≤◌, ◌<◌, ◌↔◌, ◌⊎◌, ℕ, Bool, true, false, List, length, Result, Err, IfOk, IfErr, IsErrOf, IsErrAnd}
 use Rattle.std.specs.Io.KnownBytes.{Keeps}
-use Rattle.hcl_scan.specs.Tokenization.{MAX_TEXT}
 use Rattle.edit_record.specs.Lists.Journal.{JournalEntry}
 use Rattle.edit_record.specs.Text.{journal_text, IsCurrentText, IsJournalText}
 use Rattle.edit_record.specs.Decoding.{IsDecodeResult}
 use Rattle.edit_record.specs.declared.fault.RecordFault.{RecordFault}
-use Rattle.tf_stream.specs.Streams.{Source, Target, ReadsAll, ReadAtFault, WritesBytes, Untouched}
-use Rattle.tf_stream.specs.declared.fault.ReadFault.{ReadFault}
+use Rattle.tf_stream.specs.Streams.{Source, Target, ReadsAll, WritesBytes, Untouched}
 use Rattle.tf_session.specs.declared.command.Command.{Command}
 use Rattle.tf_session.specs.declared.command.Done.{Done}
 use Rattle.tf_session.specs.declared.command.Fault.{Fault}
 use Rattle.tf_session.specs.declared.fault.RunFault.{RunFault}
 use Rattle.tf_session.specs.declared.fault.RunFault.TheVariants.{Memory, Read, Write, Endless}
 use Rattle.tf_session.specs.declared.fault.SessionPart.{SessionPart}
-use Rattle.tf_session.specs.Faults.{run_fault_of, run_fault_of_read, run_fault_of_record}
-use Rattle.tf_session.specs.Streams.{ReadsText, IsWriteFault, is_write}
+use Rattle.tf_session.specs.Faults.{run_fault_of, run_fault_of_record}
+use Rattle.tf_session.specs.Streams.{ReadsText, ReadAllFault, IsReadStreamFault, IsWriteFault, is_write}
 use Rattle.tf_session.specs.Records.{DoesStep, RefusesStep}
 use Rattle.tf_session.specs.Session.{SessionContents}
 
@@ -37,32 +35,20 @@ Loads contents text_in journal_in =
     ReadsText text_in contents.text × (bytes : List ℕ) × ReadsAll MAX_JOURNAL journal_in bytes
     × IsJournalText bytes contents.records
 
--- There is no whole text, and nothing was read for the journal; or there is one, and nothing whole
--- for the journal.
-abbrev pub LoadReadFault : ReadFault → Source → Source → Type 0
-LoadReadFault fault text_in journal_in =
-    (ReadAtFault MAX_TEXT fault text_in × Unread journal_in)
-    ⊎ ((text : List ℕ) × ReadsText text_in text × ReadAtFault MAX_JOURNAL fault journal_in)
-
--- Both are whole, and `decode` refuses what there is for the journal with this error.
-abbrev pub LoadDecodeFault : RecordFault → Source → Source → Type 0
-LoadDecodeFault fault text_in journal_in =
-    (text : List ℕ) × (bytes : List ℕ) × ReadsText text_in text
-    × ReadsAll MAX_JOURNAL journal_in bytes × IsDecodeResult bytes (Err fault)
-
 -- `decode` refuses these bytes, which are the text of no journal, or memory ran out
 abbrev pub BadJournalFault : List ℕ → RunFault → Type 0
 BadJournalFault bytes fault =
     (decoding : RecordFault) × (fault ≡ run_fault_of_record decoding)
     × IsDecodeResult bytes (Err decoding)
 
--- why nothing was loaded
+-- Why nothing was loaded: there is no whole text, and nothing was read for the journal; or there is
+-- nothing whole for the journal; or that is the text of no journal.
 abbrev pub LoadFault : RunFault → Source → Source → Type 0
 LoadFault fault text_in journal_in =
-    ((reading : ReadFault) × (fault ≡ run_fault_of_read reading)
-    × LoadReadFault reading text_in journal_in)
-    ⊎ ((decoding : RecordFault) × (fault ≡ run_fault_of_record decoding)
-    × LoadDecodeFault decoding text_in journal_in)
+    (IsReadStreamFault fault text_in × Unread journal_in)
+    ⊎ ((text : List ℕ) × ReadsText text_in text × ReadAllFault MAX_JOURNAL fault journal_in)
+    ⊎ ((text : List ℕ) × (bytes : List ℕ) × ReadsText text_in text
+    × ReadsAll MAX_JOURNAL journal_in bytes × BadJournalFault bytes fault)
 
 -- ---- what is put
 
@@ -99,43 +85,61 @@ IsWriteOf part _ = ⊥
 
 -- ---- one command between the two
 
+-- the sources and the targets of a call
+pub record Endpoints : Type 0 where
+  pub text_in : Source
+  pub journal_in : Source
+  pub journal_out : Target
+  pub text_out : Target
+
+abbrev pub endpoints_of : Source → Source → Target → Target → Endpoints
+endpoints_of text_in journal_in journal_out text_out =
+    record {
+      text_in = text_in;
+      journal_in = journal_in;
+      journal_out = journal_out;
+      text_out = text_out;
+    }
+
+-- nothing was written to the targets
+abbrev pub NothingWritten : Endpoints → Type 0
+NothingWritten e = Untouched e.journal_out × Untouched e.text_out
+
 -- The sources had a text and a journal; the command made this of them, and that was written to the
 -- targets.
-abbrev pub StreamsCommand : Command → Done → Source → Source → Target → Target → Type 0
-StreamsCommand command d text_in journal_in journal_out text_out =
-    (old : SessionContents) × Loads old text_in journal_in
-    × (new : SessionContents) × DoesStep command old d new × Saves new journal_out text_out
+abbrev pub StreamsCommand : Command → Done → Endpoints → Type 0
+StreamsCommand command d e =
+    (old : SessionContents) × Loads old e.text_in e.journal_in
+    × (new : SessionContents) × DoesStep command old d new × Saves new e.journal_out e.text_out
 
 -- the command refused what was loaded
-abbrev pub CommandFault : Command → RunFault → Source → Source → Type 0
-CommandFault command fault text_in journal_in =
-    (old : SessionContents) × Loads old text_in journal_in
+abbrev pub CommandFault : Command → RunFault → Endpoints → Type 0
+CommandFault command fault e =
+    (old : SessionContents) × Loads old e.text_in e.journal_in
     × (refusal : Fault) × (fault ≡ run_fault_of refusal) × RefusesStep command old refusal
 
--- the command was done on what was loaded, and what it made was not all put
-abbrev pub ResultSaveFault : Command → RunFault → Source → Source → Target → Target → Type 0
-ResultSaveFault command fault text_in journal_in journal_out text_out =
-    (old : SessionContents) × Loads old text_in journal_in
+-- the command was done on what was loaded, and not all that it made was written
+abbrev pub ResultSaveFault : Command → RunFault → Endpoints → Type 0
+ResultSaveFault command fault e =
+    (old : SessionContents) × Loads old e.text_in e.journal_in
     × (d : Done) × (new : SessionContents) × DoesStep command old d new
-    × SaveFault fault new journal_out text_out
+    × SaveFault fault new e.journal_out e.text_out
 
--- Nothing was loaded, and nothing put; or the command was refused, and nothing put; or not all that
--- it made was put.
-abbrev pub JournaledStreamFault : Command → RunFault → Source → Source → Target → Target → Type 0
-JournaledStreamFault command fault text_in journal_in journal_out text_out =
-    (LoadFault fault text_in journal_in × Untouched journal_out × Untouched text_out)
-    ⊎ (CommandFault command fault text_in journal_in × Untouched journal_out × Untouched text_out)
-    ⊎ ResultSaveFault command fault text_in journal_in journal_out text_out
+-- Nothing was loaded, or the command was refused, and nothing was written; or not all that it made
+-- was written.
+abbrev pub JournaledStreamFault : Command → RunFault → Endpoints → Type 0
+JournaledStreamFault command fault e =
+    (LoadFault fault e.text_in e.journal_in × NothingWritten e)
+    ⊎ (CommandFault command fault e × NothingWritten e)
+    ⊎ ResultSaveFault command fault e
 
 -- What a command from a text and its journal to both returns, and what it leaves in the targets:
 -- at any error but Write as much as was there.
 pub record JournaledStreamResult (command : Command) (result : Result Done RunFault)
-    (text_in journal_in : Source) (journal_out text_out : Target) : Type 0 where
-  pub done : IfOk result (λ d. StreamsCommand command d text_in journal_in journal_out text_out)
-  pub fault : IfErr result
-      (λ fault. JournaledStreamFault command fault text_in journal_in journal_out text_out)
-  pub journal_untouched : IfErr result (λ fault. is_write fault ≡ false → Untouched journal_out)
-  pub text_untouched : IfErr result (λ fault. is_write fault ≡ false → Untouched text_out)
+    (e : Endpoints) : Type 0 where
+  pub done : IfOk result (λ d. StreamsCommand command d e)
+  pub fault : IfErr result (λ fault. JournaledStreamFault command fault e)
+  pub untouched : IfErr result (λ fault. is_write fault ≡ false → NothingWritten e)
 
 -- The error reports which streams have failed: Read one of the readers, Write the writer of its part.
 pub record ReportsFailures (result : Result Done RunFault)

@@ -7,7 +7,7 @@ use Rattle.tf_session.specs.declared.command.Done.{Done}
 use Rattle.tf_session.specs.declared.fault.RunFault.{RunFault}
 use Rattle.tf_session.specs.declared.fault.RunFault.TheVariants.{Memory, Read, Write}
 use Rattle.tf_session.specs.Machine.{done}
-use Rattle.tf_session.specs.Journals.{Loads, Saves, StreamsCommand, JournaledStreamFault}
+use Rattle.tf_session.specs.Journals.{Loads, Saves, Endpoints, StreamsCommand, JournaledStreamFault}
 use Rattle.tf_session.specs.Session.{SessionContents}
 
 -- the source has just what was written to the target, which held nothing before
@@ -16,20 +16,6 @@ pub record ReadsBack (target : Target) (source : Source) : Type 0 where
   pub empty : target.before ≡ Some []
   pub written : target.after ≡ Some bytes
   pub read : source.before ≡ Some bytes
-
--- the sources and the targets of a call
-pub record Endpoints : Type 0 where
-  pub text_in : Source
-  pub journal_in : Source
-  pub journal_out : Target
-  pub text_out : Target
-
-abbrev pub StreamsCommandAt : Command → Done → Endpoints → Type 0
-StreamsCommandAt command d e = StreamsCommand command d e.text_in e.journal_in e.journal_out e.text_out
-
-abbrev pub JournaledStreamFaultAt : Command → RunFault → Endpoints → Type 0
-JournaledStreamFaultAt command fault e =
-    JournaledStreamFault command fault e.text_in e.journal_in e.journal_out e.text_out
 
 -- The second call reads what the first one wrote.
 pub record ReadsWhatWasWritten (first second : Endpoints) : Type 0 where
@@ -46,8 +32,8 @@ AddsOneRecord _ = ⊥
 -- text again, with the journal as it was read.
 abbrev pub RevertRestores : Type 0
 RevertRestores = (command : Command) (d again : Done) (first second : Endpoints) → AddsOneRecord command
-    → StreamsCommandAt command d first → d.changed ≡ true
-    → ReadsWhatWasWritten first second → StreamsCommandAt Revert again second
+    → StreamsCommand command d first → d.changed ≡ true
+    → ReadsWhatWasWritten first second → StreamsCommand Revert again second
     → (old : SessionContents) × Loads old first.text_in first.journal_in
     × Saves old second.journal_out second.text_out × (again ≡ done true 0 0)
 
@@ -61,6 +47,6 @@ is_from_outside _ = false
 -- That revert is never refused for what it reads.
 abbrev pub RevertSucceeds : Type 0
 RevertSucceeds = (command : Command) (d : Done) (first second : Endpoints) → AddsOneRecord command
-    → StreamsCommandAt command d first → d.changed ≡ true
-    → ReadsWhatWasWritten first second → (fault : RunFault) → JournaledStreamFaultAt Revert fault second
-    → is_from_outside fault ≡ true
+    → StreamsCommand command d first → d.changed ≡ true
+    → ReadsWhatWasWritten first second → (fault : RunFault)
+    → JournaledStreamFault Revert fault second → is_from_outside fault ≡ true

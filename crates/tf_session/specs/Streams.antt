@@ -13,12 +13,16 @@ use Rattle.tf_session.specs.Faults.{run_fault_of}
 abbrev pub ReadsText : Source → List ℕ → Type 0
 ReadsText source text = ReadsAll MAX_TEXT source text
 
+-- why not all of the source was read within a limit, and what was read of it
+abbrev pub ReadAllFault : ℕ → RunFault → Source → Type 0
+ReadAllFault limit Memory source = ReadAtFault limit ReadFault.Memory source
+ReadAllFault limit Read source = ReadAtFault limit ReadFault.Read source
+ReadAllFault limit Endless source = ReadAtFault limit ReadFault.Endless source
+ReadAllFault limit _ source = ⊥
+
 -- why there is no text, and what was read of the source
 abbrev pub IsReadStreamFault : RunFault → Source → Type 0
-IsReadStreamFault Memory source = ReadAtFault MAX_TEXT ReadFault.Memory source
-IsReadStreamFault Read source = ReadAtFault MAX_TEXT ReadFault.Read source
-IsReadStreamFault Endless source = ReadAtFault MAX_TEXT ReadFault.Endless source
-IsReadStreamFault _ source = ⊥
+IsReadStreamFault fault source = ReadAllFault MAX_TEXT fault source
 
 -- the error is Write of this part, and just the bytes that it says were sent are in the target
 abbrev pub IsWriteFault : SessionPart → RunFault → Target → List ℕ → Type 0

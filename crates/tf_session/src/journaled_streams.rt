@@ -5,7 +5,9 @@ ghost use Rattle.tf_stream.specs.Told.{has_failed};
 ghost use Rattle.tf_stream.specs.Streams.{source_of, target_of, Untouched};
 ghost use Rattle.tf_session.specs.Streams.{is_write};
 ghost use Rattle.tf_session.specs.declared.command.Command.TheVariants.{Fmt, Fix, Revert};
-ghost use Rattle.tf_session.specs.Journals.{IsWriteOf, StreamsCommand, JournaledStreamFault, JournaledStreamResult, ReportsFailures};
+ghost use Rattle.tf_session.specs.Journals.{IsWriteOf, endpoints_of, StreamsCommand};
+ghost use Rattle.tf_session.specs.Journals.{JournaledStreamFault, JournaledStreamResult};
+ghost use Rattle.tf_session.specs.Journals.{ReportsFailures};
 
 use crate::loader::load;
 use crate::saver::save;
@@ -31,11 +33,10 @@ pub fn fmt_stream<R: Read, J: Read, K: Write, W: Write>(
     requires journal_not_failed { has_failed journal.old ≡ false }
     requires journal_out_not_failed { has_failed journal_out.old ≡ false }
     requires text_out_not_failed { has_failed text_out.old ≡ false }
-    ensures streams { JournaledStreamResult Fmt result
-        (source_of R.remaining text.old text.new)
-        (source_of J.remaining journal.old journal.new)
+    ensures streams { JournaledStreamResult Fmt result (endpoints_of
+        (source_of R.remaining text.old text.new) (source_of J.remaining journal.old journal.new)
         (target_of K.contents journal_out.old journal_out.new)
-        (target_of W.contents text_out.old text_out.new) }
+        (target_of W.contents text_out.old text_out.new)) }
     ensures failed { ReportsFailures result (has_failed text.new) (has_failed journal.new)
         (has_failed journal_out.new) (has_failed text_out.new) }
 {
@@ -61,11 +62,10 @@ pub fn fix_stream<R: Read, J: Read, K: Write, W: Write>(
     requires journal_not_failed { has_failed journal.old ≡ false }
     requires journal_out_not_failed { has_failed journal_out.old ≡ false }
     requires text_out_not_failed { has_failed text_out.old ≡ false }
-    ensures streams { JournaledStreamResult (Fix rules) result
-        (source_of R.remaining text.old text.new)
-        (source_of J.remaining journal.old journal.new)
+    ensures streams { JournaledStreamResult (Fix rules) result (endpoints_of
+        (source_of R.remaining text.old text.new) (source_of J.remaining journal.old journal.new)
         (target_of K.contents journal_out.old journal_out.new)
-        (target_of W.contents text_out.old text_out.new) }
+        (target_of W.contents text_out.old text_out.new)) }
     ensures failed { ReportsFailures result (has_failed text.new) (has_failed journal.new)
         (has_failed journal_out.new) (has_failed text_out.new) }
 {
@@ -97,11 +97,10 @@ pub fn revert_stream<R: Read, J: Read, K: Write, W: Write>(
     requires journal_not_failed { has_failed journal.old ≡ false }
     requires journal_out_not_failed { has_failed journal_out.old ≡ false }
     requires text_out_not_failed { has_failed text_out.old ≡ false }
-    ensures streams { JournaledStreamResult Revert result
-        (source_of R.remaining text.old text.new)
-        (source_of J.remaining journal.old journal.new)
+    ensures streams { JournaledStreamResult Revert result (endpoints_of
+        (source_of R.remaining text.old text.new) (source_of J.remaining journal.old journal.new)
         (target_of K.contents journal_out.old journal_out.new)
-        (target_of W.contents text_out.old text_out.new) }
+        (target_of W.contents text_out.old text_out.new)) }
     ensures failed { ReportsFailures result (has_failed text.new) (has_failed journal.new)
         (has_failed journal_out.new) (has_failed text_out.new) }
 {
@@ -123,16 +122,14 @@ fn command_stream<R: Read, J: Read, K: Write, W: Write>(
     requires journal_not_failed { has_failed journal.old ≡ false }
     requires journal_out_not_failed { has_failed journal_out.old ≡ false }
     requires text_out_not_failed { has_failed text_out.old ≡ false }
-    ensures done { IfOk result
-        (λ d. StreamsCommand command d (source_of R.remaining text.old text.new)
-        (source_of J.remaining journal.old journal.new)
+    ensures done { IfOk result (λ d. StreamsCommand command d (endpoints_of
+        (source_of R.remaining text.old text.new) (source_of J.remaining journal.old journal.new)
         (target_of K.contents journal_out.old journal_out.new)
-        (target_of W.contents text_out.old text_out.new)) }
-    ensures fault { IfErr result
-        (λ fault. JournaledStreamFault command fault (source_of R.remaining text.old text.new)
-        (source_of J.remaining journal.old journal.new)
+        (target_of W.contents text_out.old text_out.new))) }
+    ensures fault { IfErr result (λ fault. JournaledStreamFault command fault (endpoints_of
+        (source_of R.remaining text.old text.new) (source_of J.remaining journal.old journal.new)
         (target_of K.contents journal_out.old journal_out.new)
-        (target_of W.contents text_out.old text_out.new)) }
+        (target_of W.contents text_out.old text_out.new))) }
     ensures journal_untouched { IfErr result
         (λ fault. is_write fault ≡ false
         → Untouched (target_of K.contents journal_out.old journal_out.new)) }

@@ -2,11 +2,10 @@
 
 ghost use Rattle.std.specs.Prelude.{◌≡◌, ◌↔◌, ◌⊎◌, true, false, IfOk, IfErr, IsErrOf};
 ghost use Rattle.tf_stream.specs.Told.{has_failed};
-ghost use Rattle.tf_stream.specs.Streams.{source_of, ReadsAll, ReadAtFault};
-ghost use Rattle.tf_stream.specs.declared.fault.ReadFault.{ReadFault};
-ghost use Rattle.tf_session.specs.Faults.{run_fault_of_read};
+ghost use Rattle.tf_stream.specs.Streams.{source_of, ReadsAll};
 ghost use Rattle.tf_session.specs.Session.{contents_of};
 ghost use Rattle.tf_session.specs.Journals.{MAX_JOURNAL, Loads, LoadFault};
+ghost use Rattle.tf_session.specs.Streams.{ReadAllFault};
 
 use crate::{RunFault, Session, Told};
 use edit_record::decode_owned;
@@ -27,8 +26,8 @@ pub fn take_journal<R: Read>(alloc: Global, reader: &mut Told<R>) -> Result<Vec<
     requires { has_failed reader.old ≡ false }
     ensures bytes { IfOk result
         (λ bytes. ReadsAll MAX_JOURNAL (source_of R.remaining reader.old reader.new) bytes.items) }
-    ensures fault { IfErr result (λ fault. (reading : ReadFault) × (fault ≡ run_fault_of_read reading)
-        × ReadAtFault MAX_JOURNAL reading (source_of R.remaining reader.old reader.new)) }
+    ensures fault { IfErr result
+        (λ fault. ReadAllFault MAX_JOURNAL fault (source_of R.remaining reader.old reader.new)) }
     ensures read { IsErrOf result RunFault.Read ↔ has_failed reader.new ≡ true }
 {
     match read_to_limit(alloc, MAX_JOURNAL, reader) {

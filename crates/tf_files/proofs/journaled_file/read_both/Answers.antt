@@ -1,17 +1,16 @@
 -- The text is not read whole, or the journal is not.
 use Rattle.std.proofs.Common.{◌≡◌, Err, rules}
-use Rattle.tf_files.proofs.Reading.{text_fault, journal_fault}
+use Rattle.tf_files.proofs.Reading.{read_fault}
 use Rattle.tf_files.proofs.journaled_file.read_both.Goals as goal
 
 pub returns-in_err-text : goal.returns-in_err-text
 returns-in_err-text g c =
     let fault = c.in_err-text.field-0.0 in
     let answer : c.from_residual.result ≡ Err fault = search rules in
-    rw answer (text_fault fault _ c.in_err-text.ensures.fault)
+    rw answer (read_fault _ fault _ c.in_err-text.ensures.fault)
 
 pub returns-in_err-journal : goal.returns-in_err-journal
 returns-in_err-journal g c =
     let fault = c.in_err-journal.field-0.0 in
     let answer : c.from_residual-in_err-journal.result ≡ Err fault = search rules in
-    let (reading, is, read) = c.in_err-journal.ensures.fault in
-    rw answer (journal_fault fault reading is)
+    rw answer (read_fault _ fault _ c.in_err-journal.ensures.fault)

@@ -1,4 +1,5 @@
 -- The clauses of `command_stream`, as fields.
+use Rattle.tf_session.proofs.JournalRefusing.{nothing_written}
 use Rattle.tf_session.proofs.journaled_streams.fix_stream.Goals as goal
 
 pub returns-clause-streams : goal.returns-clause-streams
@@ -7,8 +8,7 @@ returns-clause-streams g c =
     record {
       done = result.done;
       fault = result.fault;
-      journal_untouched = result.journal_untouched;
-      text_untouched = result.text_untouched;
+      untouched = nothing_written c.command_stream.result _ _ result.journal_untouched result.text_untouched;
     }
 
 pub returns-clause-failed : goal.returns-clause-failed

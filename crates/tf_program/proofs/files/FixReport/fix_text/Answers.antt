@@ -21,4 +21,4 @@ returns-clause-done c =
     let remains = subst (λ (t : List ℕ). IsRemaining c.args.rules t c.in_ok-text.left) (sym c.deref.ensures.value) c.in_ok-text.ensures.left in
     let (told, report, lines) = c.in_ok-lines.ensures.lines c.args.rules remains in
     let here = subst (λ (t : List ℕ). IsReport c.args.rules t told) c.deref.ensures.value report in
-    (records, (does, told, here, bytes ∙ lines))
+    (records, (does, (told, here, bytes ∙ lines)))
