@@ -21,3 +21,4 @@ pub mod JournalRefusing
 pub mod RevertSucceeds
 pub mod Saving
 pub mod Invocations
+pub mod FormerForms
