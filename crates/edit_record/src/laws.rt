@@ -34,8 +34,8 @@ pub fn first_error_is_unique()
 /// If the text of some records, followed by more bytes, is the text of a journal, then the journal
 /// begins with these records, and the bytes are the text of the others.
 pub fn text_prefix_is_unambiguous()
-    ensures { (front more : List ℕ) (rs ss : List JournalEntry) → IsCurrentText front rs
-        → IsCurrentText (front ++ more) ss
+    ensures { (prefix more : List ℕ) (rs ss : List JournalEntry) → IsCurrentText prefix rs
+        → IsCurrentText (prefix ++ more) ss
         → (others : List JournalEntry) × (ss ≡ rs ++ others) × IsCurrentText more others }
 {}
 

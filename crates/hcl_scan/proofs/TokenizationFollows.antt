@@ -256,11 +256,11 @@ follows_from (p ∷ ps) modes last m nested u is_white c =
     let nested_following : AreNested following = nested_after p.kind p.spelling modes c.1.0.0 nested in
     let rest : Rest (mode_of following) ps last = rest_of following ps last is_white c.2 in
     let is : token mode (p.spelling ++ more) ≡ Some (p.kind, length p.spelling) = longest_found mode p.kind p.spelling more marked u_token c.1 in
-    let asks : AllowsNext p.kind ps last = allows_next_of modes p.kind p.spelling ps last is c.1.0 rest in
-    let has_following : HasFollowing modes p.kind p.spelling ps last = (m, c.1.0.0, asks, marker_of_mode following m_following, rest) in
+    let allowed : AllowsNext p.kind ps last = allows_next_of modes p.kind p.spelling ps last is c.1.0 rest in
+    let has_following : HasFollowing modes p.kind p.spelling ps last = (m, c.1.0.0, allowed, marker_of_mode following m_following, rest) in
     let lexeme : IsLexeme mode p.kind p.spelling (following_text ps last) =
     (c.1.0.0, spells_alike mode p.kind p.spelling more (following_text ps last) marked c.1.0.0 (near modes p.kind p.spelling ps last has_following nested) c.1.0.1) in
-    (c.0, utf8_prefix p.spelling more u_token u_more, lexeme, asks, follows_from ps following last m_following nested_following u_more is_white c.2)
+    (c.0, utf8_prefix p.spelling more u_token u_more, lexeme, allowed, follows_from ps following last m_following nested_following u_more is_white c.2)
 
 -- ---- the text
 

@@ -92,10 +92,11 @@ impl<'t> Scanned<'t> {
 
     /// Returns the text with its tokens, which were detached.
     pub fn attach(text: &'t [u8], list: TokenList) -> Scanned<'t>
-        requires { (cut : TokenizedText) × (cut.text ≡ text.now) × IsTokenListOf cut list
-            × IsTokenization cut.text cut.pairs cut.last }
-        ensures { (cut : TokenizedText) → cut.text ≡ text.now → IsTokenListOf cut list
-            → result ≡ cut }
+        requires { (tokenized : TokenizedText) × (tokenized.text ≡ text.now)
+            × IsTokenListOf tokenized list
+            × IsTokenization tokenized.text tokenized.pairs tokenized.last }
+        ensures { (tokenized : TokenizedText) → tokenized.text ≡ text.now
+            → IsTokenListOf tokenized list → result ≡ tokenized }
     {
         Scanned {
             tokens: Tokens::attach(text, list),

@@ -81,9 +81,9 @@ put_after old leading back new last mark is h other back_is new_is =
 
 pub silenced_after : (rule : Rule) (line : ℕ) (marks others : List Annotation) (m : Annotation) (answer : Bool) → marks ≡ m ∷ others → CanSilence line marks → covers rule line m ≡ false
     → answer ≡ is_silenced_by rule line (take 1 others) → answer ≡ is_silenced_by rule line marks
-silenced_after rule line marks others m answer is next off told =
+silenced_after rule line marks others m answer is next off result_is =
     let n = subst (CanSilence line) is next in
-    told ∙ (sym (two_alone rule line m.line others n.1.0 n.1.1 n.0) ∙ (ap (λ b. b || is_silenced_by rule line others) (sym off) ∙ ap (is_silenced_by rule line) (sym is)))
+    result_is ∙ (sym (two_alone rule line m.line others n.1.0 n.1.1 n.0) ∙ (ap (λ b. b || is_silenced_by rule line others) (sym off) ∙ ap (is_silenced_by rule line) (sym is)))
 
 pub order_left : (rest others : List Annotation) (m : Annotation) → rest ≡ m ∷ others → (b : ℕ) × AreLinesIncreasing 0 rest b → (b : ℕ) × AreLinesIncreasing 0 others b
 order_left rest others m is (b, h) = (b, lines_increase_from m.line 0 others b (subst (λ l. AreLinesIncreasing 0 l b) is h).1 (omega arith))

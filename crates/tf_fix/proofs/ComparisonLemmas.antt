@@ -53,10 +53,10 @@ pub loop_step : (pairs : List Pair) (last : List ℕ) (whole done : List EditEnt
       added = added there (replacement_parts pairs one.from one.to one.first one.insertion) (slice_range (parts_of pairs last) (boundary_index one.to) (next_index (2 * length pairs + 1) (replacements pairs rest)));
     }
     → IsCompared pairs last whole (done ++ e ∷ []) (prev_after there (replacement_parts pairs one.from one.to one.first one.insertion)) (boundary_index one.to) rest
-loop_step pairs last whole done e prev there at one rest told near_is e_is =
+loop_step pairs last whole done e prev there at one rest compared near_is e_is =
     let xs = parts_of pairs last in
     let stay = staying_is pairs last (boundary_index one.to) (replacements pairs rest) in
-    let next = first_change xs prev at (record { from = boundary_index one.from; to = boundary_index one.to; inserted_parts = replacement_parts pairs one.from one.to one.first one.insertion }) (replacements pairs rest) told.1.0 told.1.1 in
+    let next = first_change xs prev at (record { from = boundary_index one.from; to = boundary_index one.to; inserted_parts = replacement_parts pairs one.from one.to one.first one.insertion }) (replacements pairs rest) compared.1.0 compared.1.1 in
     let said : done ++ (e ∷ changed_entries (length (text_of_parts (take (boundary_index one.to) xs))) (pieces_from (prev_after there (replacement_parts pairs one.from one.to one.first one.insertion)) (boundary_index one.to) xs (replacements pairs rest))) ≡ whole =
-    rw (e_is, ← stay, near_is, ← next) told.0 in
-    (append_assoc done (e ∷ []) _ ∙ said, told.1.2, told.2.1)
+    rw (e_is, ← stay, near_is, ← next) compared.0 in
+    (append_assoc done (e ∷ []) _ ∙ said, compared.1.2, compared.2.1)

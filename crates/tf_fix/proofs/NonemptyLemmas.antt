@@ -53,8 +53,8 @@ identifier_some (b ∷ t) h = omega arith
 first_is_not : (k b : ℕ) (t : List ℕ) → k < 128 → is_id_start k ≡ false → is_identifier (chars (b ∷ t)) ≡ true → (b == k) ≡ false
 first_is_not k b t low none h = ne_eqb b k (λ same.
     let begun : is_identifier (chars (k ∷ t)) ≡ true = subst (λ x. is_identifier (chars (x ∷ t)) ≡ true) same h in
-    let told : is_identifier (chars (k ∷ t)) ≡ (is_id_start k && list_all is_id_continue (chars t)) = ap is_identifier (chars_first k t low) in
-    absurd (false≢true (sym (told ∙ ap (λ x. x && list_all is_id_continue (chars t)) none) ∙ begun)))
+    let unfolded : is_identifier (chars (k ∷ t)) ≡ (is_id_start k && list_all is_id_continue (chars t)) = ap is_identifier (chars_first k t low) in
+    absurd (false≢true (sym (unfolded ∙ ap (λ x. x && list_all is_id_continue (chars t)) none) ∙ begun)))
 
 dash_starts : is_id_start 45 ≡ false
 dash_starts = rw (is_xid_start-ascii 45 (omega arith)) refl

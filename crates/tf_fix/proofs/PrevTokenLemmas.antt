@@ -18,17 +18,17 @@ is_not b both f p = absurd (cc (both.1 p, f))
 
 pub start_at : (pairs : List Pair) (last : List ℕ) (i : ℕ) (item : Item) → i < length pairs → Some item ≡ item_of pairs i
     → item.start ≡ length (text_of_parts (take (2 * i + 1) (parts_of pairs last)))
-start_at pairs last i item lt told =
+start_at pairs last i item lt result_is =
     let (p, found, leading) = known pairs i lt in
-    let is : Some item ≡ Some (item_after (take i pairs) p) = told ∙ ap (option_map (λ (q : Pair). item_after (take i pairs) q)) found in
+    let is : Some item ≡ Some (item_after (take i pairs) p) = result_is ∙ ap (option_map (λ (q : Pair). item_after (take i pairs) q)) found in
     let same : item ≡ item_after (take i pairs) p = cc is in
     ap (λ (x : Item). x.start) same ∙ ap length (sym (start_text pairs last i p found))
 
 pub stop_at : (pairs : List Pair) (last : List ℕ) (i : ℕ) (item : Item) → i < length pairs → Some item ≡ item_of pairs i
     → item.stop ≡ length (text_of_parts (take (2 * i + 2) (parts_of pairs last)))
-stop_at pairs last i item lt told =
+stop_at pairs last i item lt result_is =
     let (p, found, leading) = known pairs i lt in
-    let is : Some item ≡ Some (item_after (take i pairs) p) = told ∙ ap (option_map (λ (q : Pair). item_after (take i pairs) q)) found in
+    let is : Some item ≡ Some (item_after (take i pairs) p) = result_is ∙ ap (option_map (λ (q : Pair). item_after (take i pairs) q)) found in
     let same : item ≡ item_after (take i pairs) p = cc is in
     ap (λ (x : Item). x.stop) same ∙ ap length (sym (stop_text pairs last i p found))
 
@@ -41,10 +41,10 @@ strictly n m le other = elim (nat_lt n m) as (λ b. nat_lt n m ≡ b → n < m) 
 -- a gap with a token before it
 pub prev_token : (pairs : List Pair) (last : List ℕ) (prev : Prev) (from i : ℕ) (view : Prev) → from ≤ 2 * i → (from ≡ 2 * i → ⊥) → i ≤ length pairs
     → Some view ≡ option_map prev_at (slice_get pairs (i - 1)) → view ≡ prev_after prev (slice_range (parts_of pairs last) from (2 * i))
-prev_token pairs last prev from i view le other within told =
+prev_token pairs last prev from i view le other within result_is =
     let some : from < 2 * i = strictly from (2 * i) le other in
     let (p, found, leading) = known pairs (i - 1) (omega (arith, some, within)) in
-    let is : Some view ≡ Some (prev_at p) = told ∙ ap (option_map prev_at) found in
+    let is : Some view ≡ Some (prev_at p) = result_is ∙ ap (option_map prev_at) found in
     let same : view ≡ prev_at p = cc is in
     let two : 2 * i ≡ 2 * (i - 1) + 1 + 1 = omega (arith, some) in
     let whole = range_last (parts_of pairs last) from (2 * (i - 1) + 1) (Token p.kind p.spelling) _ (omega (arith, some)) (token_first pairs last (i - 1) p found) in
@@ -53,18 +53,18 @@ prev_token pairs last prev from i view le other within told =
 pub prev_empty : (pairs : List Pair) (last : List ℕ) (prev : Prev) (from i : ℕ) (gap : List ℕ) (view : Prev) → from ≤ 2 * i → i < length pairs
     → Some gap ≡ gap_of pairs i → gap ≡ [] → view ≡ prev_after prev (slice_range (parts_of pairs last) from (2 * i))
     → view ≡ prev_after prev (slice_range (parts_of pairs last) from (2 * i + 1))
-prev_empty pairs last prev from i gap view le lt told empty same =
+prev_empty pairs last prev from i gap view le lt result_is empty same =
     let (p, found, leading) = known pairs i lt in
-    let is : Some gap ≡ Some p.gap = told ∙ ap (option_map (λ (q : Pair). q.gap)) found in
+    let is : Some gap ≡ Some p.gap = result_is ∙ ap (option_map (λ (q : Pair). q.gap)) found in
     let none : p.gap ≡ [] = cc (is, empty) in
     let whole = range_last (parts_of pairs last) from (2 * i) (Gap p.gap) _ le (gap_and_token_first pairs last i p found) in
     same ∙ sym (after_empty prev (slice_range (parts_of pairs last) from (2 * i)) p.gap none) ∙ ap (prev_after prev) (sym whole)
 
 pub prev_whitespace : (pairs : List Pair) (last : List ℕ) (prev : Prev) (from i : ℕ) (gap : List ℕ) → from ≤ 2 * i → i < length pairs
     → Some gap ≡ gap_of pairs i → (gap ≡ [] → ⊥) → None ≡ prev_after prev (slice_range (parts_of pairs last) from (2 * i + 1))
-prev_whitespace pairs last prev from i gap le lt told some =
+prev_whitespace pairs last prev from i gap le lt result_is some =
     let (p, found, leading) = known pairs i lt in
-    let is : Some gap ≡ Some p.gap = told ∙ ap (option_map (λ (q : Pair). q.gap)) found in
+    let is : Some gap ≡ Some p.gap = result_is ∙ ap (option_map (λ (q : Pair). q.gap)) found in
     let same : gap ≡ p.gap = cc is in
     let whole = range_last (parts_of pairs last) from (2 * i) (Gap p.gap) _ le (gap_and_token_first pairs last i p found) in
     sym (ap (prev_after prev) whole ∙ prev_after_whitespace prev (slice_range (parts_of pairs last) from (2 * i)) p.gap (λ e. some (same ∙ e)))
@@ -82,18 +82,18 @@ read_token pairs i p kind spelling found k s prev =
 pub glued_after_gap : (pairs : List Pair) (last : List ℕ) (prev : Prev) (i to : ℕ) (gap : List ℕ) (kind : Kind) (spelling : List ℕ) → i < length pairs → 2 * i + 2 ≤ to
     → Some gap ≡ gap_of pairs i → gap ≡ [] → Some kind ≡ kind_of pairs i → Some spelling ≡ spelling_of pairs i
     → joins_prev prev kind spelling ≡ is_glued prev (slice_range (parts_of pairs last) (2 * i) to)
-glued_after_gap pairs last prev i to gap kind spelling lt past told empty k s =
+glued_after_gap pairs last prev i to gap kind spelling lt past result_is empty k s =
     let (p, found, leading) = known pairs i lt in
-    let is : Some gap ≡ Some p.gap = told ∙ ap (option_map (λ (q : Pair). q.gap)) found in
+    let is : Some gap ≡ Some p.gap = result_is ∙ ap (option_map (λ (q : Pair). q.gap)) found in
     let none : p.gap ≡ [] = cc (is, empty) in
     read_token pairs i p kind spelling found k s prev
     ∙ sym (ap (λ t. is_glued prev (take (to - 2 * i) t)) (gap_and_token_first pairs last i p found) ∙ glued_empty prev p.gap p.kind p.spelling (to - 2 * i) _ (omega (arith, past)) none)
 
 pub glued_after_whitespace : (pairs : List Pair) (last : List ℕ) (prev : Prev) (i to : ℕ) (gap : List ℕ) → i < length pairs
     → Some gap ≡ gap_of pairs i → (gap ≡ [] → ⊥) → false ≡ is_glued prev (slice_range (parts_of pairs last) (2 * i) to)
-glued_after_whitespace pairs last prev i to gap lt told some =
+glued_after_whitespace pairs last prev i to gap lt result_is some =
     let (p, found, leading) = known pairs i lt in
-    let is : Some gap ≡ Some p.gap = told ∙ ap (option_map (λ (q : Pair). q.gap)) found in
+    let is : Some gap ≡ Some p.gap = result_is ∙ ap (option_map (λ (q : Pair). q.gap)) found in
     let same : gap ≡ p.gap = cc is in
     sym (ap (λ t. is_glued prev (take (to - 2 * i) t)) (gap_and_token_first pairs last i p found) ∙ glued_whitespace prev p.gap (to - 2 * i) _ (λ e. some (same ∙ e)))
 

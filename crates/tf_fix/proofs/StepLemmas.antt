@@ -106,8 +106,8 @@ step_same make tokenized new es list is p same = step_same_if (nat_lt MAX_TEXT (
 -- what is read of the call of `make`
 -- what `?` returns
 pub handed_on : {T : Type 0} (r : Result T LintFault) (f : LintFault) (P : LintFault → Type 0) → IsErr r × IsErrAnd r (λ e. e ≡ f) → P f → IfErr r P
-handed_on (Ok x) f P told p = tt
-handed_on (Err e) f P told p = subst P (sym told.1) p
+handed_on (Ok x) f P result_is p = tt
+handed_on (Err e) f P result_is p = subst P (sym result_is.1) p
 
 pub read_made : (text read : List ℕ) (es given : List EditEntry) (answer other : Result EditList BadEdits)
     → answer ≡ make_edits (length read) given → read ≡ text → given ≡ es → answer ≡ other → make_edits (length text) es ≡ other

@@ -24,7 +24,8 @@ RulesFind rules p found = AreFindings rules p.scanned.pairs p.tree.body.members 
 -- these are the gaps and tokens of a text that parses, and that is what the rules of the set find
 -- in it
 abbrev pub AreFindingsOf : RuleSet → Parsed → TokenizedText → List Finding → Type 0
-AreFindingsOf rules p cut found = (p.scanned ≡ cut) × IsParseOf p.scanned.text p × RulesFind rules p found
+AreFindingsOf rules p tokenized found =
+    (p.scanned ≡ tokenized) × IsParseOf p.scanned.text p × RulesFind rules p found
 
 -- the text that the step of a rule makes that found this
 abbrev pub step_text_of : Parsed → List Finding → List ℕ

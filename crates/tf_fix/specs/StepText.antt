@@ -63,5 +63,5 @@ settled_pairs prev (p ∷ ps) = settled_pair prev p ∷ settled_pairs (Some (p.k
 
 -- the text that the step makes which selects from these findings
 abbrev pub fix_step_text : TokenizedText → List Finding → List ℕ
-fix_step_text cut findings =
-    whole_text (settled_pairs None (fixed_pairs_from 0 cut.pairs (selected findings))) cut.last
+fix_step_text tokenized findings =
+    whole_text (settled_pairs None (fixed_pairs_from 0 tokenized.pairs (selected findings))) tokenized.last

@@ -21,19 +21,20 @@ ghost use Rattle.tf_fix.specs.Selection.{selected, SelectedAreApart};
 /// The text by pairs is the text by parts: gaps and tokens of each finding go and others come, and
 /// then tokens that join get a space.
 pub fn pairs_and_parts_agree()
-    ensures { (rule : Rule) (cut : TokenizedText) (findings : List Finding)
-        → is_comment_rule rule ≡ false → AreOfRule rule cut.pairs findings
-        → AreValidFindings (length cut.pairs) findings
-        → fix_step_text cut findings
-        ≡ replaced_text (parts cut) (step_replacements cut.pairs findings) }
+    ensures { (rule : Rule) (tokenized : TokenizedText) (findings : List Finding)
+        → is_comment_rule rule ≡ false → AreOfRule rule tokenized.pairs findings
+        → AreValidFindings (length tokenized.pairs) findings
+        → fix_step_text tokenized findings
+        ≡ replaced_text (parts tokenized) (step_replacements tokenized.pairs findings) }
 {}
 
 /// The fix of a comment needs no space: no token joins with a comment.
 pub fn comment_fixes_need_no_space()
-    ensures { (cut : TokenizedText) (findings : List Finding) → AreApart cut.pairs
-        → AreOfRule CommentSyntax cut.pairs findings → AreValidFindings (length cut.pairs) findings
-        → fix_step_text cut findings
-        ≡ whole_text (fixed_pairs_from 0 cut.pairs (selected findings)) cut.last }
+    ensures { (tokenized : TokenizedText) (findings : List Finding) → AreApart tokenized.pairs
+        → AreOfRule CommentSyntax tokenized.pairs findings
+        → AreValidFindings (length tokenized.pairs) findings
+        → fix_step_text tokenized findings
+        ≡ whole_text (fixed_pairs_from 0 tokenized.pairs (selected findings)) tokenized.last }
 {}
 
 /// Of findings in order by their first tokens, as in a report, one step of a fix takes those that

@@ -27,9 +27,9 @@ place_there pairs places i place same is = is ∙ ap (λ (ps : List Pair). place
 pub one_cached : (pairs : List Pair) (found : List Finding) (i : ℕ) (d : Finding) (issues extended : List Issue) (issue : Issue) → i < length found
     → reports issues ≡ map (report_of pairs) (take i found) → report issue ≡ report_of pairs (get_or found i d) → extended ≡ issues ++ issue ∷ []
     → reports extended ≡ map (report_of pairs) (take (i + 1) found)
-one_cached pairs found i d issues extended issue below so_far told push =
+one_cached pairs found i d issues extended issue below so_far report_is push =
     let next : take (i + 1) found ≡ take i found ++ get_or found i d ∷ [] = take_more found i d below in
     ap reports push ∙ map-append report issues (issue ∷ [])
     ∙ ap (λ (l : List Report). l ++ report issue ∷ []) so_far
-    ∙ ap (λ (r : Report). map (report_of pairs) (take i found) ++ r ∷ []) told
+    ∙ ap (λ (r : Report). map (report_of pairs) (take i found) ++ r ∷ []) report_is
     ∙ sym (ap (map (report_of pairs)) next ∙ map-append (report_of pairs) (take i found) (get_or found i d ∷ []))

@@ -46,11 +46,11 @@ not_both unique_tokens text parse.Memory t h p = h
 
 -- what is refused, but not since memory ran out, does not parse
 pub unread : TokensAreUnique → NoTokensWithFault → (text : List ℕ) (fault : FixFault) → IsReadFault text fault → (fault ≡ Memory) ⊎ DoesNotParse text
-unread unique_tokens no_cut text (Scan fault) h = inr (λ t p. no_cut text fault p.pairs p.last h p.tokenization)
-unread unique_tokens no_cut text (Parse fault) h = inr (λ t p. not_both unique_tokens text fault t h p)
-unread unique_tokens no_cut text (FixBroken rule) h = absurd h
-unread unique_tokens no_cut text TooLong h = absurd h
-unread unique_tokens no_cut text Memory h = inl refl
+unread unique_tokens no_tokens text (Scan fault) h = inr (λ t p. no_tokens text fault p.pairs p.last h p.tokenization)
+unread unique_tokens no_tokens text (Parse fault) h = inr (λ t p. not_both unique_tokens text fault t h p)
+unread unique_tokens no_tokens text (FixBroken rule) h = absurd h
+unread unique_tokens no_tokens text TooLong h = absurd h
+unread unique_tokens no_tokens text Memory h = inl refl
 
 -- the tree of a text that is read
 pub parses_of : (text : List ℕ) (p : Parsed) → IsParseOf text p → Parses text p.tree

@@ -9,8 +9,8 @@ use Rattle.hcl_tree.proofs.Passing.{file_tree}
 
 -- what `?` hands on
 pub residual : {T E : Type 0} (r : Result T E) (f : E) (P : E → Type 0) → IsErr r × IsErrAnd r (λ e. e ≡ f) → P f → IfErr r P
-residual (Ok x) f P told p = tt
-residual (Err e) f P told p = subst P (sym told.1) p
+residual (Ok x) f P result_is p = tt
+residual (Err e) f P result_is p = subst P (sym result_is.1) p
 
 pub if_ok : {T E : Type 0} (r : Result T E) (P Q : T → Type 0) → ((x : T) → P x → Q x) → IfOk r P → IfOk r Q
 if_ok (Ok x) P Q f p = f x p

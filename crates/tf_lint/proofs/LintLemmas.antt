@@ -44,7 +44,7 @@ read_whole text s same tokenized read seen valid =
 -- a text that is not tokenized
 is_fault : (text : List ℕ) (why : ScanFault) → IsFault text why → IsReadFault text (fault_of_scan why)
 is_fault text scan.Memory (inl long) = absurd (cc long.0)
-is_fault text scan.Memory (inr (inl narrow)) = absurd (cc narrow.1)
+is_fault text scan.Memory (inr (inl not_utf8)) = absurd (cc not_utf8.1)
 is_fault text scan.Memory (inr (inr stops)) = (stops.0, stops.1)
 is_fault text _ fault = fault
 

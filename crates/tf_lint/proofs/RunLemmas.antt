@@ -43,8 +43,8 @@ if_err (Err e) P Q f p = f e p
 
 -- what `?` hands on
 pub residual : {T : Type 0} (r : Result T FixFault) (f : FixFault) (P : FixFault → Type 0) → IsErr r × IsErrAnd r (λ e. e ≡ f) → P f → IfErr r P
-residual (Ok x) f P told p = tt
-residual (Err e) f P told p = subst P (sym told.1) p
+residual (Ok x) f P result_is p = tt
+residual (Err e) f P result_is p = subst P (sym result_is.1) p
 
 -- ---- one rule more at the start of the order
 

@@ -32,18 +32,18 @@ pub fixes : (name : List ℕ) (rules : RuleSet) (source : Source) (target left_o
     → ReadsText source text → FixesAlone name rules text d left new → out ≡ new
     → IfOk r (λ file_outcome. IsOutcomeOf file_outcome d.left) → OnOk r (WritesBytes target out) → OnOk r (WritesBytes left_out left)
     → IfOk r (λ file_outcome. Fixes name rules file_outcome source target left_out)
-fixes name rules source target left_out text d left new out (Ok file_outcome) taken made is comes put told = (
+fixes name rules source target left_out text d left new out (Ok file_outcome) taken made is is_outcome written left_written = (
   text,
   taken,
   d,
   left,
   with_records new made.0,
   made.1,
-  subst (λ (s : List ℕ). WritesBytes target s) is put,
-  told,
-  comes,
+  subst (λ (s : List ℕ). WritesBytes target s) is written,
+  left_written,
+  is_outcome,
 )
-fixes name rules source target left_out text d left new out (Err fault) taken made is comes put told = tt
+fixes name rules source target left_out text d left new out (Err fault) taken made is is_outcome written left_written = tt
 
 pub not_write : (name : List ℕ) (rules : RuleSet) (source : Source) (target left_out : Target)
     (text : List ℕ) (d : Done) (left new out : List ℕ) (r : Result FileOutcome RunFault)

@@ -24,13 +24,13 @@ neither false b c first second = second
 
 pub one_more : (pairs : List Pair) (first i : ℕ) (kind : Kind) → AreUnbroken pairs first i → Some kind ≡ kind_of pairs i
     → is_line_break true kind ≡ false → AreUnbroken pairs first (i + 1)
-one_more pairs first i kind before told none =
+one_more pairs first i kind before kind_is none =
     record {
       each = λ j low high other here. elim (cases_lt j i) [
         | inl less ↦ before.each j low less other here
         | inr same ↦
             let at : j ≡ i = omega (arith, high, same) in
-            let one : Some other ≡ Some kind = here ∙ (ap (kind_of pairs) at ∙ sym told) in
+            let one : Some other ≡ Some kind = here ∙ (ap (kind_of pairs) at ∙ sym kind_is) in
             let kinds : other ≡ kind = cc (one) in
             ap (is_line_break true) kinds ∙ none
       ];
@@ -47,9 +47,9 @@ has_none zero comments depth pairs i past left all = rw left refl
 has_none (suc n) comments depth pairs i past left all = elim (slice_get_cases pairs i).1 [
   | inl (x, within, found, same) ↦
       let below : i < past = omega (arith, left) in
-      let told : Some x.kind ≡ kind_of pairs i = sym (ap (option_map (λ (p : Pair). p.kind)) found) in
-      let here = none_without comments x.kind (all.each i (omega arith) below x.kind told) in
+      let kind_is : Some x.kind ≡ kind_of pairs i = sym (ap (option_map (λ (p : Pair). p.kind)) found) in
+      let here = none_without comments x.kind (all.each i (omega arith) below x.kind kind_is) in
       let following = has_none n comments (depth_after x.kind depth) pairs (i + 1) past (omega (arith, left)) (fewer pairs i past (i + 1) past (omega arith) (omega arith) all) in
-      break_step comments depth pairs i past x.kind below told ∙ neither (depth == 0) (is_line_break comments x.kind) (has_line_break comments (depth_after x.kind depth) (token_range pairs (i + 1) past)) here following
+      break_step comments depth pairs i past x.kind below kind_is ∙ neither (depth == 0) (is_line_break comments x.kind) (has_line_break comments (depth_after x.kind depth) (token_range pairs (i + 1) past)) here following
   | inr (beyond, missing) ↦ rw (left, drop_all i pairs beyond) refl
 ]

@@ -120,6 +120,6 @@ same_differ t = rw ((bytes_eq-Decides t t).1 refl) refl
 -- the same of a text of which no edits were kept
 pub fixes_text : (rules : RuleSet) (lent text new : List ℕ) (f : FixedText) (changed : Bool) (d : Done) → lent ≡ text → FixesTo rules lent f → new ≡ fixed_text_or text f.text → changed ≡ texts_differ text new
     → d ≡ done changed f.fixed (remaining_count f.left) → (records : List JournalEntry) × DoesStep (Fix rules) (without_records text) d (with_records new records)
-fixes_text rules lent text new f changed d same fixes is told answered =
+fixes_text rules lent text new f changed d same fixes is changed_is answered =
     let (edits, turns, makes) = subst (λ (t : List ℕ). FixesTo rules t f) same fixes in
-    rw (answered, told, is) (fix_transforms rules text (rewrite_with edits text f) makes turns)
+    rw (answered, changed_is, is) (fix_transforms rules text (rewrite_with edits text f) makes turns)

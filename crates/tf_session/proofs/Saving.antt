@@ -93,15 +93,15 @@ pub made : (command : Command) (name text journal : List ℕ) (js : List Journal
     → IfOk r (λ effect. effect.done ≡ d) → IfOk r (λ effect. effect.lines.items ≡ lines)
     → IfOk r (λ effect. AreSavedTexts (must_save command d) new effect.saved)
     → IfOk r (HasEffect command name text journal)
-made command name text journal js d lines new (Ok effect) is does told same put saved = record {
+made command name text journal js d lines new (Ok effect) is does are_lines same put saved = record {
   records = js;
   is_journal = is;
   new = new;
   does = subst (λ (x : Done). DoesStep command (with_records text js) x new) (sym same) does;
   saved = saved_texts (must_save command d) command (with_records text js) d new effect.saved does refl saved;
-  lines = subst (λ (x : List ℕ). AreReportLines command name effect.done new.text x) (sym put) (subst (λ (x : Done). AreReportLines command name x new.text lines) (sym same) told);
+  lines = subst (λ (x : List ℕ). AreReportLines command name effect.done new.text x) (sym put) (subst (λ (x : Done). AreReportLines command name x new.text lines) (sym same) are_lines);
 }
-made command name text journal js d lines new (Err fault) is does told same put saved = same
+made command name text journal js d lines new (Err fault) is does are_lines same put saved = same
 
 pub not_made : (command : Command) (name text journal : List ℕ) (js : List JournalEntry) (d : Done) (new : SessionContents) (r : Result Effect RunFault)
     → IsJournalText journal js → DoesStep command (with_records text js) d new

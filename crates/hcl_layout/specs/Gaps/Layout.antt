@@ -55,7 +55,7 @@ layout_pairs (p ∷ ps) = if is_mark p.kind then p ∷ layout_body ps else layou
 
 -- the layout of a text: these gaps and tokens, in order. There is no gap after the last token
 abbrev pub layout_text : TokenizedText → List ℕ
-layout_text cut = whole_text (layout_pairs cut.pairs) []
+layout_text tokenized = whole_text (layout_pairs tokenized.pairs) []
 
 -- ---- as edits
 
@@ -71,11 +71,11 @@ pieces ps qs last = gap_piece last [] ∷ []
 
 -- the edits that format a text: the gaps that differ, whole old gap to whole new gap
 abbrev pub layout_edits : TokenizedText → EditList
-layout_edits cut = record {
-  old_len = length cut.text;
-  entries = changed_entries 0 (pieces cut.pairs (layout_pairs cut.pairs) cut.last);
+layout_edits tokenized = record {
+  old_len = length tokenized.text;
+  entries = changed_entries 0 (pieces tokenized.pairs (layout_pairs tokenized.pairs) tokenized.last);
 }
 
 -- a text is formatted: each gap is that of the layout, and there is none at the end
 abbrev pub IsLaidOut : TokenizedText → Type 0
-IsLaidOut cut = (layout_pairs cut.pairs ≡ cut.pairs) × (cut.last ≡ [])
+IsLaidOut tokenized = (layout_pairs tokenized.pairs ≡ tokenized.pairs) × (tokenized.last ≡ [])

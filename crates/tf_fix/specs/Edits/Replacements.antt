@@ -40,7 +40,8 @@ space_before prev parts = if is_glued prev parts then space else []
 -- what a replacement adds: the inserted parts, settled, and a space if the last token joins with
 -- what is kept after them
 abbrev pub added : Prev → List TextPart → List TextPart → List ℕ
-added prev come stay = text_of_parts (settled prev come) ++ space_before (prev_after prev come) stay
+added prev inserted kept_after =
+    text_of_parts (settled prev inserted) ++ space_before (prev_after prev inserted) kept_after
 
 -- The text in pieces: kept, or replaced by what is added. `prev` is the token before place `at`,
 -- `before` that before what is inserted, and `after` that before what stays after it.

@@ -14,9 +14,10 @@ use Rattle.tf_fix.specs.Selection.{selected}
 -- the edits of the step: an edit of two bytes for each comment that it takes; for the other rules
 -- the pieces of the text that change
 abbrev pub fix_step_entries : Rule → TokenizedText → List Finding → List EditEntry
-fix_step_entries rule cut findings =
-    if is_comment_rule rule then map (comment_edit cut.pairs) (selected findings)
-    else changed_entries 0 (replaced_pieces (parts cut) (step_replacements cut.pairs findings))
+fix_step_entries rule tokenized findings =
+    if is_comment_rule rule then map (comment_edit tokenized.pairs) (selected findings)
+    else changed_entries 0 (replaced_pieces (parts tokenized) (step_replacements tokenized.pairs findings))
 
 abbrev pub fix_step_edits : Rule → TokenizedText → List Finding → EditList
-fix_step_edits rule cut findings = as_list (length cut.text) (fix_step_entries rule cut findings)
+fix_step_edits rule tokenized findings =
+    as_list (length tokenized.text) (fix_step_entries rule tokenized findings)

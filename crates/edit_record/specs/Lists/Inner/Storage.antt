@@ -6,15 +6,15 @@ use Rattle.edit_record.specs.declared.lists.edit.Storage.TheVariants.{Inline, He
 
 -- the removed bytes
 abbrev pub removed_of : Storage → List ℕ
-removed_of (Inline cut len bytes) = take cut bytes
+removed_of (Inline removed_end len bytes) = take removed_end bytes
 removed_of (Heap long) = take long.value.removed_end long.value.bytes.items
 
 -- the added bytes
 abbrev pub added_of : Storage → List ℕ
-added_of (Inline cut len bytes) = drop cut (take len bytes)
+added_of (Inline removed_end len bytes) = drop removed_end (take len bytes)
 added_of (Heap long) = drop long.value.removed_end long.value.bytes.items
 
 -- the removed bytes are a part of the stored ones, and inline bytes are within the capacity
 abbrev pub IsValidStorage : Storage → Type 0
-IsValidStorage (Inline cut len bytes) = (cut ≤ len) × (len ≤ INLINE_CAPACITY)
+IsValidStorage (Inline removed_end len bytes) = (removed_end ≤ len) × (len ≤ INLINE_CAPACITY)
 IsValidStorage (Heap long) = long.value.removed_end ≤ length long.value.bytes.items

@@ -15,26 +15,26 @@ loop-i-preserved c =
     let i = c.loop-i.i in
     let depth = c.loop-i.depth in
     let kind = c.kind-kind.result in
-    let told = c.loop-i.invariant in
+    let known = c.loop-i.invariant in
     let ordered : from ≤ i = omega arith in
     let within : i < length old.pairs = omega arith in
-    let more : depth_after kind depth ≡ length (modes_after_pairs [] (slice_range old.pairs from (i + 1))) = depth_more old from at i depth kind c.requires ordered within c.kind-kind.ensures told.depth in
+    let more : depth_after kind depth ≡ length (modes_after_pairs [] (slice_range old.pairs from (i + 1))) = depth_more old from at i depth kind c.requires ordered within c.kind-kind.ensures known.depth in
     elim c.if-ends_top_level_line.branch [
       | then-ends_top_level_line+else-at-limit w ↦
           let end = w.if-ends_top_level_line.ensures in
-          let none = none_open _ depth told.depth (end.none refl) in
+          let none = none_open _ depth known.depth (end.none refl) in
           let line = line_start_at_line_end old from at i kind w.item-at.result c.requires ordered within c.kind-kind.ensures (end.kind refl) w.item-at.ensures none in
           record {
             line_start = subst (λ (t : LineStart). IsLineStart old t.index t.at) (sym w.to-is) line.0;
             lines = subst (λ (t : LineStart). IsLineRange old.pairs from t.index) (sym w.to-is) line.1;
             depth = w.depth-is ∙ sym (ap (λ k. depth_after k depth) (end.kind refl)) ∙ more;
-            few = omega (arith, w.depth-is, told.few);
+            few = omega (arith, w.depth-is, known.few);
           }
       | else-ends_top_level_line w ↦
           record {
-            line_start = subst (λ (t : LineStart). IsLineStart old t.index t.at) (sym w.to-is) told.line_start;
-            lines = subst (λ (t : LineStart). IsLineRange old.pairs from t.index) (sym w.to-is) told.lines;
+            line_start = subst (λ (t : LineStart). IsLineStart old t.index t.at) (sym w.to-is) known.line_start;
+            lines = subst (λ (t : LineStart). IsLineRange old.pairs from t.index) (sym w.to-is) known.lines;
             depth = w.depth-is ∙ w.depth_after-depth.ensures.value ∙ more;
-            few = omega (arith, w.depth-is, w.depth_after-depth.ensures.small, told.few);
+            few = omega (arith, w.depth-is, w.depth_after-depth.ensures.small, known.few);
           }
     ]

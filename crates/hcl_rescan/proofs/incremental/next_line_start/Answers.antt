@@ -10,9 +10,9 @@ pub returns-then-at-limit-clause-line_start : goal.returns-then-at-limit-clause-
 returns-then-at-limit-clause-line_start c =
     let ordered : c.args.from.index ≤ c.loop-i.i = omega arith in
     let within : c.loop-i.i < length c.args.old.now.pairs = omega arith in
-    let told = c.if-ends_top_level_line.ensures in
-    let none = none_open _ c.loop-i.depth c.loop-i.invariant.depth (told.none refl) in
-    (line_start_at_line_end c.args.old.now c.args.from.index c.args.from.at c.loop-i.i c.kind-kind.result c.item-at.result c.requires ordered within c.kind-kind.ensures (told.kind refl) c.item-at.ensures none).0
+    let known = c.if-ends_top_level_line.ensures in
+    let none = none_open _ c.loop-i.depth c.loop-i.invariant.depth (known.none refl) in
+    (line_start_at_line_end c.args.old.now c.args.from.index c.args.from.at c.loop-i.i c.kind-kind.result c.item-at.result c.requires ordered within c.kind-kind.ensures (known.kind refl) c.item-at.ensures none).0
 
 pub loop-i-preserved : goal.loop-i-preserved
 loop-i-preserved c =
@@ -21,8 +21,8 @@ loop-i-preserved c =
     let i = c.loop-i.i in
     let depth = c.loop-i.depth in
     let kind = c.kind-kind.result in
-    let told = c.loop-i.invariant in
+    let known = c.loop-i.invariant in
     let ordered : from ≤ i = omega arith in
     let within : i < length old.pairs = omega arith in
-    let more : depth_after kind depth ≡ length (modes_after_pairs [] (slice_range old.pairs from (i + 1))) = depth_more old from c.args.from.at i depth kind c.requires ordered within c.kind-kind.ensures told.depth in
-    elim c.if-ends_top_level_line.branch [ then-ends_top_level_line+else-at-limit w ↦ record { depth = w.depth-is ∙ sym (ap (λ k. depth_after k depth) (w.if-ends_top_level_line.ensures.kind refl)) ∙ more; few = omega (arith, w.depth-is, told.few) } | else-ends_top_level_line w ↦ record { depth = w.depth-is ∙ w.depth_after-depth.ensures.value ∙ more; few = omega (arith, w.depth-is, w.depth_after-depth.ensures.small, told.few) } ]
+    let more : depth_after kind depth ≡ length (modes_after_pairs [] (slice_range old.pairs from (i + 1))) = depth_more old from c.args.from.at i depth kind c.requires ordered within c.kind-kind.ensures known.depth in
+    elim c.if-ends_top_level_line.branch [ then-ends_top_level_line+else-at-limit w ↦ record { depth = w.depth-is ∙ sym (ap (λ k. depth_after k depth) (w.if-ends_top_level_line.ensures.kind refl)) ∙ more; few = omega (arith, w.depth-is, known.few) } | else-ends_top_level_line w ↦ record { depth = w.depth-is ∙ w.depth_after-depth.ensures.value ∙ more; few = omega (arith, w.depth-is, w.depth_after-depth.ensures.small, known.few) } ]

@@ -55,6 +55,6 @@ pub returns-in_err-edits-clause-fault : goal.returns-in_err-edits-clause-fault
 returns-in_err-edits-clause-fault c = λ p h.
     let rule = c.args.rule in
     let finds = finds_one c.findings_of_one_rule.ensures c.args.rules rule p c.args.found.now c.requires.rule_in_set h.2 in
-    let told = too_long rule p c.args.scanned.now (filter (is_found_by rule) c.args.found.now) _ h.0 finds c.in_err-edits.ensures.err in
+    let reason = too_long rule p c.args.scanned.now (filter (is_found_by rule) c.args.found.now) _ h.0 finds c.in_err-edits.ensures.err in
     let e = err_from_is_err_and c.from_residual.result c.from_residual.ensures.1 in
-    rw (e.1, e.2) told
+    rw (e.1, e.2) reason

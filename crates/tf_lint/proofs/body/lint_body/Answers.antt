@@ -17,8 +17,8 @@ pub loop-turn-init : goal.loop-turn-init
 loop-turn-init c =
     let ts = tokens_of c.args.search.now.scanned.now.pairs in
     let as_many : length ts ≡ length c.args.search.now.scanned.now.pairs = length-map c.args.search.now.scanned.now.pairs (λ (p : Pair). (p.kind, p.spelling)) in
-    let told = c.len-turn-end.ensures.value in
-    let all : length ts ≡ c.len-turn-end.result - 0 = omega (arith, as_many, told) in
+    let len_is = c.len-turn-end.ensures.value in
+    let all : length ts ≡ c.len-turn-end.result - 0 = omega (arith, as_many, len_is) in
     ([], ap (λ (n : ℕ). left ts MAX_NESTING n [] c.args.at.now) all, none_linted _ c.new.ensures.items c.new-2.ensures.items c.new-3.ensures.items)
 
 pub loop-turn-preserved-then-eat_newline : goal.loop-turn-preserved-then-eat_newline

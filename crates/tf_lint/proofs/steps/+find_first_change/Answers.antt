@@ -28,8 +28,8 @@ returns-then-not-has_step-clause-found_change n c = λ p h.
     let split : order ≡ rule ∷ rest = split_first order CommentSyntax c.in-len1-up.len_at_least in
     let not_in : has_step c.args.linted.now.rules rule ≡ false = search rules in
     if_ok c.find_first_change.result _ (λ q. IsFirstChange c.args.linted.now.rules order p c.args.count q)
-    (λ q told. subst (λ (rs : List Rule). IsFirstChange c.args.linted.now.rules rs p c.args.count q) (sym split)
-    (skipped_pass c.args.linted.now.rules rule rest p c.args.count q not_in told)) (c.find_first_change.ensures.found_change p h)
+    (λ q is_change. subst (λ (rs : List Rule). IsFirstChange c.args.linted.now.rules rs p c.args.count q) (sym split)
+    (skipped_pass c.args.linted.now.rules rule rest p c.args.count q not_in is_change)) (c.find_first_change.ensures.found_change p h)
 
 pub returns-in-None-clause-found_change : goal.returns-in-None-clause-found_change
 returns-in-None-clause-found_change n c = λ p h.
@@ -39,8 +39,8 @@ returns-in-None-clause-found_change n c = λ p h.
     let split : order ≡ rule ∷ rest = split_first order CommentSyntax c.in-len1-up.len_at_least in
     let chosen : has_step c.args.linted.now.rules rule ≡ true = search rules in
     if_ok c.find_first_change-in-None.result _ (λ q. IsFirstChange c.args.linted.now.rules order p c.args.count q)
-    (λ q told. subst (λ (rs : List Rule). IsFirstChange c.args.linted.now.rules rs p c.args.count q) (sym split)
-    (stayed_pass c.args.linted.now.rules rule rest p c.args.count q c.in_ok-taken.field-0 chosen h.reads (c.in_ok-taken.ensures.step p h) c.in-None.is told)) (c.find_first_change-in-None.ensures.found_change p h)
+    (λ q is_change. subst (λ (rs : List Rule). IsFirstChange c.args.linted.now.rules rs p c.args.count q) (sym split)
+    (stayed_pass c.args.linted.now.rules rule rest p c.args.count q c.in_ok-taken.field-0 chosen h.reads (c.in_ok-taken.ensures.step p h) c.in-None.is is_change)) (c.find_first_change-in-None.ensures.found_change p h)
 
 pub returns-in-Some-clause-found_change : goal.returns-in-Some-clause-found_change
 returns-in-Some-clause-found_change n c = λ p h.
@@ -68,5 +68,5 @@ returns-in-None-clause-fault n c = λ p h.
     let split : order ≡ rule ∷ rest = split_first order CommentSyntax c.in-len1-up.len_at_least in
     let chosen : has_step c.args.linted.now.rules rule ≡ true = search rules in
     if_err c.find_first_change-in-None.result _ (λ fault. (fault ≡ Memory) ⊎ RunFixable c.args.linted.now.rules order p (Err fault))
-    (λ fault told. subst (λ (rs : List Rule). (fault ≡ Memory) ⊎ RunFixable c.args.linted.now.rules rs p (Err fault)) (sym split)
-    (stayed_fault c.args.linted.now.rules rule rest p c.in_ok-taken.field-0 fault chosen h.reads (c.in_ok-taken.ensures.step p h) c.in-None.is told)) (c.find_first_change-in-None.ensures.fault p h)
+    (λ fault is_change. subst (λ (rs : List Rule). (fault ≡ Memory) ⊎ RunFixable c.args.linted.now.rules rs p (Err fault)) (sym split)
+    (stayed_fault c.args.linted.now.rules rule rest p c.in_ok-taken.field-0 fault chosen h.reads (c.in_ok-taken.ensures.step p h) c.in-None.is is_change)) (c.find_first_change-in-None.ensures.fault p h)

@@ -17,14 +17,14 @@ use Rattle.tf_lint.proofs.steps.+run_steps.Goals as goal
 
 -- a rule that changed the text is none of those that are left
 fewer : (rules : RuleSet) (order : List Rule) (p : Parsed) (count : ℕ) (found_change : FirstChange) → IsFirstChange rules order p count found_change → left found_change ≤ length order
-fewer rules order p count (NoChange fixed) told = omega arith
+fewer rules order p count (NoChange fixed) is_change = omega arith
 fewer rules order p count (Changed fixed change by rest) (n, number, few, shorter, turns, on, off, unread_after) = omega (arith, shorter)
 
 -- the edits of the step that changed the text
 step_transforms : (rules : RuleSet) (order : List Rule) (p : Parsed) (text : List ℕ) (count fixed : ℕ) (change : NewText) (by : Rule) (rest : Bor (List Rule)) (found_change : FirstChange) → p.scanned.text ≡ text
     → found_change ≡ Changed fixed change by rest → IsFirstChange rules order p count found_change → Transforms change.edits text change.text.items
-step_transforms rules order p text count fixed change by rest found_change reads is told =
-    let to = subst (IsFirstChange rules order p count) is told in
+step_transforms rules order p text count fixed change by rest found_change reads is is_change =
+    let to = subst (IsFirstChange rules order p count) is is_change in
     subst (λ (t : List ℕ). Transforms change.edits t change.text.items) reads to.4
 
 pub compose-requires : goal.compose-requires
@@ -42,12 +42,12 @@ run_steps-requires n c =
     let change = c.in-Changed.change in
     let next = c.in_ok-next-in-Changed.next in
     let composed = c.in_ok-composed-in-Changed.composed in
-    let (q, told) = c.in_ok-next-in-Changed.ensures.advanced in
+    let (q, is_change) = c.in_ok-next-in-Changed.ensures.advanced in
     let turns = step_transforms c.args.state.previous.rules order p text count c.in-Changed.fixed change c.in-Changed.by c.in-Changed.rest c.args.state.found_change is.reads.0 c.in-Changed.is is.passes in
     let (more, joins, on) = c.in_ok-composed-in-Changed.ensures.composed all old text change.text.items leads turns in
-    let less = fewer next.previous.rules c.in-Changed.rest.now q c.in-Changed.fixed next.found_change told.passes in
+    let less = fewer next.previous.rules c.in-Changed.rest.now q c.in-Changed.fixed next.found_change is_change.passes in
     let fuel = ap left c.in-Changed.is in
-    (omega (arith, less, fuel), ((c.in-Changed.rest.now, c.in-Changed.fixed, q, told), (more, old, subst (λ (t : Vec ℕ). LeadsTo composed more old t.items) (sym c.in_ok-next-in-Changed.ensures.text) on)))
+    (omega (arith, less, fuel), ((c.in-Changed.rest.now, c.in-Changed.fixed, q, is_change), (more, old, subst (λ (t : Vec ℕ). LeadsTo composed more old t.items) (sym c.in_ok-next-in-Changed.ensures.text) on)))
 
 pub returns-in-NoChange-clause-made : goal.returns-in-NoChange-clause-made
 returns-in-NoChange-clause-made n c = λ order count p all old is leads.
@@ -75,12 +75,12 @@ returns-in_ok-next-in-Changed-clause-made n c = λ order count p all old is lead
     let rest = c.in-Changed.rest in
     let fixed = c.in-Changed.fixed in
     let next = c.in_ok-next-in-Changed.next in
-    let (q, told) = c.in_ok-next-in-Changed.ensures.advanced in
+    let (q, is_change) = c.in_ok-next-in-Changed.ensures.advanced in
     let to = subst (IsFirstChange rules order p count) c.in-Changed.is is.passes in
     let turns = step_transforms rules order p text count fixed change c.in-Changed.by rest c.args.state.found_change is.reads.0 c.in-Changed.is is.passes in
     let (more, joins, on) = c.in_ok-composed-in-Changed.ensures.composed all old text change.text.items leads turns in
     let here = subst (λ (t : Vec ℕ). LeadsTo composed more old t.items) (sym c.in_ok-next-in-Changed.ensures.text) on in
-    let by_rules = subst (λ (r : RuleSet). IfOk c.run_steps.result (λ e. (last : EditList) × LeadsTo e.edits last old e.text.items × FixesFrom r rest.now next.text.items more fixed (rewrite_by last e))) c.in_ok-next-in-Changed.ensures.rules (c.run_steps.ensures.made rest.now fixed q more old told here) in
+    let by_rules = subst (λ (r : RuleSet). IfOk c.run_steps.result (λ e. (last : EditList) × LeadsTo e.edits last old e.text.items × FixesFrom r rest.now next.text.items more fixed (rewrite_by last e))) c.in_ok-next-in-Changed.ensures.rules (c.run_steps.ensures.made rest.now fixed q more old is_change here) in
     let by_text = subst (λ (t : Vec ℕ). IfOk c.run_steps.result (λ e. (last : EditList) × LeadsTo e.edits last old e.text.items × FixesFrom rules rest.now t.items more fixed (rewrite_by last e))) c.in_ok-next-in-Changed.ensures.text by_rules in
     if_ok c.run_steps.result _ (λ e. (last : EditList) × LeadsTo e.edits last old e.text.items × FixesFrom rules order text all count (rewrite_by last e))
     (λ e (last, lead, fixes). (last, lead, and_more rules order text p all more count fixed change c.in-Changed.by rest (rewrite_by last e) is.reads to joins fixes)) by_text
@@ -100,9 +100,9 @@ returns-in_ok-next-in-Changed-clause-fault n c = λ order count p by is.
     let rest = c.in-Changed.rest in
     let fixed = c.in-Changed.fixed in
     let next = c.in_ok-next-in-Changed.next in
-    let (q, told) = c.in_ok-next-in-Changed.ensures.advanced in
+    let (q, is_change) = c.in_ok-next-in-Changed.ensures.advanced in
     let to = subst (IsFirstChange rules order p count) c.in-Changed.is is.passes in
-    let by_rules = subst (λ (r : RuleSet). IfErr c.run_steps.result (RefusesFrom r rest.now next.text.items c.in-Changed.by)) c.in_ok-next-in-Changed.ensures.rules (c.run_steps.ensures.fault rest.now fixed q c.in-Changed.by told) in
+    let by_rules = subst (λ (r : RuleSet). IfErr c.run_steps.result (RefusesFrom r rest.now next.text.items c.in-Changed.by)) c.in_ok-next-in-Changed.ensures.rules (c.run_steps.ensures.fault rest.now fixed q c.in-Changed.by is_change) in
     let by_text = subst (λ (t : Vec ℕ). IfErr c.run_steps.result (RefusesFrom rules rest.now t.items c.in-Changed.by)) c.in_ok-next-in-Changed.ensures.text by_rules in
     if_err c.run_steps.result _ (RefusesFrom rules order text by)
     (λ e refuses. and_refuses rules order text p count fixed c.in-Changed.change by c.in-Changed.by rest e is.reads to refuses) by_text

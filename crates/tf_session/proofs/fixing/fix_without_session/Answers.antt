@@ -26,9 +26,9 @@ returns-clause-done c =
     let made = c.in_ok-new.field-0 in
     let new = c.in-Some.new.items in
     let is : new ≡ fixed_text_or text made.text = search rules in
-    let told : c.ne-changed.result ≡ texts_differ text new = search rules in
+    let changed_is : c.ne-changed.result ≡ texts_differ text new = search rules in
     let answered : c.done_of-2.result ≡ done c.ne-changed.result made.fixed (remaining_count made.left) = search rules in
-    fixes_text c.args.rules c.deref.result.now text new made c.ne-changed.result c.done_of-2.result c.deref.ensures.value c.in_ok-new.ensures.made is told answered
+    fixes_text c.args.rules c.deref.result.now text new made c.ne-changed.result c.done_of-2.result c.deref.ensures.value c.in_ok-new.ensures.made is changed_is answered
 
 pub returns-in_err-new-clause-refused : goal.returns-in_err-new-clause-refused
 returns-in_err-new-clause-refused c =

@@ -19,6 +19,6 @@ returns-clause-done c =
     let bytes : c.into_bytes-lines.result.items ≡ string_bytes c.in_ok-lines.lines = search rules in
     let (records, does) = c.in_ok-text.ensures.done in
     let remains = subst (λ (t : List ℕ). IsRemaining c.args.rules t c.in_ok-text.left) (sym c.deref.ensures.value) c.in_ok-text.ensures.left in
-    let (told, report, lines) = c.in_ok-lines.ensures.lines c.args.rules remains in
-    let here = subst (λ (t : List ℕ). IsReport c.args.rules t told) c.deref.ensures.value report in
-    (records, (does, (told, here, bytes ∙ lines)))
+    let (reported, report, lines) = c.in_ok-lines.ensures.lines c.args.rules remains in
+    let here = subst (λ (t : List ℕ). IsReport c.args.rules t reported) c.deref.ensures.value report in
+    (records, (does, (reported, here, bytes ∙ lines)))
