@@ -1,4 +1,5 @@
-//! The next token, as it was looked at before a step: so that several steps look at it once.
+//! The next token, as it was looked at before a step: so that several steps look at it once. For
+//! speed alone: the plain forms are the methods of `Reader` (`next_token`, `eat`, `expect` ..).
 
 ghost use Rattle.std.specs.Prelude.{◌≡◌, ◌<◌, ◌+◌, ◌^◌, true, false, Ok, OnSome};
 ghost use Rattle.hcl_token.specs.declared.kind.Kind.TheVariants as k;

@@ -1,4 +1,4 @@
-//! The end of quoted text.
+//! The end of quoted text. For speed alone: the plain form is `runs::run_end` over a `QuoteUnit`.
 
 ghost use Rattle.std.specs.Prelude.{◌≡◌, ◌==◌, ◌||◌, ◌+◌, ◌≤◌, true, false, length, drop, slice_index};
 ghost use Rattle.hcl_scan.specs.Lexeme.{quote_unit};

@@ -1,4 +1,5 @@
-//! Runs of bytes by tables, 16 bytes at a time.
+//! Runs of bytes by tables, 16 bytes at a time. For speed alone: the plain forms test a byte at a
+//! time, those with `_bytewise` in `bytes`, `ident` and `runs`, and `number_len`.
 
 ghost use Rattle.std.specs.Prelude.{◌≡◌, ℕ, ◌+◌, ◌==◌, ◌<◌, ◌≤◌, not, true, false, length, slice_index};
 ghost use Rattle.std.specs.Char.{is_ascii_digit};
