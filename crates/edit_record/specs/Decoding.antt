@@ -1,11 +1,13 @@
 -- What `decode` returns.
-use Rattle.std.specs.Prelude.{◌≡◌, ℕ, zero, suc, ◌-◌, ◌<◌, ◌≤◌, ◌⊎◌, List, ◌++◌, length, drop, Bool, true, false, codes, Result, Ok, Err}
+use Rattle.std.specs.Prelude.{◌≡◌, ℕ, zero, suc, ◌-◌, ◌<◌, ◌≤◌, ◌⊎◌, List, ◌++◌, length, drop, Bool, true}
+use Rattle.std.specs.Prelude.{false, codes, Result, Ok, Err}
 use Rattle.edit_record.specs.declared.lists.edits.TheConstants.{MAX_TEXT}
 use Rattle.edit_record.specs.declared.lists.record.Word.{Word}
 use Rattle.edit_record.specs.declared.version_1.TheConstants.{MAX_STEPS}
 use Rattle.edit_record.specs.Lists.Pieces.{EditEntry}
 use Rattle.edit_record.specs.Lists.Journal.{JournalEntry}
-use Rattle.edit_record.specs.Text.{max_number, NumbersFit, list_head, record_head, old_record_head, edit_text, IsCurrentText, IsOldText, IsJournalText}
+use Rattle.edit_record.specs.Text.{max_number, NumbersFit, list_head, record_head, old_record_head, edit_text}
+use Rattle.edit_record.specs.Text.{IsCurrentText, IsOldText, IsJournalText}
 use Rattle.edit_record.specs.Parsing.{record_at}
 use Rattle.edit_record.specs.OldParsing.{OldRecordError}
 use Rattle.edit_record.specs.declared.fault.FaultKind.{FaultKind}

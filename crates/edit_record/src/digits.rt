@@ -1,5 +1,6 @@
 //! Numbers in decimal, a few digits at once, for speed alone.
-ghost use Rattle.std.specs.Prelude.{◌≡◌, ◌+◌, ◌++◌, ◌<◌, ◌≤◌, [], ◌∷◌, length, decimal, vec_len, vec_capacity};
+ghost use Rattle.std.specs.Prelude.{◌≡◌, ◌+◌, ◌++◌, ◌<◌, ◌≤◌, [], ◌∷◌, length, decimal, vec_len};
+ghost use Rattle.std.specs.Prelude.{vec_capacity};
 ghost use Rattle.edit_record.specs.Inner.Digits.{two_digits};
 ghost use Rattle.edit_record.specs.Text.{number_text};
 

@@ -1,7 +1,8 @@
 //! Writing a journal.
 ghost use Rattle.std.specs.Prelude.{◌≡◌, ◌+◌, ◌-◌, ◌^◌, ◌≤◌, ◌++◌, List, length, min, OnOk, IfOk, IfErr, ◌<◌};
 ghost use Rattle.std.specs.List.{flat_map};
-ghost use Rattle.edit_record.specs.Text.{edit_text, list_head, record_head, record_text, journal_text, IsCurrentText};
+ghost use Rattle.edit_record.specs.Text.{edit_text, list_head, record_head, record_text, journal_text};
+ghost use Rattle.edit_record.specs.Text.{IsCurrentText};
 ghost use Rattle.edit_record.specs.Inner.KnownText.{SplitsKnown};
 ghost use Rattle.edit_record.specs.Inner.PartText.{part_text};
 ghost use Rattle.edit_record.specs.Lists.Journal.{JournalEntry};

@@ -5,7 +5,8 @@ ghost use Rattle.edit_record.specs.Lists.Journal.{JournalEntry, journal_transfor
 ghost use Rattle.edit_record.specs.Lists.Sequence.{TransformsInOrder};
 ghost use Rattle.edit_record.specs.Decoding.{IsFirstError};
 ghost use Rattle.edit_record.specs.declared.fault.TextError.{TextError};
-ghost use Rattle.edit_record.specs.Text.{IsCurrentText, IsJournalText, OldRecord, MigrateAllTo, old_transforms};
+ghost use Rattle.edit_record.specs.Text.{IsCurrentText, IsJournalText, OldRecord, MigrateAllTo};
+ghost use Rattle.edit_record.specs.Text.{old_transforms};
 
 pub use crate::lists::laws::{
     apply_is_deterministic, apply_is_exact, change_is_one_to_one, change_result_is_unique,

@@ -1,5 +1,6 @@
 //! Memory for the edits of a list that is read, reserved at once, for speed alone.
-ghost use Rattle.std.specs.Prelude.{◌≡◌, ◌<◌, ◌≤◌, ◌+◌, ◌/◌, ◌++◌, ◌∷◌, [], true, OnOk, is_ok, vec_len, vec_capacity};
+ghost use Rattle.std.specs.Prelude.{◌≡◌, ◌<◌, ◌≤◌, ◌+◌, ◌/◌, ◌++◌, ◌∷◌, [], true, OnOk, is_ok, vec_len};
+ghost use Rattle.std.specs.Prelude.{vec_capacity};
 ghost use Rattle.edit_record.specs.Inner.ListCapacity.{HasFewSpare};
 ghost use Rattle.edit_record.specs.declared.columns.TheConstants.{LEAST_BYTES};
 ghost use Rattle.edit_record.specs.declared.list_capacity.TheConstants.{MOST_RESERVED};

@@ -1,6 +1,7 @@
 //! Readers of the parts of a record. Each returns the part that a text begins with, and the rest of
 //! the text.
-ghost use Rattle.std.specs.Prelude.{◌≡◌, ◌<◌, ◌^◌, option_map, IfOk, IfErr, OnOk, ◌≤◌, is_ok, true, vec_len, vec_capacity};
+ghost use Rattle.std.specs.Prelude.{◌≡◌, ◌<◌, ◌^◌, option_map, IfOk, IfErr, OnOk, ◌≤◌, is_ok, true, vec_len};
+ghost use Rattle.std.specs.Prelude.{vec_capacity};
 ghost use Rattle.edit_record.specs.Inner.ParseResults.{IsParsed, IsRead, IsStop, IsPushed};
 ghost use Rattle.edit_record.specs.Inner.Allocating.{edits_allocate, edit_list_allocates};
 ghost use Rattle.edit_record.specs.Inner.EditLengths.{after_head_at};
@@ -8,7 +9,9 @@ ghost use Rattle.edit_record.specs.Inner.EditSums.{AreSummedUp};
 ghost use Rattle.edit_record.specs.Inner.ListCapacity.{HasFewSpare};
 ghost use Rattle.edit_record.specs.Lists.Validity.{make_edits};
 ghost use Rattle.edit_record.specs.Text.{max_number, space};
-ghost use Rattle.edit_record.specs.Parsing.{strip, expect, number_at, bytes_at, edit_head_at, edit_at, edits_at, if_valid, list_head_at, edit_list_at, bare_word_at, word_at};
+ghost use Rattle.edit_record.specs.Parsing.{strip, expect, number_at, bytes_at, edit_head_at, edit_at};
+ghost use Rattle.edit_record.specs.Parsing.{edits_at, if_valid, list_head_at, edit_list_at, bare_word_at};
+ghost use Rattle.edit_record.specs.Parsing.{word_at};
 ghost use Rattle.edit_record.specs.declared.fault.FaultKind.{FaultKind};
 
 use crate::edit_sums::EditSums;

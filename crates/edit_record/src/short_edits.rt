@@ -12,7 +12,8 @@ ghost use Rattle.edit_record.specs.Text.{max_number, space};
 ghost use Rattle.edit_record.specs.Parsing.{is_digit, number_at, list_head_at, edit_at};
 ghost use Rattle.edit_record.specs.Inner.EditLengths.{lengths_at, after_head_at};
 ghost use Rattle.edit_record.specs.Inner.EditSums.{Follows};
-ghost use Rattle.edit_record.specs.declared.columns.TheConstants.{QUICK_BYTES, QUICK_DIGITS, QUICK_LENGTHS, QUICK_REST};
+ghost use Rattle.edit_record.specs.declared.columns.TheConstants.{QUICK_BYTES, QUICK_DIGITS, QUICK_LENGTHS};
+ghost use Rattle.edit_record.specs.declared.columns.TheConstants.{QUICK_REST};
 ghost use Rattle.edit_record.specs.declared.digits.TheConstants.{EIGHT_DIGITS};
 ghost use Rattle.edit_record.specs.declared.lists.edit.TheConstants.{INLINE_CAPACITY};
 

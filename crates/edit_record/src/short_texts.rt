@@ -4,7 +4,8 @@
 //! inline, and `short_len` adds their lengths; `push_edit_head` repeats the three numbers of an
 //! edit, `write_long_edit` its bytes and its end after them, and `push_list_head` the two numbers of
 //! a list.
-ghost use Rattle.std.specs.Prelude.{◌≡◌, ◌+◌, ◌++◌, ◌<◌, ◌≤◌, length, take, drop, vec_len, vec_capacity, OnOk};
+ghost use Rattle.std.specs.Prelude.{◌≡◌, ◌+◌, ◌++◌, ◌<◌, ◌≤◌, length, take, drop, vec_len, vec_capacity};
+ghost use Rattle.std.specs.Prelude.{OnOk};
 ghost use Rattle.edit_record.specs.Text.{edit_text, edit_head, list_head};
 ghost use Rattle.edit_record.specs.declared.columns.TheConstants.{MOST_BYTES};
 ghost use Rattle.edit_record.specs.declared.digits.TheConstants.{NINE_DIGITS};

@@ -4,8 +4,10 @@
 ghost use Rattle.std.specs.Prelude.{◌≡◌, IfErr};
 ghost use Rattle.edit_record.specs.declared.fault.FaultKind.TheVariants.{Steps};
 ghost use Rattle.edit_record.specs.Decoding.{IsVersion};
-ghost use Rattle.edit_record.specs.Inner.ParseResults.{IsRead, ParsesAs, HasError, IsSquashOrStop, OldRecordAt};
-ghost use Rattle.edit_record.specs.Inner.Allocating.{step_allocates, old_head_allocates, steps_allocate, old_record_allocates};
+ghost use Rattle.edit_record.specs.Inner.ParseResults.{IsRead, ParsesAs, HasError, IsSquashOrStop};
+ghost use Rattle.edit_record.specs.Inner.ParseResults.{OldRecordAt};
+ghost use Rattle.edit_record.specs.Inner.Allocating.{step_allocates, old_head_allocates, steps_allocate};
+ghost use Rattle.edit_record.specs.Inner.Allocating.{old_record_allocates};
 ghost use Rattle.edit_record.specs.OldParsing.{step_at, old_head_at, SquashAt, StepsError, OldRecordError};
 ghost use Rattle.edit_record.specs.Inner.Faults.{stop_of};
 ghost use Rattle.edit_record.specs.Inner.OldHead.{head_view};

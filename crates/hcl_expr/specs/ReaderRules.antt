@@ -1,5 +1,6 @@
 -- For proofs: the rules of the pure parser, over a text as it is read at one place.
-use Rattle.std.specs.Prelude.{◌≡◌, ℕ, suc, ◌-◌, Bool, true, false, if◌then◌else◌, List, [], length, Option, Some, Result, Ok, Err}
+use Rattle.std.specs.Prelude.{◌≡◌, ℕ, suc, ◌-◌, Bool, true, false, if◌then◌else◌, List, [], length, Option}
+use Rattle.std.specs.Prelude.{Some, Result, Ok, Err}
 use Rattle.hcl_token.specs.declared.kind.Kind.{Kind}
 use Rattle.hcl_token.specs.declared.kind.Kind.TheVariants as k
 use Rattle.hcl_grammar.specs.declared.fault.TokenFault.{TokenFault}
@@ -155,7 +156,8 @@ module _ (t : ReaderState) where
     with_tails first head
 
   abbrev pub identifier_or_call : ℕ → Step Term
-  identifier_or_call first = p.identifier_or_call t.tokens t.depth (p.deeper t.tokens t.depth) t.skip_newlines first
+  identifier_or_call first =
+      p.identifier_or_call t.tokens t.depth (p.deeper t.tokens t.depth) t.skip_newlines first
 
   abbrev pub call : ℕ → Step Term
   call first = p.call t.tokens t.depth (p.deeper t.tokens t.depth) t.skip_newlines first

@@ -37,7 +37,8 @@ pub data IsLabels (ts : List Token) : List Label → ℕ → ℕ → Type 0 wher
 -- (Identifier "=" Expr)?
 pub data IsOneLineBody (ts : List Token) (d : ℕ) : Option Attribute → ℕ → ℕ → Type 0 where
   nothing : {i : ℕ} → IsOneLineBody ts d None i i
-  one : {e : Expr} {i j : ℕ} → NextIs ts false k.Identifier i → NextIs ts false k.Equal (after_next ts false i)
+  one : {e : Expr} {i j : ℕ}
+      → NextIs ts false k.Identifier i → NextIs ts false k.Equal (after_next ts false i)
       → IsExpr ts d false e (after_next ts false (after_next ts false i)) j
       → IsOneLineBody ts d (Some (node.attribute (next_index ts false i) j e)) i j
 
@@ -55,7 +56,8 @@ pub data IsMembers (ts : List Token) : ℕ → List Member → ℕ → ℕ → T
       → IsMembers ts d ms n l
       → IsMembers ts d (member.Attribute (node.attribute (next_index ts false i) n e) ∷ ms) i l
   block : {d : ℕ} {ls : List Label} {bs ms : List Member} {i j n o q l : ℕ}
-      → NextIs ts false k.Identifier i → IsLabels ts ls (after_next ts false i) j → NextIs ts false k.OpenBrace j
+      → NextIs ts false k.Identifier i → IsLabels ts ls (after_next ts false i) j
+      → NextIs ts false k.OpenBrace j
       → IsNewline ts (after_next ts false j) n → IsMembers ts d bs n o → NextIs ts false k.CloseBrace o
       → IsEol ts (after_next ts false o) q → IsMembers ts (suc d) ms q l
       → IsMembers ts (suc d)

@@ -32,10 +32,12 @@ use Rattle.hcl_grammar.specs.declared.tree.Tail.{Tail}
 use Rattle.hcl_grammar.specs.declared.tree.Tail.TheVariants as tail
 use Rattle.hcl_grammar.specs.declared.tree.Template.{Template}
 use Rattle.hcl_grammar.specs.declared.tree.Term.{Term}
-use Rattle.hcl_grammar.specs.Lookahead.{NextIs, NextIsWord, NextIsNotWord, IsNewlines, IsSep, IsNameTail, IsSecondName, IsEllipsis, IsKeyword}
+use Rattle.hcl_grammar.specs.Lookahead.{NextIs, NextIsWord, NextIsNotWord, IsNewlines, IsSep, IsNameTail}
+use Rattle.hcl_grammar.specs.Lookahead.{IsSecondName, IsEllipsis, IsKeyword}
 use Rattle.hcl_grammar.specs.Nodes as node
 use Rattle.hcl_grammar.specs.Operators.{unary_operator, binary_operator, levels}
-use Rattle.hcl_grammar.specs.Tokens.{Token, next_index, next_kind, after_next, first_token_in, for_word, in_word, if_word, else_word, endif_word, endfor_word}
+use Rattle.hcl_grammar.specs.Tokens.{Token, next_index, next_kind, after_next, first_token_in, for_word}
+use Rattle.hcl_grammar.specs.Tokens.{in_word, if_word, else_word, endif_word, endfor_word}
 
 mutual
   -- Expr = Or ("?" Expr ":" Expr)?
@@ -47,7 +49,8 @@ mutual
         → IsLevel ts (suc d) m levels c i j
         → NextIs ts m k.Question j → IsExpr ts d m then_branch (after_next ts m j) n
         → NextIs ts m k.Colon n → IsExpr ts d m else_branch (after_next ts m n) l
-        → IsExpr ts (suc d) m (node.expr (next_index ts m i) l (form.Conditional c then_branch else_branch)) i l
+        → IsExpr ts (suc d) m
+        (node.expr (next_index ts m i) l (form.Conditional c then_branch else_branch)) i l
 
   -- Or = And (two bars And)*
   --
@@ -72,7 +75,8 @@ mutual
   -- what follows the first operand of a level: its operators, each with its second operand
   pub data IsOperations (ts : List Token) : ℕ → Bool → ℕ → List Operation → ℕ → ℕ → Type 0 where
     no_operations : {d : ℕ} {m : Bool} {n i : ℕ} → IsOperations ts d m n [] i i
-    operation : {d : ℕ} {m : Bool} {n : ℕ} {t : Kind} {op : BinaryOperator} {x : Expr} {links : List Operation}
+    operation : {d : ℕ} {m : Bool} {n : ℕ} {t : Kind} {op : BinaryOperator}
+        {x : Expr} {links : List Operation}
         {i j l : ℕ}
         → NextIs ts m t i → binary_operator t ≡ Some (n, op) → IsLevel ts d m n x (after_next ts m i) j
         → IsOperations ts d m n links j l
@@ -97,10 +101,12 @@ mutual
   -- Tail = "." Identifier | DotIndex | "." "*" | "[" "*" "]" | "[" Expr "]"
   pub data IsTail (ts : List Token) : ℕ → Bool → Tail → ℕ → ℕ → Type 0 where
     by_name : {d : ℕ} {m : Bool} {i : ℕ} → NextIs ts m k.Dot i → NextIs ts m k.Identifier (after_next ts m i)
-        → IsTail ts d m (tail.Name (next_index ts m (after_next ts m i))) i (after_next ts m (after_next ts m i))
+        → IsTail ts d m (tail.Name (next_index ts m (after_next ts m i)))
+        i (after_next ts m (after_next ts m i))
     legacy : {d : ℕ} {m : Bool} {i : ℕ} → NextIs ts m k.DotIndex i
         → IsTail ts d m (tail.LegacyIndex (next_index ts m i)) i (after_next ts m i)
-    attribute_splat : {d : ℕ} {m : Bool} {i : ℕ} → NextIs ts m k.Dot i → NextIs ts m k.Star (after_next ts m i)
+    attribute_splat : {d : ℕ} {m : Bool} {i : ℕ}
+        → NextIs ts m k.Dot i → NextIs ts m k.Star (after_next ts m i)
         → IsTail ts d m tail.AttributeSplat i (after_next ts m (after_next ts m i))
     full_splat : {d : ℕ} {m : Bool} {i : ℕ} → NextIs ts m k.OpenBracket i
         → NextIs ts true k.Star (after_next ts m i)
@@ -118,7 +124,8 @@ mutual
     identifier : {d : ℕ} {m : Bool} {i : ℕ} → NextIs ts m k.Identifier i
         → next_kind ts m (after_next ts m i) ≢ Some k.OpenParen
         → next_kind ts m (after_next ts m i) ≢ Some k.DoubleColon
-        → IsTerm ts d m (node.term (next_index ts m i) (after_next ts m i) shape.Identifier) i (after_next ts m i)
+        → IsTerm ts d m
+        (node.term (next_index ts m i) (after_next ts m i) shape.Identifier) i (after_next ts m i)
     -- Call = Identifier ("::" Identifier)* "(" (Expr ("," Expr)* (","|"...")?)? ")"
     call : {d : ℕ} {m : Bool} {names : List ℕ} {es : List Expr} {expand_final : Bool} {i j l : ℕ}
         → NextIs ts m k.Identifier i
@@ -223,7 +230,8 @@ mutual
         → NextIs ts true k.Identifier (after_next ts true i)
         → IsSecondName ts o (after_next ts true (after_next ts true i)) j → NextIsWord ts true in_word j
         → IsExpr ts d true e (after_next ts true j) l
-        → IsIntro ts d (node.intro (next_index ts true i) l (next_index ts true (after_next ts true i)) o e) i l
+        → IsIntro ts d
+        (node.intro (next_index ts true i) l (next_index ts true (after_next ts true i)) o e) i l
 
   -- ("if" Expr)? and the closing bracket
   pub data IsFilter (ts : List Token) : ℕ → Kind → Option Expr → ℕ → ℕ → Type 0 where
@@ -256,7 +264,8 @@ mutual
     -- expression two.
     if_directive : {d : ℕ} {m : Bool} {c : Expr} {then_branch : List Part} {else_branch : Option Template}
         {i j n l : ℕ} → NextIs ts m k.DirectiveOpen i
-        → NextIsWord ts true if_word (after_next ts m i) → IsExpr ts d true c (after_next ts true (after_next ts m i)) j
+        → NextIsWord ts true if_word (after_next ts m i)
+        → IsExpr ts d true c (after_next ts true (after_next ts m i)) j
         → NextIs ts true k.SeqClose j
         → IsParts ts (suc d) m then_branch (after_next ts true j) n → IsElse ts (suc d) m else_branch n l
         → IsPart ts (suc (suc d)) m

@@ -52,7 +52,8 @@ pub data IsNameTail (ts : List Token) : Bool → List ℕ → ℕ → ℕ → Ty
 pub data IsSecondName (ts : List Token) : Option ℕ → ℕ → ℕ → Type 0 where
   no_second : {i : ℕ} → IsSecondName ts None i i
   second : {i : ℕ} → NextIs ts true k.Comma i → NextIs ts true k.Identifier (after_next ts true i)
-      → IsSecondName ts (Some (next_index ts true (after_next ts true i))) i (after_next ts true (after_next ts true i))
+      → IsSecondName ts (Some (next_index ts true (after_next ts true i)))
+      i (after_next ts true (after_next ts true i))
 
 -- "..."? of a `for`
 pub data IsEllipsis (ts : List Token) : Bool → ℕ → ℕ → Type 0 where

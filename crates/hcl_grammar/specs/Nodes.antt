@@ -90,7 +90,13 @@ template first past parts = roll-Template (record { first = first; past = past; 
 unfoldable pub if_part : ℕ → ℕ → Expr → Template → Option Template → Part
 if_part first past condition then_branch else_branch =
     part.If (roll-IfDirective
-    (record { first = first; past = past; condition = condition; then_branch = then_branch; else_branch = else_branch }))
+    (record {
+      first = first;
+      past = past;
+      condition = condition;
+      then_branch = then_branch;
+      else_branch = else_branch;
+    }))
 
 -- a `for` directive
 unfoldable pub for_part : ℕ → ℕ → Intro → Template → Part

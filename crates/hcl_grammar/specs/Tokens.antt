@@ -1,7 +1,8 @@
 -- Which token is where in a list of tokens. Numbers of tokens count from 0; a place is the number
 -- of the token there.
 -- HCL native syntax specification, Comments and Whitespace, and Structural Elements.
-use Rattle.std.specs.Prelude.{ℕ, suc, ◌+◌, ◌==◌, ◌&&◌, Bool, true, false, if◌then◌else◌, List, drop, slice_get, Option, Some, None, nat_eq, codes}
+use Rattle.std.specs.Prelude.{ℕ, suc, ◌+◌, ◌==◌, ◌&&◌, Bool, true, false, if◌then◌else◌, List, drop}
+use Rattle.std.specs.Prelude.{slice_get, Option, Some, None, nat_eq, codes}
 use Rattle.std.specs.List.{prefix_len}
 use Rattle.std.specs.Option.{option_map}
 use Rattle.std.specs.Cmp.Lexicographic.{pointwise}

@@ -12,5 +12,6 @@ without_comment_text t = if is_line_comment t.0 then (t.0, []) else t
 
 -- tokens that differ in what their line comments say, and in nothing else, have the same trees
 abbrev pub CommentTextIsIgnored : Type 0
-CommentTextIsIgnored = (ts us : List Token) (d : ℕ) (t : Tree) → map without_comment_text ts ≡ map without_comment_text us
+CommentTextIsIgnored = (ts us : List Token) (d : ℕ) (t : Tree)
+    → map without_comment_text ts ≡ map without_comment_text us
     → IsFile ts d t → IsFile us d t

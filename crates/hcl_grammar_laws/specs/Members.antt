@@ -1,5 +1,6 @@
 -- What a reading of one member answers.
-use Rattle.std.specs.Prelude.{◌≡◌, ◌≢◌, ℕ, false, List, ◌∷◌, Option, Some, None, Result, MatchResult, IfOk, IfSome, IfNone}
+use Rattle.std.specs.Prelude.{◌≡◌, ◌≢◌, ℕ, false, List, ◌∷◌, Option, Some, None, Result, MatchResult, IfOk}
+use Rattle.std.specs.Prelude.{IfSome, IfNone}
 use Rattle.hcl_token.specs.declared.kind.Kind.TheVariants.{Identifier}
 use Rattle.hcl_grammar.specs.declared.fault.TokenFault.{TokenFault}
 use Rattle.hcl_grammar.specs.declared.tree.Block.{Block}

@@ -32,7 +32,8 @@ use Rattle.hcl_grammar.specs.declared.tree.Tree.{Tree}
 use Rattle.hcl_grammar.specs.Bodies.{IsLabels, IsOneLineBody, IsMembers, IsFile}
 use Rattle.hcl_grammar.specs.Grammar.{IsExpr, IsTerm, IsIntro, IsParts, IsPart}
 use Rattle.hcl_grammar.specs.Tokens.{Token}
-use Rattle.hcl_grammar.specs.TreeLayers.{ExprKindLayer, PrimaryLayer, TailLayer, PartLayer, ContentLayer, MemberLayer}
+use Rattle.hcl_grammar.specs.TreeLayers.{ExprKindLayer, PrimaryLayer, TailLayer, PartLayer, ContentLayer}
+use Rattle.hcl_grammar.specs.TreeLayers.{MemberLayer}
 
 -- a node that has tokens of its own
 pub data Node : Type 0 where
@@ -92,7 +93,8 @@ tail_nodes (Tail-F.Index e) = expr e ∷ []
 tail_nodes _ = []
 
 abbrev pub expr_kind_nodes : ExprKindLayer → List Node
-expr_kind_nodes (ExprKind-F.Conditional c then_branch else_branch) = expr c ∷ expr then_branch ∷ expr else_branch ∷ []
+expr_kind_nodes (ExprKind-F.Conditional c then_branch else_branch) =
+    expr c ∷ expr then_branch ∷ expr else_branch ∷ []
 expr_kind_nodes (ExprKind-F.Binary head links) = expr head ∷ map (λ (l : Operation). expr l.operand) links
 expr_kind_nodes (ExprKind-F.Unary op operand) = expr operand ∷ []
 expr_kind_nodes (ExprKind-F.Postfix t tails) = term t ∷ flat_map (λ (x : Tail). tail_nodes (out-Tail x)) tails

@@ -1,6 +1,8 @@
 //! Laws of layouts of texts. Each law is the contract of a function that does nothing.
 
-ghost use Rattle.hcl_layout.specs.LayoutLaws.{LayoutFits, LayoutTokenizes, LaidOutIsText, OneLayout, LayoutParses, LayoutKeepsTokens, LayoutIsLaidOut, LayoutOfLayout};
+ghost use Rattle.hcl_layout.specs.LayoutLaws.{LayoutFits, LayoutTokenizes, LaidOutIsText, OneLayout};
+ghost use Rattle.hcl_layout.specs.LayoutLaws.{LayoutParses, LayoutKeepsTokens, LayoutIsLaidOut};
+ghost use Rattle.hcl_layout.specs.LayoutLaws.{LayoutOfLayout};
 
 /// States that the gaps of a layout are allowed between the tokens, and none is empty between two
 /// that join.

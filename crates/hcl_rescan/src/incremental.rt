@@ -6,7 +6,8 @@
 //! they have the same tokens there. The lines in which something changed are scanned as texts of
 //! their own; what follows the last of them has to be as it was.
 
-ghost use Rattle.std.specs.Prelude.{◌≡◌, ◌<◌, ◌≤◌, ◌+◌, ◌-◌, ◌^◌, ◌++◌, ◌∷◌, ℕ, true, false, Some, [], length, drop, slice_get, slice_range, IsTrue, OnOk, IfOk, IfErr, IfSome};
+ghost use Rattle.std.specs.Prelude.{◌≡◌, ◌<◌, ◌≤◌, ◌+◌, ◌-◌, ◌^◌, ◌++◌, ◌∷◌, ℕ, true, false, Some, []};
+ghost use Rattle.std.specs.Prelude.{length, drop, slice_get, slice_range, IsTrue, OnOk, IfOk, IfErr, IfSome};
 ghost use Rattle.hcl_token.specs.declared.kind.Kind.TheVariants.{LineEnd};
 ghost use Rattle.hcl_token.specs.TokenizedText.{kind_of};
 ghost use Rattle.hcl_token.specs.Tokens.{Pair, whole_text};
@@ -16,7 +17,8 @@ ghost use Rattle.hcl_scan.specs.declared.fault.ScanFault.{ScanFault};
 ghost use Rattle.hcl_scan.specs.ScanResult.{IsScanFault, IsScanResult};
 ghost use Rattle.hcl_scan.specs.Follows.{AreApart, FollowsFrom, IsApart};
 ghost use Rattle.hcl_rescan.specs.Inner.Pieces.{AreBefore, fault_of_part};
-ghost use Rattle.hcl_rescan.specs.Inner.WholeLines.{AreSelfContained, EndsWithLineEnd, IsRescannedTo, IsLineStart, IsLineRange, IsRescanned, depth_after};
+ghost use Rattle.hcl_rescan.specs.Inner.WholeLines.{AreSelfContained, EndsWithLineEnd, IsRescannedTo};
+ghost use Rattle.hcl_rescan.specs.Inner.WholeLines.{IsLineStart, IsLineRange, IsRescanned, depth_after};
 
 use crate::moved::move_spans;
 use crate::sequences::{close_what_they_open, first_beyond};

@@ -1,8 +1,10 @@
 -- Characters and short pieces of text that lexemes are made of.
 -- HCL native syntax specification, Lexical Elements, Identifiers and Templates.
-use Rattle.std.specs.Prelude.{ℕ, Bool, true, false, ◌&&◌, ◌||◌, if◌then◌else◌, ◌==◌, List, [], ◌∷◌, slice_index}
+use Rattle.std.specs.Prelude.{ℕ, Bool, true, false, ◌&&◌, ◌||◌, if◌then◌else◌, ◌==◌, List, [], ◌∷◌}
+use Rattle.std.specs.Prelude.{slice_index}
 use Rattle.unicode_ident.specs.Ident.{is_xid_start, is_xid_continue}
-use Rattle.hcl_token.specs.Bytes.{tab, line_feed, carriage_return, space, dollar, percent, minus, underscore, open_brace}
+use Rattle.hcl_token.specs.Bytes.{tab, line_feed, carriage_return, space, dollar, percent, minus, underscore}
+use Rattle.hcl_token.specs.Bytes.{open_brace}
 
 -- a space or a tab
 abbrev pub is_whitespace : ℕ → Bool

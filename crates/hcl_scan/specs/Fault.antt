@@ -1,13 +1,16 @@
 -- The error of a text that has no tokens, and its place. The errors, their order and their places
 -- are this project's own; the tokens are those of the HCL native syntax specification, Lexical
 -- Elements.
-use Rattle.std.specs.Prelude.{◌≡◌, ◌≢◌, ℕ, suc, ◌+◌, ◌-◌, ◌<◌, ◌≤◌, false, ◌&&◌, if◌then◌else◌, List, [], ◌∷◌, ◌++◌, length, map, zip, drop, slice_index, IsUtf8, ◌==◌, ◌⊎◌}
+use Rattle.std.specs.Prelude.{◌≡◌, ◌≢◌, ℕ, suc, ◌+◌, ◌-◌, ◌<◌, ◌≤◌, false, ◌&&◌, if◌then◌else◌, List, [], ◌∷◌}
+use Rattle.std.specs.Prelude.{◌++◌, length, map, zip, drop, slice_index, IsUtf8, ◌==◌, ◌⊎◌}
 use Rattle.std.specs.Str.{IsValidUpTo}
 use Rattle.hcl_token.specs.Bytes.{star, slash, backslash}
 use Rattle.hcl_token.specs.declared.kind.Kind.{Kind}
 use Rattle.hcl_token.specs.Tokens.{Pair, whole_text}
 use Rattle.hcl_scan.specs.declared.fault.ScanFault.{ScanFault}
-use Rattle.hcl_scan.specs.declared.fault.ScanFault.TheVariants.{TooLong, NotUtf8, BadCharacter, BadEscape, OpenString, OpenTemplate, OpenHeredoc, OpenComment}
+use Rattle.hcl_scan.specs.declared.fault.ScanFault.TheVariants.{TooLong, NotUtf8, BadCharacter, BadEscape}
+use Rattle.hcl_scan.specs.declared.fault.ScanFault.TheVariants.{OpenString, OpenTemplate, OpenHeredoc}
+use Rattle.hcl_scan.specs.declared.fault.ScanFault.TheVariants.{OpenComment}
 use Rattle.hcl_scan.specs.Characters.{is_whitespace}
 use Rattle.hcl_scan.specs.Modes.{Mode, mode_of, is_literal, is_braces, modes_after}
 use Rattle.hcl_scan.specs.Modes.Mode.{Expression, Sequence, Braces, Quoted, Heredoc}

@@ -4,7 +4,8 @@
 use Rattle.std.specs.Prelude.{◌≡◌, ◌≢◌, ℕ, Bool, true, false, ◌||◌, List, [], ◌∷◌, ◌++◌, map, IsUtf8, ◌⊎◌, ⊤}
 use Rattle.std.specs.List.{list_all}
 use Rattle.hcl_token.specs.declared.kind.Kind.{Kind}
-use Rattle.hcl_token.specs.declared.kind.Kind.TheVariants.{Mark, LineEnd, LineComment, QuoteClose, QuoteLit, InterpOpen, DirectiveOpen, HereClose, HereLit}
+use Rattle.hcl_token.specs.declared.kind.Kind.TheVariants.{Mark, LineEnd, LineComment, QuoteClose, QuoteLit}
+use Rattle.hcl_token.specs.declared.kind.Kind.TheVariants.{InterpOpen, DirectiveOpen, HereClose, HereLit}
 use Rattle.hcl_token.specs.Tokens.{Pair}
 use Rattle.hcl_token.specs.Joins.{joins_with}
 use Rattle.hcl_scan.specs.Characters.{is_whitespace}
@@ -95,7 +96,9 @@ has_no_gap_after kind = false
 -- Each gap is whitespace, and empty if the kind of the token before or after it requires that; the
 -- token before the first gap does, or does not.
 abbrev pub AreAllowedGaps : Bool → List Pair → List ℕ → Type 0
-AreAllowedGaps must_be_empty [] last = (list_all is_whitespace last ≡ true) × (must_be_empty ≡ true → last ≡ [])
+AreAllowedGaps must_be_empty [] last =
+    (list_all is_whitespace last ≡ true)
+    × (must_be_empty ≡ true → last ≡ [])
 AreAllowedGaps must_be_empty (p ∷ ps) last =
     (list_all is_whitespace p.gap ≡ true)
     × ((must_be_empty || has_no_gap_before p.kind) ≡ true → p.gap ≡ [])

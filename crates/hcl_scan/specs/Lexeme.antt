@@ -1,12 +1,24 @@
 -- The lexemes: for each mode and kind the spellings, given what follows.
 -- HCL native syntax specification, Lexical Elements and Templates.
-use Rattle.std.specs.Prelude.{◌≡◌, ◌≢◌, ℕ, suc, ◌≤◌, Bool, true, false, not, ◌&&◌, ◌||◌, if◌then◌else◌, ◌==◌, List, [], ◌∷◌, ◌++◌, length, drop, slice_index, ◌⊎◌, IsTrue, IsUtf8, Option, Some, None, codes}
+use Rattle.std.specs.Prelude.{◌≡◌, ◌≢◌, ℕ, suc, ◌≤◌, Bool, true, false, not, ◌&&◌, ◌||◌, if◌then◌else◌, ◌==◌}
+use Rattle.std.specs.Prelude.{List, [], ◌∷◌, ◌++◌, length, drop, slice_index, ◌⊎◌, IsTrue, IsUtf8, Option}
+use Rattle.std.specs.Prelude.{Some, None, codes}
 use Rattle.std.specs.Char.{is_ascii_digit, is_ascii_hexdigit}
 use Rattle.std.specs.List.{list_all}
 use Rattle.std.specs.Str.{chars}
-use Rattle.hcl_token.specs.Bytes.{quote, star, slash, backslash, capital_e, capital_u, letter_e, letter_n, letter_r, letter_t, letter_u}
+use Rattle.hcl_token.specs.Bytes.{quote, star, slash, backslash, capital_e, capital_u, letter_e, letter_n}
+use Rattle.hcl_token.specs.Bytes.{letter_r, letter_t, letter_u}
 use Rattle.hcl_token.specs.declared.kind.Kind.{Kind}
-use Rattle.hcl_token.specs.declared.kind.Kind.TheVariants.{Mark, LineEnd, LineComment, InlineComment, Identifier, Number, DotIndex, Plus, Minus, Star, Slash, Percent, And, Or, Bang, DoubleEqual, NotEqual, Less, Greater, LessEqual, GreaterEqual, Question, Colon, DoubleColon, Equal, FatArrow, OpenBrace, CloseBrace, OpenBracket, CloseBracket, OpenParen, CloseParen, Comma, Dot, Ellipsis, QuoteOpen, HereOpen, SeqClose, QuoteClose, InterpOpen, DirectiveOpen, QuoteLit, HereClose, HereLit}
+use Rattle.hcl_token.specs.declared.kind.Kind.TheVariants.{Mark, LineEnd, LineComment, InlineComment}
+use Rattle.hcl_token.specs.declared.kind.Kind.TheVariants.{Identifier, Number, DotIndex, Plus, Minus, Star}
+use Rattle.hcl_token.specs.declared.kind.Kind.TheVariants.{Slash, Percent, And, Or, Bang, DoubleEqual}
+use Rattle.hcl_token.specs.declared.kind.Kind.TheVariants.{NotEqual, Less, Greater, LessEqual, GreaterEqual}
+use Rattle.hcl_token.specs.declared.kind.Kind.TheVariants.{Question, Colon, DoubleColon, Equal, FatArrow}
+use Rattle.hcl_token.specs.declared.kind.Kind.TheVariants.{OpenBrace, CloseBrace, OpenBracket, CloseBracket}
+use Rattle.hcl_token.specs.declared.kind.Kind.TheVariants.{OpenParen, CloseParen, Comma, Dot, Ellipsis}
+use Rattle.hcl_token.specs.declared.kind.Kind.TheVariants.{QuoteOpen, HereOpen, SeqClose, QuoteClose}
+use Rattle.hcl_token.specs.declared.kind.Kind.TheVariants.{InterpOpen, DirectiveOpen, QuoteLit, HereClose}
+use Rattle.hcl_token.specs.declared.kind.Kind.TheVariants.{HereLit}
 use Rattle.hcl_scan.specs.Runs.{UnitLength, IsRun, byte_unit}
 use Rattle.hcl_scan.specs.Modes.{Mode, is_literal, can_close_sequence, is_at_line_start, marker}
 use Rattle.hcl_scan.specs.Modes.Mode.{Quoted, Heredoc}

@@ -1,10 +1,13 @@
 -- The modes that tokens are read in, and what a token does to them.
 -- HCL native syntax specification, Lexical Elements and Templates.
-use Rattle.std.specs.Prelude.{ℕ, ◌==◌, ◌||◌, Bool, true, false, not, List, [], ◌∷◌, take, drop, slice_index, if◌then◌else◌}
+use Rattle.std.specs.Prelude.{ℕ, ◌==◌, ◌||◌, Bool, true, false, not, List, [], ◌∷◌, take, drop, slice_index}
+use Rattle.std.specs.Prelude.{if◌then◌else◌}
 use Rattle.std.specs.List.{prefix_len}
 use Rattle.hcl_token.specs.Bytes.{line_feed, carriage_return, minus}
 use Rattle.hcl_token.specs.declared.kind.Kind.{Kind}
-use Rattle.hcl_token.specs.declared.kind.Kind.TheVariants.{OpenBrace, CloseBrace, QuoteOpen, QuoteClose, HereOpen, HereClose, HereLit, InterpOpen, DirectiveOpen, SeqClose}
+use Rattle.hcl_token.specs.declared.kind.Kind.TheVariants.{OpenBrace, CloseBrace, QuoteOpen, QuoteClose}
+use Rattle.hcl_token.specs.declared.kind.Kind.TheVariants.{HereOpen, HereClose, HereLit, InterpOpen}
+use Rattle.hcl_token.specs.declared.kind.Kind.TheVariants.{DirectiveOpen, SeqClose}
 use Rattle.hcl_scan.specs.Runs.{is_line_start_after}
 
 pub data Mode : Type 0 where

@@ -22,7 +22,9 @@ AreUnitsOf unit at_line_start (u ∷ us) rest =
 
 -- the text is consecutive units, with rest after it
 abbrev pub IsRun : UnitLength → Bool → List ℕ → List ℕ → Type 0
-IsRun unit at_line_start text rest = (us : List (List ℕ)) × (text ≡ concat us) × AreUnitsOf unit at_line_start us rest
+IsRun unit at_line_start text rest =
+    (us : List (List ℕ)) × (text ≡ concat us)
+    × AreUnitsOf unit at_line_start us rest
 
 -- one byte at a time: the first byte passes, given what follows it
 abbrev pub byte_unit : (ℕ → List ℕ → Bool) → UnitLength

@@ -1,11 +1,14 @@
 //! Heredocs: where one opens, and its text.
 
-ghost use Rattle.std.specs.Prelude.{◌≡◌, ◌+◌, ◌<◌, ◌≤◌, ◌&&◌, true, length, drop, IsUtf8, if◌then◌else◌, Some, None};
+ghost use Rattle.std.specs.Prelude.{◌≡◌, ◌+◌, ◌<◌, ◌≤◌, ◌&&◌, true, length, drop, IsUtf8, if◌then◌else◌};
+ghost use Rattle.std.specs.Prelude.{Some, None};
 ghost use Rattle.hcl_scan.specs.Characters.{is_prefix_of};
 ghost use Rattle.hcl_scan.specs.Closing.{is_at_line_end_or_eof, is_closing_line, heredoc_unit};
 ghost use Rattle.hcl_scan.specs.Inner.LexemeStarts.{identifier, is_at_opening, opening};
 ghost use Rattle.hcl_scan.specs.Inner.RunLength.{run_length};
-ghost use Rattle.hcl_scan.specs.Inner.HeredocToken.{line_end_length, heredoc_start_length, is_at_heredoc_start, open_with_marker, here_open, closing_line_length, heredoc_text_token, heredoc_token};
+ghost use Rattle.hcl_scan.specs.Inner.HeredocToken.{line_end_length, heredoc_start_length};
+ghost use Rattle.hcl_scan.specs.Inner.HeredocToken.{is_at_heredoc_start, open_with_marker, here_open};
+ghost use Rattle.hcl_scan.specs.Inner.HeredocToken.{closing_line_length, heredoc_text_token, heredoc_token};
 
 use crate::bytes::{byte_at, is_at_line_end, skip_whitespace, slice, whitespace_end};
 use crate::ident::{identifier, is_word_start};

@@ -1,12 +1,14 @@
 //! Identifiers. A `_bytewise` function is the plain form; `_of_16` is for speed alone: it passes 16
 //! bytes at a time.
 
-ghost use Rattle.std.specs.Prelude.{◌≡◌, ◌∷◌, ◌+◌, ◌<◌, ◌≤◌, length, drop, true, false, Some, IsUtf8, slice_index};
+ghost use Rattle.std.specs.Prelude.{◌≡◌, ◌∷◌, ◌+◌, ◌<◌, ◌≤◌, length, drop, true, false, Some, IsUtf8};
+ghost use Rattle.std.specs.Prelude.{slice_index};
 ghost use Rattle.std.specs.Char.{len_utf8};
 ghost use Rattle.std.specs.Str.{chars};
 ghost use Rattle.hcl_token.specs.declared.kind.Kind.TheVariants.{Identifier};
 ghost use Rattle.hcl_scan.specs.Characters.{is_id_start, is_id_continue};
-ghost use Rattle.hcl_scan.specs.Inner.LexemeStarts.{is_letter, is_ascii_id_continue, is_word_start, id_continue_length, identifier};
+ghost use Rattle.hcl_scan.specs.Inner.LexemeStarts.{is_letter, is_ascii_id_continue, is_word_start};
+ghost use Rattle.hcl_scan.specs.Inner.LexemeStarts.{id_continue_length, identifier};
 
 use crate::bytes::{byte_at, is_ascii_id_continue};
 use crate::sixteen::count_id_bytes;

@@ -3,12 +3,14 @@
 ghost use Rattle.std.specs.Prelude.{◌≡◌, ◌+◌, ◌≤◌, ◌∷◌, ℕ, List, true, false, OnOk, drop, length};
 ghost use Rattle.std.specs.List.{prefix_len};
 ghost use Rattle.hcl_scan.specs.Modes as spec;
-ghost use Rattle.hcl_scan.specs.Modes.{mode_of, is_braces, is_in_sequence, is_at_line_start, marker_of, modes_after};
+ghost use Rattle.hcl_scan.specs.Modes.{mode_of, is_braces, is_in_sequence, is_at_line_start, marker_of};
+ghost use Rattle.hcl_scan.specs.Modes.{modes_after};
 ghost use Rattle.hcl_scan.specs.Modes.Mode.{Sequence, Heredoc};
 ghost use Rattle.hcl_scan.specs.Runs.{is_line_start_after};
 ghost use Rattle.hcl_token.specs.declared.kind.Kind.TheVariants.{HereLit};
 ghost use Rattle.hcl_scan.specs.Inner.OpeningPlaces.{opening_places_after, innermost_place};
-ghost use Rattle.hcl_scan.specs.Inner.Openings.{mode_view, region_of, modes_of, places_of, with_line_start, with_line_start_in, is_not_line_break};
+ghost use Rattle.hcl_scan.specs.Inner.Openings.{mode_view, region_of, modes_of, places_of, with_line_start};
+ghost use Rattle.hcl_scan.specs.Inner.Openings.{with_line_start_in, is_not_line_break};
 
 use crate::bytes::{byte_at, slice};
 use hcl_token::Kind;

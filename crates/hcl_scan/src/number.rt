@@ -2,7 +2,8 @@
 
 ghost use Rattle.std.specs.Prelude.{◌≡◌, ◌==◌, ◌&&◌, ◌+◌, ◌≤◌, not, length, drop};
 ghost use Rattle.std.specs.Char.{is_ascii_digit};
-ghost use Rattle.hcl_scan.specs.Inner.NextToken.{is_sign, is_exponent_letter, fraction_length, exponent_length, number_length};
+ghost use Rattle.hcl_scan.specs.Inner.NextToken.{is_sign, is_exponent_letter, fraction_length};
+ghost use Rattle.hcl_scan.specs.Inner.NextToken.{exponent_length, number_length};
 
 use crate::bytes::{byte_at, digits_end};
 use crate::sixteen::count_digits;

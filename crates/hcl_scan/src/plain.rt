@@ -8,7 +8,8 @@
 //! How many tokens are added here is not fixed by a clause: it decides only how long a scan takes.
 //! `tokenize_str` adds each token that is not added here.
 
-ghost use Rattle.std.specs.Prelude.{◌≡◌, ◌+◌, ◌<◌, ◌≤◌, ◌++◌, ◌∷◌, ℕ, List, [], true, false, length, drop, slice_index, Some, IfSome, IsUtf8, vec_len, vec_capacity};
+ghost use Rattle.std.specs.Prelude.{◌≡◌, ◌+◌, ◌<◌, ◌≤◌, ◌++◌, ◌∷◌, ℕ, List, [], true, false, length, drop};
+ghost use Rattle.std.specs.Prelude.{slice_index, Some, IfSome, IsUtf8, vec_len, vec_capacity};
 ghost use Rattle.hcl_token.specs.declared.kind.Kind.TheVariants.{QuoteOpen, QuoteLit, QuoteClose};
 ghost use Rattle.hcl_scan.specs.Tokenization.{MAX_TEXT};
 ghost use Rattle.hcl_scan.specs.Modes as spec;

@@ -1,10 +1,12 @@
 //! Runs of units. A `_bytewise` function is the plain form; `_of_16` is for speed alone: it
 //! passes 16 bytes at a time.
 
-ghost use Rattle.std.specs.Prelude.{◌≡◌, ◌==◌, ◌∷◌, ◌+◌, ◌<◌, ◌≤◌, ℕ, List, length, drop, true, false, ◌&&◌, slice_index};
+ghost use Rattle.std.specs.Prelude.{◌≡◌, ◌==◌, ◌∷◌, ◌+◌, ◌<◌, ◌≤◌, ℕ, List, length, drop, true, false, ◌&&◌};
+ghost use Rattle.std.specs.Prelude.{slice_index};
 ghost use Rattle.std.specs.Char.{is_ascii_hexdigit};
 ghost use Rattle.hcl_scan.specs.Characters.{is_at_line_end, is_sigil, sigil_length};
-ghost use Rattle.hcl_scan.specs.Lexeme.{comment_unit, inline_unit, quote_unit, is_simple_escape, has_four_hex, escape_length};
+ghost use Rattle.hcl_scan.specs.Lexeme.{comment_unit, inline_unit, quote_unit, is_simple_escape};
+ghost use Rattle.hcl_scan.specs.Lexeme.{has_four_hex, escape_length};
 ghost use Rattle.hcl_scan.specs.Runs.{UnitLength};
 ghost use Rattle.hcl_scan.specs.Inner.RunLength.{run_length, IsOrdinary};
 

@@ -1,7 +1,8 @@
 //! A text with its tokens.
 
 ghost use Rattle.std.specs.Prelude.{◌≡◌, ◌+◌, ◌<◌, ◌≤◌, ◌↔◌, [], Some, IsTrue, IsUtf8, length, drop};
-ghost use Rattle.hcl_token.specs.TokenizedText.{TokenizedText, AreUtf8, kind_of, spelling_of, gap_of, clusters_of, item_of, joins_of, pairs_in_range};
+ghost use Rattle.hcl_token.specs.TokenizedText.{TokenizedText, AreUtf8, kind_of, spelling_of, gap_of};
+ghost use Rattle.hcl_token.specs.TokenizedText.{clusters_of, item_of, joins_of, pairs_in_range};
 ghost use Rattle.hcl_token.specs.Pairs.{InOrder, pairs_of};
 ghost use Rattle.hcl_token.specs.TokenLists.{IsTokenListOf};
 ghost use Rattle.hcl_token.specs.Place.{place_of};

@@ -1,11 +1,13 @@
 //! The token at a place. For speed alone: `expression_token` tests the first byte before
 //! `any_expression_token`, and `next_plain_token_apart` is `next_plain_token` by a call.
 
-ghost use Rattle.std.specs.Prelude.{◌≡◌, ◌==◌, ◌+◌, ◌<◌, ◌≤◌, true, false, length, drop, slice_index, IsUtf8, Some, IfSome, if◌then◌else◌};
+ghost use Rattle.std.specs.Prelude.{◌≡◌, ◌==◌, ◌+◌, ◌<◌, ◌≤◌, true, false, length, drop, slice_index, IsUtf8};
+ghost use Rattle.std.specs.Prelude.{Some, IfSome, if◌then◌else◌};
 ghost use Rattle.hcl_token.specs.declared.kind.Kind.TheVariants.{SeqClose, CloseBrace};
 ghost use Rattle.hcl_scan.specs.Lexeme.{comment_unit};
 ghost use Rattle.hcl_scan.specs.Inner.RunLength.{run_length};
-ghost use Rattle.hcl_scan.specs.Inner.NextToken.{inline_comment, dot_token, punctuation, heredoc_or_less, expression_token, quoted_token, gap_length, token};
+ghost use Rattle.hcl_scan.specs.Inner.NextToken.{inline_comment, dot_token, punctuation, heredoc_or_less};
+ghost use Rattle.hcl_scan.specs.Inner.NextToken.{expression_token, quoted_token, gap_length, token};
 ghost use Rattle.hcl_scan.specs.Inner.Markers.{HasMarker};
 ghost use Rattle.hcl_scan.specs.Inner.Openings.{mode_view};
 ghost use Rattle.hcl_scan.specs.Inner.OpeningPlaces.{LeavesOpenings};

@@ -1,6 +1,7 @@
 //! The tokens of a whole text.
 
-ghost use Rattle.std.specs.Prelude.{◌≡◌, ◌+◌, ◌<◌, ◌≤◌, ◌++◌, ◌∷◌, length, drop, vec_len, vec_capacity, IfOk, IfErr, IsOk, OnOk, IsTrue, ◌↔◌, [], ◌⊎◌};
+ghost use Rattle.std.specs.Prelude.{◌≡◌, ◌+◌, ◌<◌, ◌≤◌, ◌++◌, ◌∷◌, length, drop, vec_len, vec_capacity, IfOk};
+ghost use Rattle.std.specs.Prelude.{IfErr, IsOk, OnOk, IsTrue, ◌↔◌, [], ◌⊎◌};
 ghost use Rattle.hcl_token.specs.Pairs.{pairs_of, InOrder};
 ghost use Rattle.hcl_scan.specs.Characters.{is_prefix_of};
 ghost use Rattle.hcl_scan.specs.Tokenization.{IsTokenization, MAX_TEXT, byte_order_mark};

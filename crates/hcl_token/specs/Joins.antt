@@ -7,7 +7,9 @@ use Rattle.std.specs.Char.{is_ascii_digit}
 use Rattle.std.specs.List.{list_all}
 use Rattle.hcl_token.specs.Bytes.{slash, colon, equals, greater, capital_e, letter_e, tilde}
 use Rattle.hcl_token.specs.declared.kind.Kind.{Kind}
-use Rattle.hcl_token.specs.declared.kind.Kind.TheVariants.{Identifier, Number, DotIndex, Minus, Star, Slash, Bang, Less, Greater, Colon, Equal, Dot, Ellipsis, SeqClose, InterpOpen, DirectiveOpen}
+use Rattle.hcl_token.specs.declared.kind.Kind.TheVariants.{Identifier, Number, DotIndex, Minus, Star, Slash}
+use Rattle.hcl_token.specs.declared.kind.Kind.TheVariants.{Bang, Less, Greater, Colon, Equal, Dot, Ellipsis}
+use Rattle.hcl_token.specs.declared.kind.Kind.TheVariants.{SeqClose, InterpOpen, DirectiveOpen}
 
 abbrev pub starts_with : ℕ → List ℕ → Bool
 starts_with byte [] = false

@@ -2,7 +2,9 @@
 -- HCL native syntax specification, Lexical Elements, and Templates.
 use Rattle.std.specs.Prelude.{Bool, true, false}
 use Rattle.hcl_token.specs.declared.kind.Kind.{Kind}
-use Rattle.hcl_token.specs.declared.kind.Kind.TheVariants.{LineEnd, LineComment, InlineComment, OpenParen, CloseParen, OpenBracket, CloseBracket, OpenBrace, CloseBrace, InterpOpen, DirectiveOpen, SeqClose}
+use Rattle.hcl_token.specs.declared.kind.Kind.TheVariants.{LineEnd, LineComment, InlineComment, OpenParen}
+use Rattle.hcl_token.specs.declared.kind.Kind.TheVariants.{CloseParen, OpenBracket, CloseBracket, OpenBrace}
+use Rattle.hcl_token.specs.declared.kind.Kind.TheVariants.{CloseBrace, InterpOpen, DirectiveOpen, SeqClose}
 
 abbrev pub is_line_end : Kind → Bool
 is_line_end LineEnd = true

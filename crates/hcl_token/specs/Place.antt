@@ -1,6 +1,7 @@
 -- Lines and columns of tokens, counted from 1.
 -- Unicode Standard Annex #29, extended grapheme clusters.
-use Rattle.std.specs.Prelude.{◌≡◌, ℕ, zero, suc, ◌+◌, Bool, true, false, List, [], ◌∷◌, length, sum_by, count_by, ◌==◌, if◌then◌else◌}
+use Rattle.std.specs.Prelude.{◌≡◌, ℕ, zero, suc, ◌+◌, Bool, true, false, List, [], ◌∷◌, length, sum_by}
+use Rattle.std.specs.Prelude.{count_by, ◌==◌, if◌then◌else◌}
 use Rattle.std.specs.List.{All, list_any, concat}
 use Rattle.unicode_segmentation.specs.Grapheme.{graphemes}
 use Rattle.hcl_token.specs.Bytes.{line_feed}

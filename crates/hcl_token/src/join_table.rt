@@ -1,7 +1,8 @@
 //! Which tokens join.
 
 ghost use Rattle.std.specs.Prelude.{◌≡◌, ℕ};
-ghost use Rattle.hcl_token.specs.Joins.{joins_with, starts_with, ends_with, is_digits, joins_after_number, joins_after_opening};
+ghost use Rattle.hcl_token.specs.Joins.{joins_with, starts_with, ends_with, is_digits, joins_after_number};
+ghost use Rattle.hcl_token.specs.Joins.{joins_after_opening};
 
 use crate::kind::Kind;
 

@@ -2,7 +2,8 @@
 
 ghost use Rattle.std.specs.Prelude.{◌≡◌, ◌+◌, ◌<◌, ◌≤◌, ◌↔◌, [], length, drop, IsTrue, IsUtf8, Some};
 ghost use Rattle.hcl_token.specs.declared.tokens.TheConstants.{MAX_TEXT};
-ghost use Rattle.hcl_token.specs.TokenizedText.{TokenizedText, AreUtf8, kind_of, spelling_of, gap_of, clusters_of, item_of, joins_of, pairs_in_range};
+ghost use Rattle.hcl_token.specs.TokenizedText.{TokenizedText, AreUtf8, kind_of, spelling_of, gap_of};
+ghost use Rattle.hcl_token.specs.TokenizedText.{clusters_of, item_of, joins_of, pairs_in_range};
 ghost use Rattle.hcl_token.specs.Pairs.{InOrder, IsWellFormed, tokenized_text, pairs_of};
 ghost use Rattle.hcl_token.specs.Place.{MarksHaveNoLf, place_of};
 ghost use Rattle.hcl_token.specs.TokenLists.{IsTokenListOf};

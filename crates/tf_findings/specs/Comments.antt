@@ -1,7 +1,8 @@
 -- What a comment says that silences rules, as `# tflint-ignore: terraform_deprecated_index,
 -- terraform_typed_variables # why`.
 -- TFLint, Annotations.
-use Rattle.std.specs.Prelude.{ℕ, ◌-◌, nat_le, nat_lt, not, ◌&&◌, ◌||◌, ◌==◌, Bool, false, List, [], ◌∷◌, take, drop, length, map, slice_index, codes, Option, Some, None, if◌then◌else◌}
+use Rattle.std.specs.Prelude.{ℕ, ◌-◌, nat_le, nat_lt, not, ◌&&◌, ◌||◌, ◌==◌, Bool, false, List, [], ◌∷◌, take}
+use Rattle.std.specs.Prelude.{drop, length, map, slice_index, codes, Option, Some, None, if◌then◌else◌}
 use Rattle.std.specs.List.{list_all, list_any, before_first, slice_split}
 use Rattle.std.specs.Str.{byte, bytes_eq}
 use Rattle.hcl_token.specs.declared.kind.Kind.{Kind}

@@ -10,7 +10,10 @@ ghost use Rattle.hcl_grammar.specs.declared.tree.Part.{out-Part};
 ghost use Rattle.tf_rules.specs.declared.role.Role.TheVariants as role;
 ghost use Rattle.tf_rules.specs.Unbroken.{AreUnbroken};
 ghost use Rattle.tf_findings.specs.Inner.Collects.{Collects};
-ghost use Rattle.tf_rules.specs.Preorder.{Node, expr, term, tail, part, elem_children, expr_kind_children, primary_children, nodes_of_tails, filter_children, else_children, part_children, for_tuple_children, for_object_children, if_children, splat_after, tail_children};
+ghost use Rattle.tf_rules.specs.Preorder.{Node, expr, term, tail, part, elem_children, expr_kind_children};
+ghost use Rattle.tf_rules.specs.Preorder.{primary_children, nodes_of_tails, filter_children, else_children};
+ghost use Rattle.tf_rules.specs.Preorder.{part_children, for_tuple_children, for_object_children};
+ghost use Rattle.tf_rules.specs.Preorder.{if_children, splat_after, tail_children};
 
 use crate::walk::WalkContext;
 use hcl_grammar::tree::{

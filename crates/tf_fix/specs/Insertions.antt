@@ -1,11 +1,13 @@
 -- The tokens that a fix writes.
 use Rattle.std.specs.Prelude.{ℕ, List, [], ◌∷◌, drop, unwrap_or, codes}
 use Rattle.hcl_token.specs.declared.kind.Kind.{Kind}
-use Rattle.hcl_token.specs.declared.kind.Kind.TheVariants.{Number, OpenBracket, CloseBracket, OpenParen, CloseParen, Identifier, DoubleEqual, Greater}
+use Rattle.hcl_token.specs.declared.kind.Kind.TheVariants.{Number, OpenBracket, CloseBracket, OpenParen}
+use Rattle.hcl_token.specs.declared.kind.Kind.TheVariants.{CloseParen, Identifier, DoubleEqual, Greater}
 use Rattle.hcl_token.specs.TokenizedText.{spelling_of}
 use Rattle.hcl_token.specs.Tokens.{Pair}
 use Rattle.tf_rules.specs.declared.fix.Insertion.{Insertion}
-use Rattle.tf_rules.specs.declared.fix.Insertion.TheVariants.{Nothing, Index, Length, IsZero, IsPositive, OpenBracket as Opening, CloseBracket as Closing}
+use Rattle.tf_rules.specs.declared.fix.Insertion.TheVariants.{Nothing, Index, Length, IsZero, IsPositive}
+use Rattle.tf_rules.specs.declared.fix.Insertion.TheVariants.{OpenBracket as Opening, CloseBracket as Closing}
 use Rattle.tf_fix.specs.JoinedTokens.{space}
 
 -- the spelling of the token of this number

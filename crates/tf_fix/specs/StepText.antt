@@ -1,7 +1,8 @@
 -- What one step of a fix makes of the gaps and tokens of a text: the pairs of each finding that it
 -- selects are replaced by others, and then each empty gap between two tokens that join becomes one
 -- space.
-use Rattle.std.specs.Prelude.{ℕ, ◌&&◌, Bool, true, false, List, [], ◌∷◌, ◌++◌, drop, map, slice_range, unwrap_or, Option, Some, None, if◌then◌else◌}
+use Rattle.std.specs.Prelude.{ℕ, ◌&&◌, Bool, true, false, List, [], ◌∷◌, ◌++◌, drop, map, slice_range}
+use Rattle.std.specs.Prelude.{unwrap_or, Option, Some, None, if◌then◌else◌}
 use Rattle.hcl_token.specs.TokenizedText.{TokenizedText, gap_of}
 use Rattle.hcl_token.specs.Tokens.{Pair, whole_text}
 use Rattle.tf_rules.specs.declared.finding.Finding.{Finding}

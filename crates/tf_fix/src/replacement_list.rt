@@ -3,7 +3,8 @@
 ghost use Rattle.std.specs.Prelude.{◌≡◌, ◌++◌, ◌<◌, length, filter, IfOk, IfErr};
 ghost use Rattle.tf_findings.specs.RuleFilter.{is_found_by};
 ghost use Rattle.tf_rules.specs.ValidFindings.{AreValidFindings};
-ghost use Rattle.tf_fix.specs.Edits.FindingReplacements.{replacements_from, finding_replacements, step_replacements};
+ghost use Rattle.tf_fix.specs.Edits.FindingReplacements.{replacements_from, finding_replacements};
+ghost use Rattle.tf_fix.specs.Edits.FindingReplacements.{step_replacements};
 ghost use Rattle.tf_fix.specs.Selection.{selected};
 ghost use Rattle.tf_fix.specs.Inner.Nonempty.{AreNonempty, IsFixableWithin};
 ghost use Rattle.tf_fix.specs.Inner.Views.{replacements, HasByte, HaveBytes};

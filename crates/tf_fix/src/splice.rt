@@ -6,7 +6,8 @@ ghost use Rattle.tf_fix.specs.Edits.Parts.{parts, text_of_parts, boundary_index}
 ghost use Rattle.tf_fix.specs.Edits.FindingReplacements.{pairs_parts};
 ghost use Rattle.tf_fix.specs.Insertions.{inserted};
 ghost use Rattle.tf_fix.specs.Edits.Replacements.{AreReplacementsInOrder, added, replaced_pieces};
-ghost use Rattle.tf_fix.specs.Inner.Views.{next_index, prev_view, replacement_parts, HasByte, replacements, HaveBytes};
+ghost use Rattle.tf_fix.specs.Inner.Views.{next_index, prev_view, replacement_parts, HasByte, replacements};
+ghost use Rattle.tf_fix.specs.Inner.Views.{HaveBytes};
 
 use crate::boundary::{Boundary, offset, text_between};
 use crate::insertion::{added_text, prev_after_insertion};

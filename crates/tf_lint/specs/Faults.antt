@@ -1,6 +1,8 @@
 -- Errors of the layers below as those of a fix: out of memory is always an error of its own.
 use Rattle.hcl_scan.specs.declared.fault.ScanFault.{ScanFault}
-use Rattle.hcl_scan.specs.declared.fault.ScanFault.TheVariants.{TooLong, NotUtf8, BadCharacter, BadEscape, OpenString, OpenTemplate, OpenHeredoc, OpenComment, Memory}
+use Rattle.hcl_scan.specs.declared.fault.ScanFault.TheVariants.{TooLong, NotUtf8, BadCharacter, BadEscape}
+use Rattle.hcl_scan.specs.declared.fault.ScanFault.TheVariants.{OpenString, OpenTemplate, OpenHeredoc}
+use Rattle.hcl_scan.specs.declared.fault.ScanFault.TheVariants.{OpenComment, Memory}
 use Rattle.hcl_text_laws.specs.declared.fault.ParseFault.{ParseFault}
 use Rattle.tf_fix.specs.declared.fault.LintFault.{LintFault}
 use Rattle.tf_lint.specs.declared.fault.FixFault.{FixFault}

@@ -22,4 +22,5 @@ pub record IsLintedMember (rules : RuleSet) (pairs : List Pair) (x : LintedMembe
 
 -- each of these is
 abbrev pub AreLintedMembers : RuleSet → List Pair → List LintedMember → Type 0
-AreLintedMembers rules pairs xs = (i : ℕ) (x : LintedMember) → slice_get xs i ≡ Some x → IsLintedMember rules pairs x
+AreLintedMembers rules pairs xs =
+    (i : ℕ) (x : LintedMember) → slice_get xs i ≡ Some x → IsLintedMember rules pairs x

@@ -1,6 +1,7 @@
 -- What a fix makes of a text: the steps of its rules one after another, each over the text that the
 -- one before left.
-use Rattle.std.specs.Prelude.{◌≡◌, ◌≤◌, ◌<◌, ◌+◌, ◌⊎◌, ℕ, Bool, true, false, List, [], ◌∷◌, length, Result, Ok, Err, filter, not, if◌then◌else◌}
+use Rattle.std.specs.Prelude.{◌≡◌, ◌≤◌, ◌<◌, ◌+◌, ◌⊎◌, ℕ, Bool, true, false, List, [], ◌∷◌, length, Result}
+use Rattle.std.specs.Prelude.{Ok, Err, filter, not, if◌then◌else◌}
 use Rattle.std.specs.Str.{bytes_eq}
 use Rattle.hcl_scan.specs.Tokenization.{MAX_TEXT}
 use Rattle.edit_record.specs.Lists.Pieces.{EditList, as_list}

@@ -2,7 +2,9 @@
 //! their clauses say.
 
 ghost use Rattle.std.specs.Prelude.{◌≡◌, ℕ, List, [], ◌∷◌};
-ghost use Rattle.tf_rules.specs.declared.rule.Rule.TheVariants.{CommentSyntax, DeprecatedIndex, DeprecatedInterpolation, EmptyListEquality, DeprecatedLookup};
+ghost use Rattle.tf_rules.specs.declared.rule.Rule.TheVariants.{CommentSyntax, DeprecatedIndex};
+ghost use Rattle.tf_rules.specs.declared.rule.Rule.TheVariants.{DeprecatedInterpolation, EmptyListEquality};
+ghost use Rattle.tf_rules.specs.declared.rule.Rule.TheVariants.{DeprecatedLookup};
 ghost use Rattle.tf_rules.specs.declared.rule_set.RuleSet.{RuleSet};
 ghost use Rattle.tf_lint.specs.Steps.{FixIsUnique, fix_order};
 

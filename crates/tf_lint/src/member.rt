@@ -1,6 +1,7 @@
 //! One member of a text's body, and what the rules find in it.
 
-ghost use Rattle.std.specs.Prelude.{◌≡◌, ◌≢◌, ◌+◌, ◌-◌, ◌<◌, ◌^◌, ◌∷◌, [], length, true, false, None, IfOk, IfErr, IfSome, Err};
+ghost use Rattle.std.specs.Prelude.{◌≡◌, ◌≢◌, ◌+◌, ◌-◌, ◌<◌, ◌^◌, ◌∷◌, [], length, true, false, None, IfOk};
+ghost use Rattle.std.specs.Prelude.{IfErr, IfSome, Err};
 ghost use Rattle.hcl_grammar.specs.Pure.BodyParser as spec;
 ghost use Rattle.hcl_grammar.specs.Tokens as tokens;
 ghost use Rattle.hcl_grammar.specs.declared.fault.TokenFault.TheVariants as fault;

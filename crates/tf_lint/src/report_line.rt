@@ -4,7 +4,8 @@
 
 ghost use Rattle.std.specs.Prelude.{◌≡◌, ◌∷◌, [], ◌++◌, None, OnOk, string_bytes};
 ghost use Rattle.hcl_token.specs.Place.{place_of};
-ghost use Rattle.tf_lint.specs.Inner.LineParts.{place_words, severity_words, line_prefix, line_suffix, line_opening, line_closing};
+ghost use Rattle.tf_lint.specs.Inner.LineParts.{place_words, severity_words, line_prefix, line_suffix};
+ghost use Rattle.tf_lint.specs.Inner.LineParts.{line_opening, line_closing};
 ghost use Rattle.tf_lint.specs.Reports.{report_line, report_of};
 
 use crate::message::{add_name, kind_word};

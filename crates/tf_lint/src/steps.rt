@@ -11,7 +11,8 @@ ghost use Rattle.tf_lint.specs.Inner.FixState.{IsFixState};
 ghost use Rattle.tf_lint.specs.Inner.LeadsTo.{LeadsTo, IsFixOutcome, KeepsEdits};
 ghost use Rattle.tf_lint.specs.Remaining.{IsRemaining};
 ghost use Rattle.tf_lint.specs.Steps.{Fixes, Refuses};
-ghost use Rattle.tf_lint.specs.Inner.FirstChange.{has_step, RunFixable, max_fixes, IsFirstChange, FixesFrom, RefusesFrom, rewrite_by};
+ghost use Rattle.tf_lint.specs.Inner.FirstChange.{has_step, RunFixable, max_fixes, IsFirstChange, FixesFrom};
+ghost use Rattle.tf_lint.specs.Inner.FirstChange.{RefusesFrom, rewrite_by};
 ghost use Rattle.tf_lint.specs.declared.fault.FixFault.{FixFault};
 ghost use Rattle.tf_fix.specs.declared.parsed.Parsed.{Parsed};
 

@@ -1,6 +1,7 @@
 -- The line and the column of a byte of a text, counted from 1, and the byte of an error.
 -- Unicode Standard Annex #29, extended grapheme clusters.
-use Rattle.std.specs.Prelude.{◌≡◌, ◌+◌, ℕ, if◌then◌else◌, List, length, take, drop, count_by, Option, Some, None}
+use Rattle.std.specs.Prelude.{◌≡◌, ◌+◌, ℕ, if◌then◌else◌, List, length, take, drop, count_by, Option, Some}
+use Rattle.std.specs.Prelude.{None}
 use Rattle.hcl_scan.specs.Characters.{is_prefix_of}
 use Rattle.std.specs.Str.{is_utf8}
 use Rattle.hcl_scan.specs.Tokenization.{byte_order_mark}

@@ -1,5 +1,6 @@
 -- What an action does to each file that it is given, and to standard input.
-use Rattle.std.specs.Prelude.{◌≡◌, ◌≤◌, ◌⊎◌, ℕ, true, List, [], ◌++◌, codes, Option, Some, None, if◌then◌else◌, string_bytes}
+use Rattle.std.specs.Prelude.{◌≡◌, ◌≤◌, ◌⊎◌, ℕ, true, List, [], ◌++◌, codes, Option, Some, None}
+use Rattle.std.specs.Prelude.{if◌then◌else◌, string_bytes}
 use Rattle.tf_cli.specs.Arguments.{is_dash}
 use Rattle.tf_cli.specs.declared.command_line.Exit.{Exit}
 use Rattle.tf_cli.specs.declared.options.Action.{Action}

@@ -32,7 +32,8 @@ is_quiet_after_word pairs n word =
     if bytes_eq word (codes "resource") || bytes_eq word (codes "data")
     then is_text_label pairs (n + 1) && is_snake_label pairs (n + 4)
     else (if bytes_eq word (codes "module") then is_snake_label pairs (n + 1)
-    else not (bytes_eq word (codes "variable") || (bytes_eq word (codes "output") || bytes_eq word (codes "locals"))))
+    else not (bytes_eq word (codes "variable")
+    || (bytes_eq word (codes "output") || bytes_eq word (codes "locals"))))
 
 -- token n is the word
 abbrev pub is_quiet_head : List Pair → ℕ → Bool

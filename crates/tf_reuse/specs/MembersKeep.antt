@@ -1,5 +1,6 @@
 -- What is found in a member whose tokens are also the tokens of another text.
-use Rattle.std.specs.Prelude.{◌≡◌, ◌≢◌, ◌≤◌, ◌<◌, ℕ, ◌+◌, ◌^◌, false, List, [], ◌∷◌, length, map, take, drop, None}
+use Rattle.std.specs.Prelude.{◌≡◌, ◌≢◌, ◌≤◌, ◌<◌, ℕ, ◌+◌, ◌^◌, false, List, [], ◌∷◌, length, map, take, drop}
+use Rattle.std.specs.Prelude.{None}
 use Rattle.tf_reuse.specs.OneMember.{IsOneMember}
 use Rattle.hcl_grammar.specs.Tokens.{Token, next_kind}
 use Rattle.hcl_grammar.specs.declared.tree.Member.{Member}

@@ -28,7 +28,8 @@ pub data IsOneMember (ts : List Token) : ℕ → Member → ℕ → ℕ → Type
       (node.block (next_index ts false i) q ls
       (content.Body (node.body (first_token_in ts false n o) o bs))) i q
   line_block : {d : ℕ} {ls : List Label} {a : Option Attribute} {i j o q : ℕ}
-      → NextIs ts false k.Identifier i → IsLabels ts ls (after_next ts false i) j → NextIs ts false k.OpenBrace j
+      → NextIs ts false k.Identifier i → IsLabels ts ls (after_next ts false i) j
+      → NextIs ts false k.OpenBrace j
       → IsOneLineBody ts d a (after_next ts false j) o → NextIs ts false k.CloseBrace o
       → IsEol ts (after_next ts false o) q
       → IsOneMember ts (suc d) (node.block (next_index ts false i) q ls (content.OneLine a)) i q

@@ -5,7 +5,8 @@ use Rattle.hcl_grammar.specs.declared.tree.Primary.{out-Primary}
 use Rattle.hcl_grammar.specs.declared.tree.Tail.{out-Tail}
 use Rattle.hcl_token.specs.Tokens.{Pair}
 use Rattle.tf_rules.specs.declared.finding.Finding.{Finding}
-use Rattle.tf_rules.specs.declared.rule.Rule.TheVariants.{DeprecatedIndex, DeprecatedInterpolation, EmptyListEquality, DeprecatedLookup}
+use Rattle.tf_rules.specs.declared.rule.Rule.TheVariants.{DeprecatedIndex, DeprecatedInterpolation}
+use Rattle.tf_rules.specs.declared.rule.Rule.TheVariants.{EmptyListEquality, DeprecatedLookup}
 use Rattle.tf_rules.specs.declared.rule_set.RuleSet.{RuleSet}
 use Rattle.tf_rules.specs.RuleSets.{has_rule}
 use Rattle.tf_rules.specs.Rules.Equality.{equality_findings}

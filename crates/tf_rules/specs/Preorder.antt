@@ -20,8 +20,11 @@ use Rattle.hcl_grammar.specs.declared.tree.Tail.{Tail, out-Tail}
 use Rattle.hcl_grammar.specs.declared.tree.Template.{Template}
 use Rattle.hcl_grammar.specs.declared.tree.Term.{Term}
 use Rattle.tf_rules.specs.declared.role.Role.{Role}
-use Rattle.tf_rules.specs.declared.role.Role.TheVariants.{AttributeValue, Element, ObjectKey, ObjectValue, Argument, Parentheses, Index, Interpolation, Elsewhere}
-use Rattle.hcl_grammar.specs.TreeLayers.{ExprKindLayer, PrimaryLayer, TailLayer, PartLayer, ContentLayer, MemberLayer}
+use Rattle.tf_rules.specs.declared.role.Role.TheVariants.{AttributeValue, Element, ObjectKey, ObjectValue}
+use Rattle.tf_rules.specs.declared.role.Role.TheVariants.{Argument, Parentheses, Index, Interpolation}
+use Rattle.tf_rules.specs.declared.role.Role.TheVariants.{Elsewhere}
+use Rattle.hcl_grammar.specs.TreeLayers.{ExprKindLayer, PrimaryLayer, TailLayer, PartLayer, ContentLayer}
+use Rattle.hcl_grammar.specs.TreeLayers.{MemberLayer}
 
 -- a node of a tree
 pub data Node : Type 0 where

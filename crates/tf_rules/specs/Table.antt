@@ -1,7 +1,10 @@
 -- The rules: one line for each. TFLint ruleset for the Terraform language.
 use Rattle.std.specs.Prelude.{ℕ, Bool, true, false, List, [], ◌∷◌, codes}
 use Rattle.tf_rules.specs.declared.rule.Rule.{Rule}
-use Rattle.tf_rules.specs.declared.rule.Rule.TheVariants.{CommentSyntax, DeprecatedIndex, DeprecatedInterpolation, EmptyListEquality, DeprecatedLookup, NamingConvention, TypedVariables, DocumentedVariables, DocumentedOutputs}
+use Rattle.tf_rules.specs.declared.rule.Rule.TheVariants.{CommentSyntax, DeprecatedIndex}
+use Rattle.tf_rules.specs.declared.rule.Rule.TheVariants.{DeprecatedInterpolation, EmptyListEquality}
+use Rattle.tf_rules.specs.declared.rule.Rule.TheVariants.{DeprecatedLookup, NamingConvention, TypedVariables}
+use Rattle.tf_rules.specs.declared.rule.Rule.TheVariants.{DocumentedVariables, DocumentedOutputs}
 use Rattle.tf_rules.specs.declared.rule.Severity.{Severity}
 use Rattle.tf_rules.specs.declared.rule.Severity.TheVariants.{Warning, Notice}
 

@@ -2,7 +2,9 @@
 
 ghost use Rattle.std.specs.Prelude.{◌≡◌};
 ghost use Rattle.std.specs.List.{flat_map, list_any};
-ghost use Rattle.tf_rules.specs.Attributes.{is_empty_string, is_attribute, has_attribute, has_empty_attribute, member_attributes, optional_attribute, attributes};
+ghost use Rattle.tf_rules.specs.Attributes.{is_empty_string, is_attribute, has_attribute};
+ghost use Rattle.tf_rules.specs.Attributes.{has_empty_attribute, member_attributes, optional_attribute};
+ghost use Rattle.tf_rules.specs.Attributes.{attributes};
 
 use crate::spelling::{is_spelled, token_text};
 use hcl_grammar::Boxed;

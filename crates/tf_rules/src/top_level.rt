@@ -2,7 +2,8 @@
 
 ghost use Rattle.std.specs.Prelude.{◌≡◌, ◌++◌, length, OnOk};
 ghost use Rattle.tf_rules.specs.Findings.{valid_findings};
-ghost use Rattle.tf_rules.specs.TopLevelFindings.{top_level_block_findings, top_level_member_findings, top_level_findings};
+ghost use Rattle.tf_rules.specs.TopLevelFindings.{top_level_block_findings, top_level_member_findings};
+ghost use Rattle.tf_rules.specs.TopLevelFindings.{top_level_findings};
 
 use crate::context::LintContext;
 use crate::rules::{missing, naming};

@@ -2,7 +2,8 @@
 
 ghost use Rattle.std.specs.Prelude.{◌≡◌, ◌==◌, ◌&&◌, ◌<◌, ◌≤◌, ◌+◌, ◌^◌};
 ghost use Rattle.hcl_token.specs.Kinds.{is_opening, is_closing};
-ghost use Rattle.tf_rules.specs.Trivia.{token_range, is_line_break, is_trivia, depth_after, has_line_break, has_trivia, is_here_close};
+ghost use Rattle.tf_rules.specs.Trivia.{token_range, is_line_break, is_trivia, depth_after, has_line_break};
+ghost use Rattle.tf_rules.specs.Trivia.{has_trivia, is_here_close};
 
 use hcl_scan::Scanned;
 use hcl_token::Kind;

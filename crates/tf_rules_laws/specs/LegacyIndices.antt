@@ -1,5 +1,6 @@
 -- The numbers of legacy indices.
-use Rattle.std.specs.Prelude.{◌≡◌, ℕ, suc, Bool, true, false, List, [], ◌∷◌, ◌++◌, map, Some, if◌then◌else◌, ⊤}
+use Rattle.std.specs.Prelude.{◌≡◌, ℕ, suc, Bool, true, false, List, [], ◌∷◌, ◌++◌, map, Some, if◌then◌else◌}
+use Rattle.std.specs.Prelude.{⊤}
 use Rattle.std.specs.List.{AllByRecursion}
 use Rattle.hcl_grammar.specs.declared.tree.ExprKind.TheOpen.{Tail-F}
 use Rattle.hcl_grammar.specs.declared.tree.Tail.{out-Tail}

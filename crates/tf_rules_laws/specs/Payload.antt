@@ -20,7 +20,8 @@ use Rattle.hcl_grammar.specs.declared.tree.Primary.{out-Primary}
 use Rattle.hcl_grammar.specs.declared.tree.Tail.{out-Tail}
 use Rattle.hcl_grammar.specs.declared.tree.Template.{Template}
 use Rattle.tf_rules.specs.declared.role.Role.{Role}
-use Rattle.hcl_grammar.specs.TreeLayers.{ExprKindLayer, PrimaryLayer, TailLayer, PartLayer, ContentLayer, MemberLayer}
+use Rattle.hcl_grammar.specs.TreeLayers.{ExprKindLayer, PrimaryLayer, TailLayer, PartLayer, ContentLayer}
+use Rattle.hcl_grammar.specs.TreeLayers.{MemberLayer}
 use Rattle.tf_rules.specs.Preorder.{Node, expr, term, tail, part, member, children, IsPreorder}
 
 -- Something that a node has of its own: there is no tree in it.
@@ -54,7 +55,8 @@ intro_payload i = number i.first ∷ number i.past ∷ number i.name ∷ optiona
 abbrev pub primary_payload : PrimaryLayer → List Payload
 primary_payload Primary-F.Number = number 0 ∷ []
 primary_payload Primary-F.Identifier = number 1 ∷ []
-primary_payload (Primary-F.Call c) = number 2 ∷ numbers (out-Call c).names ∷ flag (out-Call c).expand_final ∷ []
+primary_payload (Primary-F.Call c) =
+    number 2 ∷ numbers (out-Call c).names ∷ flag (out-Call c).expand_final ∷ []
 primary_payload (Primary-F.Tuple es) = number 3 ∷ []
 primary_payload (Primary-F.Object xs) = number 4 ∷ []
 primary_payload (Primary-F.ForTuple f) = number 5 ∷ intro_payload (out-ForTuple f).intro
@@ -102,7 +104,8 @@ member_payload (Member-F.Block b) =
     ∷ content_payload (out-Content b.content)
 
 abbrev pub payload : Node → List Payload
-payload (expr p e) = number 0 ∷ role p ∷ number e.first ∷ number e.past ∷ expr_kind_payload (out-ExprKind e.kind)
+payload (expr p e) =
+    number 0 ∷ role p ∷ number e.first ∷ number e.past ∷ expr_kind_payload (out-ExprKind e.kind)
 payload (term p t) = number 1 ∷ role p ∷ number t.first ∷ number t.past ∷ primary_payload (out-Primary t.kind)
 payload (tail splat t) = number 2 ∷ flag splat ∷ tail_payload (out-Tail t)
 payload (part x) = number 3 ∷ part_payload (out-Part x)
@@ -120,5 +123,6 @@ node_key n = (payload n, length (children n))
 -- The nodes of a tree determine it, each by what it has of its own and by how many children it has:
 -- two trees of as many roots with the same nodes in the same order are one.
 abbrev pub PreorderDeterminesTree : Type 0
-PreorderDeterminesTree = (ns ms xs ys : List Node) → length ns ≡ length ms → IsPreorder ns xs → IsPreorder ms ys
+PreorderDeterminesTree = (ns ms xs ys : List Node) → length ns ≡ length ms
+    → IsPreorder ns xs → IsPreorder ms ys
     → map node_key xs ≡ map node_key ys → ns ≡ ms

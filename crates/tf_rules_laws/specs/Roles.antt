@@ -20,9 +20,12 @@ use Rattle.hcl_grammar.specs.declared.tree.Part.{out-Part}
 use Rattle.hcl_grammar.specs.declared.tree.Primary.{out-Primary}
 use Rattle.hcl_grammar.specs.declared.tree.Tail.{Tail, out-Tail}
 use Rattle.hcl_grammar.specs.declared.tree.Term.{Term}
-use Rattle.hcl_grammar.specs.TreeLayers.{ExprKindLayer, PrimaryLayer, TailLayer, PartLayer, ContentLayer, MemberLayer}
+use Rattle.hcl_grammar.specs.TreeLayers.{ExprKindLayer, PrimaryLayer, TailLayer, PartLayer, ContentLayer}
+use Rattle.hcl_grammar.specs.TreeLayers.{MemberLayer}
 use Rattle.tf_rules.specs.declared.role.Role.{Role}
-use Rattle.tf_rules.specs.declared.role.Role.TheVariants.{AttributeValue, Element, ObjectKey, ObjectValue, Argument, Parentheses, Index, Interpolation, Elsewhere}
+use Rattle.tf_rules.specs.declared.role.Role.TheVariants.{AttributeValue, Element, ObjectKey, ObjectValue}
+use Rattle.tf_rules.specs.declared.role.Role.TheVariants.{Argument, Parentheses, Index, Interpolation}
+use Rattle.tf_rules.specs.declared.role.Role.TheVariants.{Elsewhere}
 use Rattle.tf_rules.specs.Preorder.{Node, expr, term, tail, part, member, children}
 
 abbrev pub is_same_role : Role → Role → Bool

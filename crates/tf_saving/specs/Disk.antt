@@ -5,7 +5,9 @@ use Rattle.std.specs.Prelude.{ℕ, List, [], ◌∷◌, ◌++◌, map, Option, S
 use Rattle.tf_saving.specs.declared.call.SavedFile.{SavedFile}
 use Rattle.tf_saving.specs.declared.call.SavedFile.TheVariants.{Text, Journal}
 use Rattle.tf_saving.specs.declared.call.Syscall.{Syscall}
-use Rattle.tf_saving.specs.declared.call.Syscall.TheVariants.{Open, FindNew, CreateNew, CopyAttributes, Write, Sync, SyncDirectory, CompareNew, Compare, CanAdopt, Rename, Remove}
+use Rattle.tf_saving.specs.declared.call.Syscall.TheVariants.{Open, FindNew, CreateNew, CopyAttributes, Write}
+use Rattle.tf_saving.specs.declared.call.Syscall.TheVariants.{Sync, SyncDirectory, CompareNew, Compare}
+use Rattle.tf_saving.specs.declared.call.Syscall.TheVariants.{CanAdopt, Rename, Remove}
 use Rattle.tf_saving.specs.declared.call.Reply.{Reply}
 use Rattle.tf_saving.specs.declared.call.Reply.TheVariants.{Done, NotFound, CannotReplace, Failed}
 
@@ -120,16 +122,24 @@ new_after_power_loss (Some file) = Some (after_power_loss file)
 
 -- The names are durable, whatever the files' bytes.
 abbrev pub directory_synced : Directory → Directory
-directory_synced f = record { current = f.current; possible = with_new (new_after_power_loss f.current.new) f.current ∷ [] }
+directory_synced f =
+    record {
+      current = f.current;
+      possible = with_new (new_after_power_loss f.current.new) f.current ∷ [];
+    }
 
 -- A file that is renamed before its bytes are durable counts as torn from then on.
 abbrev pub renamed : Option File → Directory → Directory
 renamed None f = f
 renamed (Some file) f =
-    record { current = with_own (after_power_loss file) f.current; possible = maybe_changed (with_own (after_power_loss file)) f.possible }
+    record {
+      current = with_own (after_power_loss file) f.current;
+      possible = maybe_changed (with_own (after_power_loss file)) f.possible;
+    }
 
 abbrev pub new_removed : Directory → Directory
-new_removed f = record { current = with_new None f.current; possible = maybe_changed (with_new None) f.possible }
+new_removed f =
+    record { current = with_new None f.current; possible = maybe_changed (with_new None) f.possible }
 
 -- the bytes that are to be saved
 pub record Contents : Type 0 where
@@ -153,20 +163,25 @@ abbrev pub when_done : Syscall → Contents → Disk → Disk
 when_done (Open part) s d = d
 when_done (FindNew part) s d = d
 when_done (CopyAttributes part) s d = d
-when_done (CreateNew part) s d = with_directory part (created (directory_of part d).current.new (directory_of part d)) d
+when_done (CreateNew part) s d =
+    with_directory part (created (directory_of part d).current.new (directory_of part d)) d
 when_done (Write part) s d =
-    with_directory part (new_written (bytes_of part s) (directory_of part d).current.new (directory_of part d)) d
-when_done (Sync part) s d = with_directory part (new_synced (directory_of part d).current.new (directory_of part d)) d
+    with_directory part (new_written (bytes_of part s)
+    (directory_of part d).current.new (directory_of part d)) d
+when_done (Sync part) s d =
+    with_directory part (new_synced (directory_of part d).current.new (directory_of part d)) d
 when_done (SyncDirectory part) s d = with_directory part (directory_synced (directory_of part d)) d
 when_done (CompareNew part) s d = d
 when_done Compare s d = d
 when_done CanAdopt s d = d
-when_done (Rename part) s d = with_directory part (renamed (directory_of part d).current.new (directory_of part d)) d
+when_done (Rename part) s d =
+    with_directory part (renamed (directory_of part d).current.new (directory_of part d)) d
 when_done (Remove part) s d = with_directory part (new_removed (directory_of part d)) d
 
 -- the disk after a call failed
 abbrev pub when_failed : Syscall → Disk → Disk
-when_failed (Write part) d = with_directory part (new_torn (directory_of part d).current.new (directory_of part d)) d
+when_failed (Write part) d =
+    with_directory part (new_torn (directory_of part d).current.new (directory_of part d)) d
 when_failed _ d = d
 
 abbrev pub if_found : Option File → Reply
@@ -196,6 +211,7 @@ reply_when_done (Sync part) d = if_found (directory_of part d).current.new
 reply_when_done (SyncDirectory part) d = Done
 reply_when_done (CompareNew part) d = if_same (d.checks.is_ours part)
 reply_when_done Compare d = if_same d.checks.is_unchanged
-reply_when_done CanAdopt d = if_adoptable (d.checks.can_adopt d.text.current.own d.journal.current.own d.journal.current.new)
+reply_when_done CanAdopt d =
+    if_adoptable (d.checks.can_adopt d.text.current.own d.journal.current.own d.journal.current.new)
 reply_when_done (Rename part) d = if_found (directory_of part d).current.new
 reply_when_done (Remove part) d = if_found (directory_of part d).current.new

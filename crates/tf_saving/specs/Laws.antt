@@ -2,12 +2,14 @@
 use Rattle.std.specs.Prelude.{◌≡◌, ◌⊎◌, List, ◌∷◌, Option, Some, None, replicate, Bool, true, false}
 use Rattle.tf_saving.specs.Adoption.{IsAdoptable, IsUnadoptable}
 use Rattle.tf_saving.specs.Disk.{File, Checks, Disk, Contents}
-use Rattle.tf_saving.specs.Runs.{Fate, Succeeds, Fails, FailsOnceDone, State, Event, Pair, as_files, HasNoNewFiles, saving, recovering, all_durable, run, after_events}
+use Rattle.tf_saving.specs.Runs.{Fate, Succeeds, Fails, FailsOnceDone, State, Event, Pair, as_files}
+use Rattle.tf_saving.specs.Runs.{HasNoNewFiles, saving, recovering, all_durable, run, after_events}
 use Rattle.tf_saving.specs.Stable.{IsStable}
 use Rattle.tf_saving.specs.declared.call.SavedFile.{SavedFile}
 use Rattle.tf_saving.specs.declared.step.End.TheVariants.{Success, InPlace, Error, Late}
 use Rattle.tf_saving.specs.declared.step.Step.{Step}
-use Rattle.tf_saving.specs.declared.step.Step.TheVariants.{CheckRename, RemoveJournal, SyncRemoval, RemoveText, CompareInPlace, Ended}
+use Rattle.tf_saving.specs.declared.step.Step.TheVariants.{CheckRename, RemoveJournal, SyncRemoval}
+use Rattle.tf_saving.specs.declared.step.Step.TheVariants.{RemoveText, CompareInPlace, Ended}
 
 -- A text and its journal without new files, all durable, are stable.
 abbrev pub InitialIsStable : Type 0
@@ -23,7 +25,8 @@ InitialIsStable = (p : Pair) (checks : Checks) →
 -- both old or both new.
 abbrev pub NothingIsLost : Type 0
 NothingIsLost =
-    (old : Pair) (d : Disk) → IsStable old d → (s : Contents) → IsAdoptable d.checks (as_files s) → (fates : List Fate) (events : List Event) (last : List Fate)
+    (old : Pair) (d : Disk) → IsStable old d → (s : Contents) → IsAdoptable d.checks (as_files s)
+    → (fates : List Fate) (events : List Event) (last : List Fate)
     → let stopped = (run s fates (saving d)).disk in
     let next = run s last (recovering (after_events s events stopped)) in
     next.step ≡ Ended Success → IsStable old next.disk ⊎ IsStable (as_files s) next.disk
@@ -40,48 +43,59 @@ StrayIsNotAdopted =
       checks = checks;
     } in
     (s : Contents) (events : List Event) (last : List Fate)
-    → let next = run s last (recovering (after_events s events d)) in next.step ≡ Ended Success → IsStable p next.disk
+    → let next = run s last (recovering (after_events s events d)) in
+    next.step ≡ Ended Success → IsStable p next.disk
 
 -- On any disk, at each call: a new journal that may not be adopted replaces nothing.
 abbrev pub UnadoptableIsNotAdopted : Type 0
 UnadoptableIsNotAdopted =
-    (d : Disk) (s : Contents) (fates : List Fate) → d.checks.can_adopt d.text.current.own d.journal.current.own d.journal.current.new ≡ false
+    (d : Disk) (s : Contents) (fates : List Fate)
+    → d.checks.can_adopt d.text.current.own d.journal.current.own d.journal.current.new ≡ false
     → let n = run s fates (recovering d) in
     (n.disk.text.current.own ≡ d.text.current.own) × (n.disk.journal.current.own ≡ d.journal.current.own)
 
 -- A save that succeeds has replaced both files, and no power loss undoes it.
 abbrev pub SuccessIsDurable : Type 0
 SuccessIsDurable =
-    (old : Pair) (d : Disk) → IsStable old d → (s : Contents) → IsAdoptable d.checks (as_files s) → (fates : List Fate)
-    → let m = run s fates (saving d) in m.step ≡ Ended Success → IsStable (as_files s) m.disk × HasNoNewFiles m.disk
+    (old : Pair) (d : Disk) → IsStable old d → (s : Contents) → IsAdoptable d.checks (as_files s)
+    → (fates : List Fate)
+    → let m = run s fates (saving d) in
+    m.step ≡ Ended Success → IsStable (as_files s) m.disk × HasNoNewFiles m.disk
 
 -- A save that ends in an error, or that is to be written in place, has left both files as they
 -- were.
 abbrev pub ErrorsChangeNothing : Type 0
 ErrorsChangeNothing =
-    (old : Pair) (d : Disk) → IsStable old d → (s : Contents) → IsAdoptable d.checks (as_files s) → (fates : List Fate)
+    (old : Pair) (d : Disk) → IsStable old d → (s : Contents) → IsAdoptable d.checks (as_files s)
+    → (fates : List Fate)
     → let m = run s fates (saving d) in
-    ((part : SavedFile) → m.step ≡ Ended (Error part) → IsStable old m.disk) × (m.step ≡ Ended InPlace → IsStable old m.disk)
+    ((part : SavedFile) → m.step ≡ Ended (Error part) → IsStable old m.disk)
+    × (m.step ≡ Ended InPlace → IsStable old m.disk)
 
 -- A save that ends late has replaced the text: unless the power fails, the next recovery finds both
 -- new.
 abbrev pub LateRecoversToNew : Type 0
 LateRecoversToNew =
-    (old : Pair) (d : Disk) → IsStable old d → (s : Contents) → IsAdoptable d.checks (as_files s) → (fates : List Fate)
+    (old : Pair) (d : Disk) → IsStable old d → (s : Contents) → IsAdoptable d.checks (as_files s)
+    → (fates : List Fate)
     → let m = run s fates (saving d) in m.step ≡ Ended Late
-    → (last : List Fate) → let next = run s last (recovering m.disk) in next.step ≡ Ended Success → IsStable (as_files s) next.disk
+    → (last : List Fate) → let next = run s last (recovering m.disk) in
+    next.step ≡ Ended Success → IsStable (as_files s) next.disk
 
 -- On any disk a recovery of which no call fails succeeds, within eight calls, and leaves no new
 -- file.
 abbrev pub RecoveryEnds : Type 0
 RecoveryEnds =
-    (d : Disk) (s : Contents) → let m = run s (replicate 8 Succeeds) (recovering d) in (m.step ≡ Ended Success) × HasNoNewFiles m.disk
+    (d : Disk) (s : Contents)
+    → let m = run s (replicate 8 Succeeds) (recovering d) in
+    (m.step ≡ Ended Success) × HasNoNewFiles m.disk
 
 -- A save of which no call fails succeeds, within nineteen calls, if no other program changes
 -- anything.
 abbrev pub UnfailingSaveSucceeds : Type 0
 UnfailingSaveSucceeds =
-    (text : File) (journal : Option File) (s : Contents) (can_adopt : Option File → Option File → Option File → Bool)
+    (text : File) (journal : Option File) (s : Contents)
+    (can_adopt : Option File → Option File → Option File → Bool)
     → let d : Disk = record {
       text = all_durable (record { own = Some text; new = None });
       journal = all_durable (record { own = journal; new = None });
@@ -103,4 +117,5 @@ IsGoingInPlace _ = ⊥
 abbrev pub FailureIsNotInPlace : Type 0
 FailureIsNotInPlace =
     (m : State) (s : Contents) → (IsGoingInPlace m.step → ⊥) → (fates : List Fate)
-    → ((run s (Fails ∷ fates) m).step ≡ Ended InPlace → ⊥) × ((run s (FailsOnceDone ∷ fates) m).step ≡ Ended InPlace → ⊥)
+    → ((run s (Fails ∷ fates) m).step ≡ Ended InPlace → ⊥)
+    × ((run s (FailsOnceDone ∷ fates) m).step ≡ Ended InPlace → ⊥)

@@ -8,7 +8,12 @@ use Rattle.tf_saving.specs.declared.call.SavedFile.{SavedFile}
 use Rattle.tf_saving.specs.declared.step.End.{End}
 use Rattle.tf_saving.specs.declared.step.End.TheVariants.{Success, InPlace, Error}
 use Rattle.tf_saving.specs.declared.step.Step.{Step}
-use Rattle.tf_saving.specs.declared.step.Step.TheVariants.{OpenJournal, OpenText, SyncEarlierRename, CreateText, CopyTextAttributes, SyncTextName, CreateJournal, CopyJournalAttributes, WriteJournal, SyncJournal, WriteText, SyncText, SyncJournalName, CompareNewJournal, CompareNewText, CompareText, Ended}
+use Rattle.tf_saving.specs.declared.step.Step.TheVariants.{OpenJournal, OpenText, SyncEarlierRename}
+use Rattle.tf_saving.specs.declared.step.Step.TheVariants.{CreateText, CopyTextAttributes, SyncTextName}
+use Rattle.tf_saving.specs.declared.step.Step.TheVariants.{CreateJournal, CopyJournalAttributes, WriteJournal}
+use Rattle.tf_saving.specs.declared.step.Step.TheVariants.{SyncJournal, WriteText, SyncText, SyncJournalName}
+use Rattle.tf_saving.specs.declared.step.Step.TheVariants.{CompareNewJournal, CompareNewText, CompareText}
+use Rattle.tf_saving.specs.declared.step.Step.TheVariants.{Ended}
 
 -- the steps from the first new file to the comparison of the first of them
 abbrev pub CreatesNewFiles : Step → Type 0
@@ -48,21 +53,26 @@ IsInPlace _ = ⊥
 
 -- text and journal are the files that they were
 abbrev pub IsUnchanged : Disk → Disk → Type 0
-IsUnchanged before after = (after.text.current.own ≡ before.text.current.own) × (after.journal.current.own ≡ before.journal.current.own)
+IsUnchanged before after =
+    (after.text.current.own ≡ before.text.current.own)
+    × (after.journal.current.own ≡ before.journal.current.own)
 
 -- On any disk, if the text is no longer the file that was read: at each call from there on text and
 -- journal stay as they are, and the save ends in an error.
 abbrev pub ChangedTextIsKept : Type 0
 ChangedTextIsKept =
-    (m : State) (s : Contents) → PrecedesRename m.step → m.disk.checks.is_unchanged ≡ false → (fates : List Fate)
+    (m : State) (s : Contents) → PrecedesRename m.step
+    → m.disk.checks.is_unchanged ≡ false → (fates : List Fate)
     → let n = run s fates m in IsUnchanged m.disk n.disk × ((end : End) → n.step ≡ Ended end → IsError end)
 
 -- On any disk, if a new file is no longer the one that this command created: text and journal stay
 -- as they are at each call, and the save ends in an error or is to be written in place.
 abbrev pub ForeignFileIsNotRenamed : Type 0
 ForeignFileIsNotRenamed =
-    (m : State) (s : Contents) → CreatesNewFiles m.step → (part : SavedFile) → m.disk.checks.is_ours part ≡ false → (fates : List Fate)
-    → let n = run s fates m in IsUnchanged m.disk n.disk × ((end : End) → n.step ≡ Ended end → IsError end ⊎ IsInPlace end)
+    (m : State) (s : Contents) → CreatesNewFiles m.step
+    → (part : SavedFile) → m.disk.checks.is_ours part ≡ false → (fates : List Fate)
+    → let n = run s fates m in
+    IsUnchanged m.disk n.disk × ((end : End) → n.step ≡ Ended end → IsError end ⊎ IsInPlace end)
 
 -- with this file as the text
 abbrev pub with_text : File → Names → Names
@@ -74,9 +84,16 @@ edited file m =
     record {
       step = m.step;
       disk = record {
-        text = record { current = with_text file m.disk.text.current; possible = map (with_text file) m.disk.text.possible };
+        text = record {
+          current = with_text file m.disk.text.current;
+          possible = map (with_text file) m.disk.text.possible;
+        };
         journal = m.disk.journal;
-        checks = record { is_unchanged = false; is_ours = m.disk.checks.is_ours; can_adopt = m.disk.checks.can_adopt };
+        checks = record {
+          is_unchanged = false;
+          is_ours = m.disk.checks.is_ours;
+          can_adopt = m.disk.checks.can_adopt;
+        };
       };
     }
 
@@ -85,7 +102,8 @@ edited file m =
 -- that program wrote, and the journal is the old one.
 abbrev pub EditIsKept : Type 0
 EditIsKept =
-    (old : Pair) (d : Disk) → IsStable old d → (s : Contents) → IsAdoptable d.checks (as_files s) → (before : List Fate)
+    (old : Pair) (d : Disk) → IsStable old d → (s : Contents) → IsAdoptable d.checks (as_files s)
+    → (before : List Fate)
     → let m = run s before (saving d) in PreparesRename m.step
     → (theirs : File) (fates : List Fate) (events : List Event) (last : List Fate)
     → let stopped = (run s fates (edited theirs m)).disk in

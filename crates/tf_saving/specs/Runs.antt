@@ -1,6 +1,7 @@
 -- Runs of the machine over a disk.
 use Rattle.std.specs.Prelude.{◌≡◌, ℕ, zero, suc, List, [], ◌∷◌, Option, Some, None, Result, Ok, Err}
-use Rattle.tf_saving.specs.Disk.{File, Durable, Names, Directory, Disk, Contents, when_done, when_failed, reply_when_done}
+use Rattle.tf_saving.specs.Disk.{File, Durable, Names, Directory, Disk, Contents, when_done, when_failed}
+use Rattle.tf_saving.specs.Disk.{reply_when_done}
 use Rattle.tf_saving.specs.Steps.{call_of, step_after}
 use Rattle.tf_saving.specs.declared.call.SavedFile.{SavedFile}
 use Rattle.tf_saving.specs.declared.call.Syscall.{Syscall}

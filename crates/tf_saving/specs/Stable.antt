@@ -40,7 +40,8 @@ pub record IsUnrenamed (p : Pair) (d : Disk) : Type 0 where
 -- this journal is in place, or is the new file, whole
 abbrev pub HoldsJournal : Option File → Names → Type 0
 HoldsJournal journal n =
-    OwnsAlone journal n ⊎ ((bytes : List ℕ) × (n.new ≡ Some (Durable bytes)) × (journal ≡ Some (Durable bytes)))
+    OwnsAlone journal n
+    ⊎ ((bytes : List ℕ) × (n.new ≡ Some (Durable bytes)) × (journal ≡ Some (Durable bytes)))
 
 -- the new text was renamed; the new journal was, or still is to be
 pub record IsRenamed (p : Pair) (d : Disk) : Type 0 where

@@ -2,13 +2,23 @@
 use Rattle.std.specs.Prelude.{ℕ, true, false, Result, Ok, Err}
 use Rattle.tf_saving.specs.declared.call.SavedFile.TheVariants.{Text, Journal}
 use Rattle.tf_saving.specs.declared.call.Syscall.{Syscall}
-use Rattle.tf_saving.specs.declared.call.Syscall.TheVariants.{Open, FindNew, CreateNew, CopyAttributes, Write, Sync, SyncDirectory, CompareNew, Compare, CanAdopt, Rename, Remove}
+use Rattle.tf_saving.specs.declared.call.Syscall.TheVariants.{Open, FindNew, CreateNew, CopyAttributes, Write}
+use Rattle.tf_saving.specs.declared.call.Syscall.TheVariants.{Sync, SyncDirectory, CompareNew, Compare}
+use Rattle.tf_saving.specs.declared.call.Syscall.TheVariants.{CanAdopt, Rename, Remove}
 use Rattle.tf_saving.specs.declared.call.Reply.{Reply}
 use Rattle.tf_saving.specs.declared.call.Reply.TheVariants.{Done, NotFound, CannotReplace, Failed}
 use Rattle.tf_saving.specs.declared.step.End.{End}
 use Rattle.tf_saving.specs.declared.step.End.TheVariants.{Success, InPlace, Error, Unknown, Late}
 use Rattle.tf_saving.specs.declared.step.Step.{Step}
-use Rattle.tf_saving.specs.declared.step.Step.TheVariants.{FindNewJournal, FindNewText, ReadNewJournal, RemoveStray, OpenJournal, OpenText, SyncEarlierRename, CreateText, CopyTextAttributes, SyncTextName, CreateJournal, CopyJournalAttributes, WriteJournal, SyncJournal, WriteText, SyncText, SyncJournalName, CompareNewJournal, CompareNewText, CompareText, RenameText, CheckRename, SyncRename, RenameJournal, RemoveJournal, SyncRemoval, RemoveText, CompareInPlace, Ended}
+use Rattle.tf_saving.specs.declared.step.Step.TheVariants.{FindNewJournal, FindNewText, ReadNewJournal}
+use Rattle.tf_saving.specs.declared.step.Step.TheVariants.{RemoveStray, OpenJournal, OpenText}
+use Rattle.tf_saving.specs.declared.step.Step.TheVariants.{SyncEarlierRename, CreateText, CopyTextAttributes}
+use Rattle.tf_saving.specs.declared.step.Step.TheVariants.{SyncTextName, CreateJournal, CopyJournalAttributes}
+use Rattle.tf_saving.specs.declared.step.Step.TheVariants.{WriteJournal, SyncJournal, WriteText, SyncText}
+use Rattle.tf_saving.specs.declared.step.Step.TheVariants.{SyncJournalName, CompareNewJournal, CompareNewText}
+use Rattle.tf_saving.specs.declared.step.Step.TheVariants.{CompareText, RenameText, CheckRename, SyncRename}
+use Rattle.tf_saving.specs.declared.step.Step.TheVariants.{RenameJournal, RemoveJournal, SyncRemoval}
+use Rattle.tf_saving.specs.declared.step.Step.TheVariants.{RemoveText, CompareInPlace, Ended}
 
 abbrev pub choose : Reply → Step → Step → Step → Step
 choose Done done not_found failed = done
@@ -73,16 +83,23 @@ step_after OpenJournal r = choose r OpenText OpenText (Ended (Error Journal))
 step_after OpenText r = choose r SyncEarlierRename (Ended (Error Text)) (Ended (Error Text))
 step_after SyncEarlierRename r = choose_or_in_place r CreateText CompareInPlace (Ended (Error Journal))
 step_after CreateText r = choose_or_in_place r CopyTextAttributes CompareInPlace (RemoveJournal (Error Text))
-step_after CopyTextAttributes r = choose_or_in_place r WriteText (RemoveText InPlace) (RemoveText (Error Text))
+step_after CopyTextAttributes r =
+    choose_or_in_place r WriteText (RemoveText InPlace) (RemoveText (Error Text))
 step_after WriteText r = choose r SyncText (RemoveText (Error Text)) (RemoveText (Error Text))
 step_after SyncText r = choose r SyncTextName (RemoveText (Error Text)) (RemoveText (Error Text))
 step_after SyncTextName r = choose_or_in_place r CreateJournal (RemoveText InPlace) (RemoveText (Error Text))
-step_after CreateJournal r = choose_or_in_place r CopyJournalAttributes (RemoveText InPlace) (RemoveJournal (Error Journal))
-step_after CopyJournalAttributes r = choose_or_in_place r WriteJournal (RemoveJournal InPlace) (RemoveJournal (Error Journal))
-step_after WriteJournal r = choose r SyncJournal (RemoveJournal (Error Journal)) (RemoveJournal (Error Journal))
-step_after SyncJournal r = choose r SyncJournalName (RemoveJournal (Error Journal)) (RemoveJournal (Error Journal))
-step_after SyncJournalName r = choose_or_in_place r CompareNewJournal (RemoveJournal InPlace) (RemoveJournal (Error Journal))
-step_after CompareNewJournal r = choose r CompareNewText (RemoveJournal (Error Journal)) (RemoveJournal (Error Journal))
+step_after CreateJournal r =
+    choose_or_in_place r CopyJournalAttributes (RemoveText InPlace) (RemoveJournal (Error Journal))
+step_after CopyJournalAttributes r =
+    choose_or_in_place r WriteJournal (RemoveJournal InPlace) (RemoveJournal (Error Journal))
+step_after WriteJournal r =
+    choose r SyncJournal (RemoveJournal (Error Journal)) (RemoveJournal (Error Journal))
+step_after SyncJournal r =
+    choose r SyncJournalName (RemoveJournal (Error Journal)) (RemoveJournal (Error Journal))
+step_after SyncJournalName r =
+    choose_or_in_place r CompareNewJournal (RemoveJournal InPlace) (RemoveJournal (Error Journal))
+step_after CompareNewJournal r =
+    choose r CompareNewText (RemoveJournal (Error Journal)) (RemoveJournal (Error Journal))
 step_after CompareNewText r = choose r CompareText (RemoveJournal (Error Text)) (RemoveJournal (Error Text))
 step_after CompareText r = choose r RenameText (RemoveJournal (Error Text)) (RemoveJournal (Error Text))
 step_after RenameText r = choose_or_in_place r SyncRename (CheckRename InPlace) (CheckRename (Error Text))

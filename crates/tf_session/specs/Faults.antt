@@ -3,7 +3,8 @@
 use Rattle.hcl_layout.specs.declared.gaps.fault.LayoutFault.{LayoutFault}
 use Rattle.edit_record.specs.declared.lists.change.Refused.{Refused}
 use Rattle.edit_record.specs.declared.fault.RecordFault.{RecordFault}
-use Rattle.edit_record.specs.declared.fault.RecordFault.TheVariants.{BadHead, BadNumber, CutShort, BadEdits, BadEnd, BadSteps}
+use Rattle.edit_record.specs.declared.fault.RecordFault.TheVariants.{BadHead, BadNumber, CutShort, BadEdits}
+use Rattle.edit_record.specs.declared.fault.RecordFault.TheVariants.{BadEnd, BadSteps}
 use Rattle.tf_fix.specs.declared.fault.LintFault.{LintFault}
 use Rattle.tf_lint.specs.declared.fault.FixFault.{FixFault}
 use Rattle.tf_stream.specs.declared.fault.ReadFault.{ReadFault}

@@ -1,7 +1,8 @@
 -- What a command does to a file and its journal: from the bytes of both, as they were read, to what
 -- is to be saved and reported. And what commands do one after another, each of which reads what the
 -- one before it saved.
-use Rattle.std.specs.Prelude.{◌≡◌, ◌<◌, ◌⊎◌, ℕ, Bool, true, false, List, [], ◌∷◌, ◌++◌, map, codes, Option, Some, None, Result, Ok, Err, if◌then◌else◌}
+use Rattle.std.specs.Prelude.{◌≡◌, ◌<◌, ◌⊎◌, ℕ, Bool, true, false, List, [], ◌∷◌, ◌++◌, map, codes, Option}
+use Rattle.std.specs.Prelude.{Some, None, Result, Ok, Err, if◌then◌else◌}
 use Rattle.edit_record.specs.Lists.Journal.{JournalEntry}
 use Rattle.edit_record.specs.Text.{IsJournalText}
 use Rattle.tf_lint.specs.Reports.{Report, report_lines}

@@ -1,6 +1,7 @@
 -- A text and the text of its journal: what is read of two sources for them, and what is written to
 -- two targets.
-use Rattle.std.specs.Prelude.{◌≡◌, ◌≤◌, ◌<◌, ◌↔◌, ◌⊎◌, ℕ, Bool, true, false, List, length, Result, Err, IfOk, IfErr, IsErrOf, IsErrAnd}
+use Rattle.std.specs.Prelude.{◌≡◌, ◌≤◌, ◌<◌, ◌↔◌, ◌⊎◌, ℕ, Bool, true, false, List, length, Result, Err, IfOk}
+use Rattle.std.specs.Prelude.{IfErr, IsErrOf, IsErrAnd}
 use Rattle.std.specs.Io.KnownBytes.{Keeps}
 use Rattle.edit_record.specs.Lists.Journal.{JournalEntry}
 use Rattle.edit_record.specs.Text.{journal_text, IsCurrentText, IsJournalText}

@@ -53,7 +53,9 @@ records_in layers = map record_of layers
 -- the edits of each layer turn the text below it into its own
 abbrev pub LayersAreConsistent : List ℕ → List Layer → Type 0
 LayersAreConsistent below [] = Unit {0}
-LayersAreConsistent below (layer ∷ layers) = Transforms layer.edits below layer.text × LayersAreConsistent layer.text layers
+LayersAreConsistent below (layer ∷ layers) =
+    Transforms layer.edits below layer.text
+    × LayersAreConsistent layer.text layers
 
 abbrev pub IsHistory : History → Type 0
 IsHistory h = LayersAreConsistent h.first h.layers

@@ -9,7 +9,8 @@ use Rattle.edit_record.specs.declared.lists.change.Refused.{Refused}
 use Rattle.edit_record.specs.declared.lists.direction.Direction.TheVariants.{Backward}
 use Rattle.edit_record.specs.declared.swaps.reorder.MoveFault.{MoveFault}
 use Rattle.edit_record.specs.Swaps.MoveToEnd.{IsMovedToEnd}
-use Rattle.edit_record.specs.Swaps.MoveToEndResult.{LengthMismatch, SomeMeet, SwapIsTooLong, FailsAt, MoveMayAllocate}
+use Rattle.edit_record.specs.Swaps.MoveToEndResult.{LengthMismatch, SomeMeet, SwapIsTooLong, FailsAt}
+use Rattle.edit_record.specs.Swaps.MoveToEndResult.{MoveMayAllocate}
 use Rattle.tf_session.specs.declared.command.Done.{Done}
 use Rattle.tf_session.specs.declared.command.Fault.{Fault}
 use Rattle.tf_lint.specs.Steps.{texts_differ}

@@ -1,5 +1,6 @@
 -- Laws of the machine, over lists of commands.
-use Rattle.std.specs.Prelude.{◌≡◌, ◌≤◌, ℕ, true, List, [], ◌∷◌, map, length, drop, replicate, Result, Ok, if◌then◌else◌}
+use Rattle.std.specs.Prelude.{◌≡◌, ◌≤◌, ℕ, true, List, [], ◌∷◌, map, length, drop, replicate, Result, Ok}
+use Rattle.std.specs.Prelude.{if◌then◌else◌}
 use Rattle.tf_session.specs.declared.command.Command.{Command}
 use Rattle.tf_session.specs.declared.command.Command.TheVariants.{Revert}
 use Rattle.tf_session.specs.declared.command.Done.{Done}
@@ -12,12 +13,17 @@ abbrev pub completed_commands : List Command → List (Result Done Fault) → Li
 completed_commands [] replies = []
 completed_commands (command ∷ commands) [] = []
 completed_commands (command ∷ commands) (reply ∷ replies) =
-    if is_memory reply then completed_commands commands replies else command ∷ completed_commands commands replies
+    if is_memory reply
+    then completed_commands commands replies
+    else command ∷ completed_commands commands replies
 
 -- the replies that are not Memory
 abbrev pub completed_replies : List (Result Done Fault) → List (Result Done Fault)
 completed_replies [] = []
-completed_replies (reply ∷ replies) = if is_memory reply then completed_replies replies else reply ∷ completed_replies replies
+completed_replies (reply ∷ replies) =
+    if is_memory reply
+    then completed_replies replies
+    else reply ∷ completed_replies replies
 
 -- the machine over a list of commands, if memory does not run out
 abbrev pub StackRunWithMemory : Stack → List Command → List (Result Done Fault) → Stack → Type 0

@@ -13,7 +13,8 @@ use Rattle.tf_session.specs.RunLaws.{completed_commands, completed_replies}
 use Rattle.tf_session.specs.RemovingRecord.{RemovesRecord, RefusesTake}
 use Rattle.tf_session.specs.Session.{SessionContents}
 use Rattle.tf_session.specs.Runs.{RunBy}
-use Rattle.tf_session.specs.Layers.{History, initial_history, top_text, records_in, IsHistory, RemovesLayer, TakeStep, HistoryStep, HistoryRun}
+use Rattle.tf_session.specs.Layers.{History, initial_history, top_text, records_in, IsHistory, RemovesLayer}
+use Rattle.tf_session.specs.Layers.{TakeStep, HistoryStep, HistoryRun}
 
 -- the machine over a list of commands, if memory does not run out
 abbrev pub HistoryRunWithMemory : History → List Command → List (Result Done Fault) → History → Type 0

@@ -1,5 +1,6 @@
 -- What a clause reads of a `Told`, and what a call through it leaves.
-use Rattle.std.specs.Prelude.{◌≡◌, ◌==◌, ◌||◌, ◌&&◌, ℕ, Bool, true, List, length, Result, Ok, Err, MatchResult, nat_lt}
+use Rattle.std.specs.Prelude.{◌≡◌, ◌==◌, ◌||◌, ◌&&◌, ℕ, Bool, true, List, length, Result, Ok, Err}
+use Rattle.std.specs.Prelude.{MatchResult, nat_lt}
 use Rattle.tf_stream.specs.declared.told.Told.{Told}
 
 -- the reader or writer inside

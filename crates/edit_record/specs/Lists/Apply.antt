@@ -1,6 +1,7 @@
 -- Applying and undoing edits as a function of the text: one walk over the text and the edits.
 -- `IsChangeResult` says by pieces what it returns (law `edit_results_are_exact`).
-use Rattle.std.specs.Prelude.{ℕ, ◌+◌, ◌-◌, List, [], ◌∷◌, ◌++◌, length, take, drop, Bool, Result, Ok, Err, nat_le, ◌==◌, ◌&&◌, if◌then◌else◌}
+use Rattle.std.specs.Prelude.{ℕ, ◌+◌, ◌-◌, List, [], ◌∷◌, ◌++◌, length, take, drop, Bool, Result, Ok, Err}
+use Rattle.std.specs.Prelude.{nat_le, ◌==◌, ◌&&◌, if◌then◌else◌}
 use Rattle.std.specs.Str.{bytes_eq}
 use Rattle.edit_record.specs.declared.lists.change.Refused.{Refused}
 use Rattle.edit_record.specs.declared.lists.change.Refused.TheVariants.{Length, Differs}

@@ -5,7 +5,8 @@ use Rattle.edit_record.specs.declared.lists.change.Refused.{Refused}
 use Rattle.edit_record.specs.declared.lists.change.Refused.TheVariants.{Length, Differs, Memory}
 use Rattle.edit_record.specs.declared.lists.direction.Direction.{Direction}
 use Rattle.edit_record.specs.declared.lists.direction.Direction.TheVariants.{Forward, Backward}
-use Rattle.edit_record.specs.Lists.Pieces.{EditEntry, EditList, Piece, old_text, new_text, changed_entries, Transforms, removed_len, added_len}
+use Rattle.edit_record.specs.Lists.Pieces.{EditEntry, EditList, Piece, old_text, new_text, changed_entries}
+use Rattle.edit_record.specs.Lists.Pieces.{Transforms, removed_len, added_len}
 use Rattle.edit_record.specs.Lists.Validity.{new_len}
 
 -- the side of pieces that is read

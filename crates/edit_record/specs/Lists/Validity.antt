@@ -1,7 +1,9 @@
 -- Which edits are a list of edits of a text, and what is wrong with others.
-use Rattle.std.specs.Prelude.{◌≡◌, ℕ, ◌+◌, ◌-◌, ◌≤◌, ◌<◌, List, [], ◌∷◌, length, Option, Some, None, Result, Ok, Err, nat_lt, ◌↔◌, ◌==◌, ◌&&◌, if◌then◌else◌}
+use Rattle.std.specs.Prelude.{◌≡◌, ℕ, ◌+◌, ◌-◌, ◌≤◌, ◌<◌, List, [], ◌∷◌, length, Option, Some, None, Result}
+use Rattle.std.specs.Prelude.{Ok, Err, nat_lt, ◌↔◌, ◌==◌, ◌&&◌, if◌then◌else◌}
 use Rattle.edit_record.specs.declared.lists.edit.BadEdits.{BadEdits}
-use Rattle.edit_record.specs.declared.lists.edit.BadEdits.TheVariants.{EmptyEdit, OutOfOrder, PastEnd, TooLong}
+use Rattle.edit_record.specs.declared.lists.edit.BadEdits.TheVariants.{EmptyEdit, OutOfOrder, PastEnd}
+use Rattle.edit_record.specs.declared.lists.edit.BadEdits.TheVariants.{TooLong}
 use Rattle.edit_record.specs.declared.lists.edits.TheConstants.{MAX_TEXT}
 use Rattle.edit_record.specs.Lists.Pieces.{as_list, EditEntry, EditList, Transforms, removed_len, added_len}
 

@@ -1,5 +1,6 @@
 -- Which edits of two lists become one, and where.
-use Rattle.std.specs.Prelude.{ℕ, zero, suc, ◌+◌, ◌-◌, List, [], ◌∷◌, length, drop, max, Bool, false, true, nat_le, ◌==◌, ◌&&◌, if◌then◌else◌}
+use Rattle.std.specs.Prelude.{ℕ, zero, suc, ◌+◌, ◌-◌, List, [], ◌∷◌, length, drop, max, Bool, false, true}
+use Rattle.std.specs.Prelude.{nat_le, ◌==◌, ◌&&◌, if◌then◌else◌}
 use Rattle.edit_record.specs.Lists.Pieces.{EditEntry}
 
 -- An edit as a range of the text between the two lists: the bytes that it adds, if it is in the

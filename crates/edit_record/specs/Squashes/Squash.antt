@@ -4,7 +4,8 @@ use Rattle.edit_record.specs.Lists.Pieces.{EditList, Transforms}
 use Rattle.edit_record.specs.Lists.Validity.{IsValidList, new_len}
 use Rattle.edit_record.specs.Squashes.Groups.{extent_of, squashed_extents}
 use Rattle.edit_record.specs.declared.squashes.squash_lists.Unmet.{Unmet}
-use Rattle.edit_record.specs.declared.squashes.squash_lists.Unmet.TheVariants.{LengthsDiffer, Contradicts, Memory}
+use Rattle.edit_record.specs.declared.squashes.squash_lists.Unmet.TheVariants.{LengthsDiffer, Contradicts}
+use Rattle.edit_record.specs.declared.squashes.squash_lists.Unmet.TheVariants.{Memory}
 
 -- the first list turns some text into one that the second turns
 abbrev pub AreComposable : EditList → EditList → Type 0

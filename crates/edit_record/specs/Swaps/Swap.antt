@@ -1,12 +1,14 @@
 -- Swapping two lists of edits, the second of which follows the first. What this means for exact
 -- edits is this project's own, and is defined here.
-use Rattle.std.specs.Prelude.{◌≡◌, ◌≢◌, ◌↔◌, ◌⊎◌, ℕ, zero, suc, ◌+◌, ◌≤◌, ◌<◌, List, [], ◌∷◌, length, sum_by, Bool, nat_lt, if◌then◌else◌, Result, Ok, Err}
+use Rattle.std.specs.Prelude.{◌≡◌, ◌≢◌, ◌↔◌, ◌⊎◌, ℕ, zero, suc, ◌+◌, ◌≤◌, ◌<◌, List, [], ◌∷◌, length, sum_by}
+use Rattle.std.specs.Prelude.{Bool, nat_lt, if◌then◌else◌, Result, Ok, Err}
 use Rattle.edit_record.specs.Lists.Pieces.{EditEntry, EditList, Transforms, removed_len, added_len}
 use Rattle.edit_record.specs.Lists.Validity.{new_len}
 use Rattle.edit_record.specs.declared.lists.edits.TheConstants.{MAX_TEXT}
 use Rattle.edit_record.specs.Squashes.Groups.{Span, span_end, added_spans, removed_spans}
 use Rattle.edit_record.specs.declared.swaps.swap_lists.SwapFault.{SwapFault}
-use Rattle.edit_record.specs.declared.swaps.swap_lists.SwapFault.TheVariants.{LengthsDiffer, Meets, TooLong, Memory}
+use Rattle.edit_record.specs.declared.swaps.swap_lists.SwapFault.TheVariants.{LengthsDiffer, Meets, TooLong}
+use Rattle.edit_record.specs.declared.swaps.swap_lists.SwapFault.TheVariants.{Memory}
 
 -- ---- which edits meet
 

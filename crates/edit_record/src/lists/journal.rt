@@ -1,4 +1,5 @@
-ghost use Rattle.std.specs.Prelude.{◌≡◌, ◌≤◌, ◌+◌, [], ◌∷◌, ◌++◌, length, take, drop, OnOk, OnErr, IfErr, IsNone, option_to_list};
+ghost use Rattle.std.specs.Prelude.{◌≡◌, ◌≤◌, ◌+◌, [], ◌∷◌, ◌++◌, length, take, drop, OnOk, OnErr, IfErr};
+ghost use Rattle.std.specs.Prelude.{IsNone, option_to_list};
 ghost use Rattle.edit_record.specs.Text.{IsCurrentText};
 ghost use Rattle.edit_record.specs.Inner.KnownText.{SplitsKnown};
 
@@ -162,7 +163,8 @@ impl Change for Journal {
     ghost use Rattle.edit_record.specs.Lists.Journal.{journal_transforms, journal_forward, journal_backward};
     ghost use Rattle.edit_record.specs.Lists.JournalResults.{IsJournalCallResult};
     ghost use Rattle.edit_record.specs.Lists.ChangeResults.{AgreesWith};
-    ghost use Rattle.edit_record.specs.Lists.Inner.JournalExact.{journal_applies, journal_undoes, journal_never_memory};
+    ghost use Rattle.edit_record.specs.Lists.Inner.JournalExact.{journal_applies, journal_undoes};
+    ghost use Rattle.edit_record.specs.Lists.Inner.JournalExact.{journal_never_memory};
     ghost use Rattle.edit_record.specs.declared.lists.direction.Direction.TheVariants.{Forward, Backward};
 
     ghost turns = { journal_transforms };

@@ -3,11 +3,13 @@
 ghost use Rattle.std.specs.Prelude.{◌≡◌, ◌≤◌, ◌↔◌, List, ℕ, Ok, length, true};
 ghost use Rattle.edit_record.specs.Lists.Pieces.{EditEntry, EditList, Piece, Transforms, old_text};
 ghost use Rattle.edit_record.specs.Lists.Validity.{MakeIsExact, LengthsMatch, ApplyIsDeterministic};
-ghost use Rattle.edit_record.specs.Lists.PieceEdits.{ChangesAreNonempty, PiecesTransform, PiecesMakeValidEdits};
+ghost use Rattle.edit_record.specs.Lists.PieceEdits.{ChangesAreNonempty, PiecesTransform};
+ghost use Rattle.edit_record.specs.Lists.PieceEdits.{PiecesMakeValidEdits};
 ghost use Rattle.edit_record.specs.Lists.ChangeResults.{IsChangeResult, ChangeResultIsUnique};
 ghost use Rattle.edit_record.specs.Lists.Journal.{JournalEntry, journal_forward, journal_backward};
 ghost use Rattle.edit_record.specs.Lists.JournalResults.{IsJournalResult};
-ghost use Rattle.edit_record.specs.Lists.Equality.{is_same_edit, is_same_list, is_same_record, is_same_journal};
+ghost use Rattle.edit_record.specs.Lists.Equality.{is_same_edit, is_same_list, is_same_record};
+ghost use Rattle.edit_record.specs.Lists.Equality.{is_same_journal};
 ghost use Rattle.edit_record.specs.declared.lists.edits.TheConstants.{MAX_TEXT};
 ghost use Rattle.edit_record.specs.Lists.Apply.{apply_edits};
 ghost use Rattle.edit_record.specs.declared.lists.direction.Direction.TheVariants.{Forward, Backward};

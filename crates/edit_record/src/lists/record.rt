@@ -96,7 +96,8 @@ fn is_same_word(one: Word, other: Word) -> bool
 impl Change for Record {
     ghost use Rattle.edit_record.specs.Lists.Journal.{record_transforms, record_forward, record_backward};
     ghost use Rattle.edit_record.specs.Lists.ChangeResults.{IsChangeCallResult, AgreesWith};
-    ghost use Rattle.edit_record.specs.Lists.Inner.JournalExact.{record_applies, record_undoes, record_never_memory};
+    ghost use Rattle.edit_record.specs.Lists.Inner.JournalExact.{record_applies, record_undoes};
+    ghost use Rattle.edit_record.specs.Lists.Inner.JournalExact.{record_never_memory};
     ghost use Rattle.edit_record.specs.declared.lists.direction.Direction.TheVariants.{Forward, Backward};
 
     ghost turns = { record_transforms };

@@ -1,6 +1,10 @@
 //! The merge of two lists of edits: the state between two steps, and the steps.
 ghost use Rattle.std.specs.Prelude.{◌≡◌, ◌↔◌, ◌+◌, ◌-◌, ◌^◌, ◌<◌, ◌≤◌, length, take, IfOk, OnOk, IsTrue};
-ghost use Rattle.edit_record.specs.Squashes.Inner.Merge.{finish_edit, skip_kept, with_first, with_second, common_len, cancel_common, reaches, gap, StartsFrom, IsReady, prepare_next, start_edit, joins_first, joins_second, first_is_next, take_next, IsReadyFor, initial};
+ghost use Rattle.edit_record.specs.Squashes.Inner.Merge.{finish_edit, skip_kept, with_first, with_second};
+ghost use Rattle.edit_record.specs.Squashes.Inner.Merge.{common_len, cancel_common, reaches, gap, StartsFrom};
+ghost use Rattle.edit_record.specs.Squashes.Inner.Merge.{IsReady, prepare_next, start_edit, joins_first};
+ghost use Rattle.edit_record.specs.Squashes.Inner.Merge.{joins_second, first_is_next, take_next, IsReadyFor};
+ghost use Rattle.edit_record.specs.Squashes.Inner.Merge.{initial};
 ghost use Rattle.edit_record.specs.Squashes.Inner.MergeState.{state};
 
 use crate::lists::Edit;

@@ -24,7 +24,8 @@ pub(crate) struct MovingEdits {
 }
 
 impl MovingEdits {
-    ghost use Rattle.edit_record.specs.Swaps.Inner.MovingEditsView.{IsWellFormed, edits_now, HasMovedPast, MovesPastRecord};
+    ghost use Rattle.edit_record.specs.Swaps.Inner.MovingEditsView.{IsWellFormed, edits_now, HasMovedPast};
+    ghost use Rattle.edit_record.specs.Swaps.Inner.MovingEditsView.{MovesPastRecord};
     ghost use Rattle.edit_record.specs.Swaps.Swap.{NoneMeet, FirstMeeting};
 
     /// Makes of edits the form in which they are moved.

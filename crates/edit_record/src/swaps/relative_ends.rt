@@ -6,7 +6,8 @@
 //! comes to each edit by adding up, and an edit that moves takes along what starts at its end.
 ghost use Rattle.std.specs.Prelude.{◌≡◌, ◌+◌, ◌^◌, ◌<◌, length};
 ghost use Rattle.std.specs.List.{AllByRecursion};
-ghost use Rattle.edit_record.specs.Swaps.Inner.RelativeEnds.{plus, ends_of, IsSmall, IsPartition, IsEndOf, shifted_from, CanShift};
+ghost use Rattle.edit_record.specs.Swaps.Inner.RelativeEnds.{plus, ends_of, IsSmall, IsPartition, IsEndOf};
+ghost use Rattle.edit_record.specs.Swaps.Inner.RelativeEnds.{shifted_from, CanShift};
 
 /// How far after another place an edit ends: in the text that it applies to, and in the text that
 /// it makes.

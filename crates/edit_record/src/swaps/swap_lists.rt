@@ -1,5 +1,6 @@
 //! Swapping two lists of edits.
-ghost use Rattle.std.specs.Prelude.{◌≡◌, ◌≢◌, ◌↔◌, ◌+◌, ◌<◌, ◌≤◌, length, Err, IfErr, IfOk, IfSome, IsNone, IsTrue};
+ghost use Rattle.std.specs.Prelude.{◌≡◌, ◌≢◌, ◌↔◌, ◌+◌, ◌<◌, ◌≤◌, length, Err, IfErr, IfOk, IfSome, IsNone};
+ghost use Rattle.std.specs.Prelude.{IsTrue};
 ghost use Rattle.edit_record.specs.Lists.Pieces.{removed_len, added_len};
 ghost use Rattle.edit_record.specs.Lists.Validity.{new_len};
 ghost use Rattle.edit_record.specs.Swaps.Swap.{IsSwapResult, NoneMeet, SwapTo, FirstMeeting, IsWithinLimit};

@@ -1,6 +1,8 @@
 //! Swapping two lists of edits: the state between two steps, and the steps.
 ghost use Rattle.std.specs.Prelude.{◌≡◌, ◌+◌, ◌-◌, ◌^◌, ◌<◌, ◌≤◌, length, IfOk, IfErr};
-ghost use Rattle.edit_record.specs.Swaps.Inner.SwapState.{relocate, first_is_next, second_is_next, take_first, take_second, skip_first, skip_second, HoldsInvariant, initial};
+ghost use Rattle.edit_record.specs.Swaps.Inner.SwapState.{relocate, first_is_next, second_is_next};
+ghost use Rattle.edit_record.specs.Swaps.Inner.SwapState.{take_first, take_second, skip_first, skip_second};
+ghost use Rattle.edit_record.specs.Swaps.Inner.SwapState.{HoldsInvariant, initial};
 ghost use Rattle.edit_record.specs.Swaps.Inner.SwapStateView.{state};
 
 use crate::lists::Edit;

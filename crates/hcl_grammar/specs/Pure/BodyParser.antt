@@ -1,5 +1,6 @@
 -- For proofs: what the parser of bodies answers.
-use Rattle.std.specs.Prelude.{ℕ, zero, suc, Bool, false, if◌then◌else◌, List, [], ◌∷◌, ◌++◌, length, Option, Some, None, Err}
+use Rattle.std.specs.Prelude.{ℕ, zero, suc, Bool, false, if◌then◌else◌, List, [], ◌∷◌, ◌++◌, length, Option}
+use Rattle.std.specs.Prelude.{Some, None, Err}
 use Rattle.hcl_token.specs.declared.kind.Kind.{Kind}
 use Rattle.hcl_token.specs.declared.kind.Kind.TheVariants as k
 use Rattle.hcl_grammar.specs.declared.fault.TokenFault.TheVariants.{TooDeep}
@@ -12,7 +13,8 @@ use Rattle.hcl_grammar.specs.declared.tree.Member.TheVariants as member
 use Rattle.hcl_grammar.specs.declared.tree.Tree.{Tree}
 use Rattle.hcl_grammar.specs.Nodes as node
 use Rattle.hcl_grammar.specs.Pure.Parser.{eat_newline, eat_inner_newline, expr, as_some}
-use Rattle.hcl_grammar.specs.Pure.Reading.{Step, ◌>>=◌, ◌>>◌, pure, position, peek_index, syntax_fault, peek_kind, eat, expect, bump_known, enter}
+use Rattle.hcl_grammar.specs.Pure.Reading.{Step, ◌>>=◌, ◌>>◌, pure, position, peek_index, syntax_fault}
+use Rattle.hcl_grammar.specs.Pure.Reading.{peek_kind, eat, expect, bump_known, enter}
 use Rattle.hcl_grammar.specs.Tokens.{Token, first_token_in}
 
 module _ (ts : List Token) where

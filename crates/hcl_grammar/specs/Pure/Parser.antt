@@ -1,5 +1,6 @@
 -- For proofs: what the parser of expressions and templates answers, as a function.
-use Rattle.std.specs.Prelude.{ℕ, zero, suc, ◌==◌, ◌||◌, Bool, true, false, if◌then◌else◌, List, [], ◌∷◌, ◌++◌, length, Option, Some, None, Ok, Err}
+use Rattle.std.specs.Prelude.{ℕ, zero, suc, ◌==◌, ◌||◌, Bool, true, false, if◌then◌else◌, List, [], ◌∷◌, ◌++◌}
+use Rattle.std.specs.Prelude.{length, Option, Some, None, Ok, Err}
 use Rattle.hcl_token.specs.declared.kind.Kind.{Kind}
 use Rattle.hcl_token.specs.declared.kind.Kind.TheVariants as k
 use Rattle.hcl_grammar.specs.declared.fault.TokenFault.TheVariants.{Syntax, TooDeep}
@@ -21,8 +22,12 @@ use Rattle.hcl_grammar.specs.declared.tree.Template.{Template}
 use Rattle.hcl_grammar.specs.declared.tree.Term.{Term}
 use Rattle.hcl_grammar.specs.Nodes as node
 use Rattle.hcl_grammar.specs.Operators.{unary_operator, binary_operator, levels}
-use Rattle.hcl_grammar.specs.Pure.Reading.{Outcome, Step, ◌>>=◌, ◌>>◌, pure, position, peek_index, syntax_fault, peek_kind, eat, expect, bump, bump_known, peek_is_word, expect_word, next_is, after_if_next, next_is_word, enter, enter_two}
-use Rattle.hcl_grammar.specs.Tokens.{Token, next_kind, after_next, first_token_in, for_word, in_word, if_word, else_word, endif_word, endfor_word}
+use Rattle.hcl_grammar.specs.Pure.Reading.{Outcome, Step, ◌>>=◌, ◌>>◌, pure, position, peek_index}
+use Rattle.hcl_grammar.specs.Pure.Reading.{syntax_fault, peek_kind, eat, expect, bump, bump_known}
+use Rattle.hcl_grammar.specs.Pure.Reading.{peek_is_word, expect_word, next_is, after_if_next, next_is_word}
+use Rattle.hcl_grammar.specs.Pure.Reading.{enter, enter_two}
+use Rattle.hcl_grammar.specs.Tokens.{Token, next_kind, after_next, first_token_in, for_word, in_word, if_word}
+use Rattle.hcl_grammar.specs.Tokens.{else_word, endif_word, endfor_word}
 
 -- an answer, as one that is there
 abbrev pub as_some : {A : Type 0} → Step A → Step (Option A)
@@ -394,7 +399,8 @@ module _ (ts : List Token) where
       unary_by m first op
 
     module _ (operand : Bool → Step Expr) where
-      abbrev pub operations_step : Bool → (List Operation → Step (List Operation)) → List Operation → Option BinaryOperator
+      abbrev pub operations_step : Bool → (List Operation → Step (List Operation))
+          → List Operation → Option BinaryOperator
           → Step (List Operation)
       operations_step m more found None = pure found
       operations_step m more found (Some op) = do

@@ -1,5 +1,6 @@
 -- For proofs: the steps of a parser over the numbers of tokens.
-use Rattle.std.specs.Prelude.{◌≡◌, ◌≢◌, ℕ, zero, suc, Bool, if◌then◌else◌, List, Option, Some, None, Result, Ok, Err}
+use Rattle.std.specs.Prelude.{◌≡◌, ◌≢◌, ℕ, zero, suc, Bool, if◌then◌else◌, List, Option, Some, None, Result}
+use Rattle.std.specs.Prelude.{Ok, Err}
 use Rattle.hcl_token.specs.declared.kind.Kind.{Kind}
 use Rattle.hcl_grammar.specs.declared.fault.TokenFault.{TokenFault}
 use Rattle.hcl_grammar.specs.declared.fault.TokenFault.TheVariants.{Syntax, TooDeep, Memory}
@@ -53,7 +54,8 @@ module _ (ts : List Token) where
 
   -- the place after a token of this kind, if one comes next
   unfoldable pub after_if_next : Bool → Kind → ℕ → ℕ
-  after_if_next skip_newlines kind i = if next_is skip_newlines kind i then after_next ts skip_newlines i else i
+  after_if_next skip_newlines kind i =
+      if next_is skip_newlines kind i then after_next ts skip_newlines i else i
 
   -- takes a token of this kind, if one comes next
   abbrev pub eat : Bool → Kind → Step Bool
@@ -62,7 +64,8 @@ module _ (ts : List Token) where
   -- takes a token of this kind, which must come next
   unfoldable pub expect : Bool → Kind → Step (Unit {0})
   expect skip_newlines kind =
-      λ i. if next_is skip_newlines kind i then Ok (tt, after_next ts skip_newlines i) else syntax_fault skip_newlines i
+      λ i. if next_is skip_newlines kind i then Ok (tt, after_next ts skip_newlines i)
+      else syntax_fault skip_newlines i
 
   abbrev pub bump_kind : Bool → ℕ → Option Kind → Outcome Kind
   bump_kind skip_newlines i None = syntax_fault skip_newlines i
@@ -86,7 +89,9 @@ module _ (ts : List Token) where
 
   -- takes this word, which must come next
   unfoldable pub expect_word : Bool → List ℕ → Step (Unit {0})
-  expect_word skip_newlines w = λ i. if next_is_word skip_newlines w i then Ok (tt, after_next ts skip_newlines i) else syntax_fault skip_newlines i
+  expect_word skip_newlines w =
+      λ i. if next_is_word skip_newlines w i then Ok (tt, after_next ts skip_newlines i)
+      else syntax_fault skip_newlines i
 
 -- opens a construct at this token, if one more may nest
 abbrev pub enter : ℕ → ℕ → Step (Unit {0})

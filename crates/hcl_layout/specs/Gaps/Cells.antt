@@ -3,7 +3,9 @@
 -- Terraform style conventions (aligned equals signs on consecutive lines); what counts as a cell,
 -- and the comments, are this project's own profile. Columns are extended grapheme clusters, Unicode
 -- Standard Annex #29.
-use Rattle.std.specs.Prelude.{ℕ, zero, suc, ◌+◌, ◌-◌, ◌==◌, Bool, not, ◌&&◌, max, List, [], ◌∷◌, length, map, flat_map, take, drop, sum_by, Option, Some, None, option_map, unwrap_or, if◌then◌else◌}
+use Rattle.std.specs.Prelude.{ℕ, zero, suc, ◌+◌, ◌-◌, ◌==◌, Bool, not, ◌&&◌, max, List, [], ◌∷◌, length, map}
+use Rattle.std.specs.Prelude.{flat_map, take, drop, sum_by, Option, Some, None, option_map, unwrap_or}
+use Rattle.std.specs.Prelude.{if◌then◌else◌}
 use Rattle.std.specs.List.{list_any}
 use Rattle.hcl_token.specs.Tokens.{Pair}
 use Rattle.hcl_token.specs.Place.{clusters, is_lf}

@@ -4,7 +4,9 @@ use Rattle.std.specs.Prelude.{Bool, true, false, ◌||◌, List, [], ◌∷◌}
 use denote.Enum.Bare.{sameb}
 use Rattle.hcl_token.specs.contracts.kind.Kind.{the_type}
 use Rattle.hcl_token.specs.declared.kind.Kind.{Kind}
-use Rattle.hcl_token.specs.declared.kind.Kind.TheVariants.{Mark, LineEnd, LineComment, InlineComment, Identifier, Number, DotIndex, Equal, CloseBrace, CloseBracket, CloseParen, QuoteClose, HereClose}
+use Rattle.hcl_token.specs.declared.kind.Kind.TheVariants.{Mark, LineEnd, LineComment, InlineComment}
+use Rattle.hcl_token.specs.declared.kind.Kind.TheVariants.{Identifier, Number, DotIndex, Equal, CloseBrace}
+use Rattle.hcl_token.specs.declared.kind.Kind.TheVariants.{CloseBracket, CloseParen, QuoteClose, HereClose}
 
 -- one of these kinds
 abbrev pub among : List Kind → Kind → Bool

@@ -18,7 +18,8 @@ use Rattle.hcl_layout.specs.Gaps.Cells.{aligned, assignment, closing_comment}
 -- kinds before a
 abbrev pub with_spacing : List Kind → Pair → List Pair → List Pair
 with_spacing before a [] = []
-with_spacing before a (b ∷ ps) = record b { gap = gap_between before a b } ∷ with_spacing (prev_after a before) b ps
+with_spacing before a (b ∷ ps) =
+    record b { gap = gap_between before a b } ∷ with_spacing (prev_after a before) b ps
 
 -- the tokens of a line: two spaces for each level before the first, unless that is the line end,
 -- then the gaps between them

@@ -1,7 +1,8 @@
 -- The lines of a text, for its layout: its tokens, split after line ends and heredoc openings.
 -- HCL native syntax specification, Structural Elements and Template Expressions (heredocs); what a
 -- frozen line is, is this project's own.
-use Rattle.std.specs.Prelude.{ℕ, zero, ◌+◌, ◌-◌, Bool, true, false, nat_lt, List, [], ◌∷◌, ◌++◌, if◌then◌else◌}
+use Rattle.std.specs.Prelude.{ℕ, zero, ◌+◌, ◌-◌, Bool, true, false, nat_lt, List, [], ◌∷◌, ◌++◌}
+use Rattle.std.specs.Prelude.{if◌then◌else◌}
 use Rattle.hcl_token.specs.declared.kind.Kind.{Kind}
 use Rattle.hcl_token.specs.declared.kind.Kind.TheVariants.{LineEnd, HereOpen, HereClose}
 use Rattle.hcl_token.specs.Tokens.{Pair}

@@ -2,10 +2,15 @@
 -- line says which.
 -- Terraform style conventions and their examples; the rows and their order are this project's own
 -- profile.
-use Rattle.std.specs.Prelude.{ℕ, Bool, true, false, not, ◌&&◌, ◌||◌, List, [], ◌∷◌, replicate, codes, if◌then◌else◌}
+use Rattle.std.specs.Prelude.{ℕ, Bool, true, false, not, ◌&&◌, ◌||◌, List, [], ◌∷◌, replicate, codes}
+use Rattle.std.specs.Prelude.{if◌then◌else◌}
 use Rattle.std.specs.Str.{bytes_eq}
 use Rattle.hcl_token.specs.declared.kind.Kind.{Kind}
-use Rattle.hcl_token.specs.declared.kind.Kind.TheVariants.{Identifier, Number, DotIndex, Minus, Star, Bang, DoubleColon, OpenBrace, CloseBrace, OpenBracket, CloseBracket, OpenParen, CloseParen, Comma, Dot, Ellipsis, SeqClose, QuoteClose, InterpOpen, DirectiveOpen}
+use Rattle.hcl_token.specs.declared.kind.Kind.TheVariants.{Identifier, Number, DotIndex, Minus, Star, Bang}
+use Rattle.hcl_token.specs.declared.kind.Kind.TheVariants.{DoubleColon, OpenBrace, CloseBrace, OpenBracket}
+use Rattle.hcl_token.specs.declared.kind.Kind.TheVariants.{CloseBracket, OpenParen, CloseParen, Comma, Dot}
+use Rattle.hcl_token.specs.declared.kind.Kind.TheVariants.{Ellipsis, SeqClose, QuoteClose, InterpOpen}
+use Rattle.hcl_token.specs.declared.kind.Kind.TheVariants.{DirectiveOpen}
 use Rattle.hcl_token.specs.Bytes.{space}
 use Rattle.hcl_token.specs.Tokens.{Pair}
 use Rattle.hcl_token.specs.Joins.{joins_with}
@@ -76,7 +81,8 @@ rows before a b =
     ∷ one_space (is_in_keyword a && is_after_identifier before)
     -- `a[`
     ∷ no_space (among (OpenBracket ∷ []) b.kind
-    && (among (Identifier ∷ Number ∷ DotIndex ∷ QuoteClose ∷ CloseParen ∷ CloseBracket ∷ CloseBrace ∷ []) a.kind
+    && (among (Identifier ∷ Number ∷ DotIndex ∷ QuoteClose ∷ CloseParen ∷ CloseBracket ∷ CloseBrace ∷ [])
+    a.kind
     || is_splat_star before a.kind))
     -- `!a`
     ∷ no_space (among (Bang ∷ []) a.kind)

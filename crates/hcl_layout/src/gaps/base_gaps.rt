@@ -1,6 +1,7 @@
 //! Indents and spaces: the gaps of the lines before alignment.
 
-ghost use Rattle.std.specs.Prelude.{◌≡◌, ◌+◌, ◌-◌, ◌*◌, ◌<◌, ◌≤◌, ◌++◌, [], true, false, drop, length, replicate, take, if◌then◌else◌, OnOk, IfOk};
+ghost use Rattle.std.specs.Prelude.{◌≡◌, ◌+◌, ◌-◌, ◌*◌, ◌<◌, ◌≤◌, ◌++◌, [], true, false, drop, length};
+ghost use Rattle.std.specs.Prelude.{replicate, take, if◌then◌else◌, OnOk, IfOk};
 ghost use Rattle.hcl_scan.specs.Tokenization.{MAX_TEXT};
 ghost use Rattle.hcl_token.specs.Kinds.{is_line_end};
 ghost use Rattle.hcl_layout.specs.Gaps.Inner.CodeViews.{IsLine, gaps_left};

@@ -5,7 +5,8 @@
 ghost use Rattle.std.specs.Prelude.{false, [], ◌∷◌, ◌≡◌, ◌<◌, ◌≤◌, ◌++◌, length, drop, OnOk, IfOk};
 ghost use Rattle.hcl_scan.specs.Tokenization.{MAX_TEXT};
 ghost use Rattle.hcl_layout.specs.Gaps.Inner.Stages.{widths, lines_from, with_gaps, AreAtMost, MAX_WIDTH};
-ghost use Rattle.hcl_layout.specs.Gaps.Inner.CodeViews.{cell_of, is_cell, without_repeats, AreStarts, LackCell, CanHaveCell, AreByteClusters};
+ghost use Rattle.hcl_layout.specs.Gaps.Inner.CodeViews.{cell_of, is_cell, without_repeats, AreStarts};
+ghost use Rattle.hcl_layout.specs.Gaps.Inner.CodeViews.{LackCell, CanHaveCell, AreByteClusters};
 ghost use Rattle.hcl_layout.specs.Gaps.Inner.LineSpans.{AreSpans};
 
 use crate::gaps::cells::{Cell, CellStart, cell_start};

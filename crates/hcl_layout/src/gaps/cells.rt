@@ -1,6 +1,7 @@
 //! Alignment: the cells of a run of lines in one column.
 
-ghost use Rattle.std.specs.Prelude.{take, false, [], ◌∷◌, Some, slice_get, ◌≡◌, ◌&&◌, ◌+◌, ◌<◌, ◌≤◌, ◌^◌, length, drop, slice_range, option_map, OnOk, IfSome};
+ghost use Rattle.std.specs.Prelude.{take, false, [], ◌∷◌, Some, slice_get, ◌≡◌, ◌&&◌, ◌+◌, ◌<◌, ◌≤◌, ◌^◌};
+ghost use Rattle.std.specs.Prelude.{length, drop, slice_range, option_map, OnOk, IfSome};
 ghost use Rattle.hcl_scan.specs.Tokenization.{MAX_TEXT};
 ghost use Rattle.std.specs.List.{list_any};
 ghost use Rattle.hcl_token.specs.Place.{is_lf};
@@ -8,8 +9,11 @@ ghost use Rattle.hcl_token.specs.Tokens.{Pair};
 ghost use Rattle.hcl_layout.specs.Gaps.Kinds.{is_inline_comment};
 ghost use Rattle.hcl_layout.specs.Gaps.Lines.{pairs_in};
 ghost use Rattle.hcl_layout.specs.Gaps.Cells.{index_after_first, width, width_before, aligned};
-ghost use Rattle.hcl_layout.specs.Gaps.Inner.Stages.{widths, greatest, lines_from, with_gaps, AreAtMost, MAX_WIDTH, set_cell_gaps, cell_gaps_from_width};
-ghost use Rattle.hcl_layout.specs.Gaps.Inner.CodeViews.{starts_cell, cell_of, is_valid_cell, widths_of, tokens_in, width_in, token_in, HasFlags, AreInside, AreByteClusters};
+ghost use Rattle.hcl_layout.specs.Gaps.Inner.Stages.{widths, greatest, lines_from, with_gaps, AreAtMost};
+ghost use Rattle.hcl_layout.specs.Gaps.Inner.Stages.{MAX_WIDTH, set_cell_gaps, cell_gaps_from_width};
+ghost use Rattle.hcl_layout.specs.Gaps.Inner.CodeViews.{starts_cell, cell_of, is_valid_cell, widths_of};
+ghost use Rattle.hcl_layout.specs.Gaps.Inner.CodeViews.{tokens_in, width_in, token_in, HasFlags, AreInside};
+ghost use Rattle.hcl_layout.specs.Gaps.Inner.CodeViews.{AreByteClusters};
 ghost use Rattle.hcl_layout.specs.Gaps.Inner.LineSpans.{AreSpans};
 
 use crate::gaps::cell_starts::cell_starts;

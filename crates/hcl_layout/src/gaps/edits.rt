@@ -1,6 +1,7 @@
 //! The edits that give a text its new gaps.
 
-ghost use Rattle.std.specs.Prelude.{true, ◌≡◌, ◌≤◌, ◌<◌, ◌&&◌, ◌++◌, [], ◌∷◌, Some, length, nat_lt, slice_get, slice_range, IfOk, OnOk};
+ghost use Rattle.std.specs.Prelude.{true, ◌≡◌, ◌≤◌, ◌<◌, ◌&&◌, ◌++◌, [], ◌∷◌, Some, length, nat_lt};
+ghost use Rattle.std.specs.Prelude.{slice_get, slice_range, IfOk, OnOk};
 ghost use Rattle.std.specs.Str.{bytes_eq};
 ghost use Rattle.std.specs.Option.{option_map};
 ghost use Rattle.hcl_token.specs.Tokens.{Pair};

@@ -1,6 +1,7 @@
 //! Indentation: the levels of lines.
 
-ghost use Rattle.std.specs.Prelude.{◌≡◌, ◌∷◌, ◌+◌, ◌-◌, ◌*◌, nat_lt, if◌then◌else◌, OnOk, ◌<◌, ◌≤◌, length, reverse, slice_range};
+ghost use Rattle.std.specs.Prelude.{◌≡◌, ◌∷◌, ◌+◌, ◌-◌, ◌*◌, nat_lt, if◌then◌else◌, OnOk, ◌<◌, ◌≤◌, length};
+ghost use Rattle.std.specs.Prelude.{reverse, slice_range};
 ghost use Rattle.hcl_scan.specs.Tokenization.{MAX_TEXT};
 ghost use Rattle.hcl_token.specs.Kinds.{is_opening, is_closing};
 ghost use Rattle.hcl_layout.specs.Gaps.Indent.{openings, closings};

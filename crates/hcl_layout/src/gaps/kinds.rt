@@ -1,9 +1,14 @@
 //! Kinds of tokens, as the rows of `specs/Gaps/Space` tell them apart.
 
 ghost use Rattle.std.specs.Prelude.{◌≡◌, [], ◌∷◌};
-ghost use Rattle.hcl_token.specs.declared.kind.Kind.TheVariants.{Identifier, Number, DotIndex, Minus, Bang, DoubleColon, OpenBrace, CloseBrace, OpenBracket, CloseBracket, OpenParen, CloseParen, Comma, Dot, Ellipsis, SeqClose, QuoteClose, InterpOpen, DirectiveOpen};
+ghost use Rattle.hcl_token.specs.declared.kind.Kind.TheVariants.{Identifier, Number, DotIndex, Minus, Bang};
+ghost use Rattle.hcl_token.specs.declared.kind.Kind.TheVariants.{DoubleColon, OpenBrace, CloseBrace};
+ghost use Rattle.hcl_token.specs.declared.kind.Kind.TheVariants.{OpenBracket, CloseBracket, OpenParen};
+ghost use Rattle.hcl_token.specs.declared.kind.Kind.TheVariants.{CloseParen, Comma, Dot, Ellipsis, SeqClose};
+ghost use Rattle.hcl_token.specs.declared.kind.Kind.TheVariants.{QuoteClose, InterpOpen, DirectiveOpen};
 ghost use Rattle.hcl_token.specs.Kinds.{is_line_end, is_line_comment};
-ghost use Rattle.hcl_layout.specs.Gaps.Kinds.{among, is_inline_comment, is_identifier, ends_operand, is_equal, is_skipped_by_spacing};
+ghost use Rattle.hcl_layout.specs.Gaps.Kinds.{among, is_inline_comment, is_identifier, ends_operand};
+ghost use Rattle.hcl_layout.specs.Gaps.Kinds.{is_equal, is_skipped_by_spacing};
 ghost use Rattle.hcl_layout.specs.Gaps.Inner.CodeViews.{is_here_open};
 ghost use Rattle.hcl_layout.specs.Gaps.Inner.SpacingFlags.{is_star};
 

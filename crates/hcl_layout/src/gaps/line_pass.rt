@@ -1,7 +1,8 @@
 //! A line in one pass: its end, its flags, its brackets and the gaps inside it. For speed alone: it
 //! counts what `indent::count_brackets` counts, and sets what `spacing_flags::gap_len` returns.
 
-ghost use Rattle.std.specs.Prelude.{◌≡◌, ◌==◌, ◌+◌, ◌*◌, ◌/◌, ◌%◌, ◌<◌, ◌≤◌, ◌++◌, not, [], ◌∷◌, false, length, slice_range, take, if◌then◌else◌};
+ghost use Rattle.std.specs.Prelude.{◌≡◌, ◌==◌, ◌+◌, ◌*◌, ◌/◌, ◌%◌, ◌<◌, ◌≤◌, ◌++◌, not, [], ◌∷◌, false};
+ghost use Rattle.std.specs.Prelude.{length, slice_range, take, if◌then◌else◌};
 ghost use Rattle.hcl_scan.specs.Tokenization.{MAX_TEXT};
 ghost use Rattle.hcl_layout.specs.Gaps.Indent.{openings, closings};
 ghost use Rattle.hcl_layout.specs.Gaps.Kinds.{is_equal};

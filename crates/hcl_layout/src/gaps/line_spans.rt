@@ -3,7 +3,8 @@
 
 ghost use Rattle.std.specs.Prelude.{true, Bool, ◌≡◌, ◌&&◌, ◌<◌, ◌≤◌, length, slice_range, OnOk};
 ghost use Rattle.hcl_layout.specs.Gaps.Inner.CodeViews.{IsLine};
-ghost use Rattle.hcl_layout.specs.Gaps.Inner.LineSpans.{is_comment_alone, can_be_joined, can_last_be_joined, add_span, IsSpan};
+ghost use Rattle.hcl_layout.specs.Gaps.Inner.LineSpans.{is_comment_alone, can_be_joined, can_last_be_joined};
+ghost use Rattle.hcl_layout.specs.Gaps.Inner.LineSpans.{add_span, IsSpan};
 
 use crate::gaps::kinds::{is_line_comment, is_line_end};
 use crate::gaps::lines::LineSpan;

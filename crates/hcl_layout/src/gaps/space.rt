@@ -3,7 +3,8 @@
 ghost use Rattle.std.specs.Prelude.{◌≡◌, None, ◌<◌, ◌≤◌, ◌-◌, [], take, length, slice_range, Some};
 ghost use Rattle.hcl_token.specs.TokenizedText.{kind_of};
 ghost use Rattle.hcl_scan.specs.Follows.{has_no_gap_before};
-ghost use Rattle.hcl_layout.specs.Gaps.Space.{is_splat_star, is_after_identifier, is_after_operand, is_in_keyword, is_spaced, prev_after_all};
+ghost use Rattle.hcl_layout.specs.Gaps.Space.{is_splat_star, is_after_identifier, is_after_operand};
+ghost use Rattle.hcl_layout.specs.Gaps.Space.{is_in_keyword, is_spaced, prev_after_all};
 ghost use Rattle.hcl_layout.specs.Gaps.Inner.Stages.{prev_kinds_of, token};
 ghost use Rattle.hcl_layout.specs.Gaps.Inner.CodeViews.{prev_kinds};
 ghost use Rattle.hcl_layout.specs.Gaps.Inner.SpacingFlags.{needs_context, spaced_at, IsEndOfNearest};

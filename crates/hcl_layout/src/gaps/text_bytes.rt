@@ -3,7 +3,8 @@
 
 ghost use Rattle.std.specs.Prelude.{◌≡◌, ◌&&◌, ◌||◌, ◌<◌, Some, length};
 ghost use Rattle.hcl_token.specs.TokenizedText.{clusters_of};
-ghost use Rattle.hcl_layout.specs.Gaps.Inner.CodeViews.{has_short_tokens, is_plain, is_without_tab, AreSpaces, AreByteClusters};
+ghost use Rattle.hcl_layout.specs.Gaps.Inner.CodeViews.{has_short_tokens, is_plain, is_without_tab};
+ghost use Rattle.hcl_layout.specs.Gaps.Inner.CodeViews.{AreSpaces, AreByteClusters};
 
 use hcl_scan::Scanned;
 

@@ -1,7 +1,9 @@
 -- Pieces of a text: those that were replaced, and those that are scanned by themselves.
 use Rattle.std.specs.Prelude.{◌≡◌, ℕ, ◌+◌, ◌<◌, ◌≤◌, List, slice_get, Some}
 use Rattle.hcl_scan.specs.declared.fault.ScanFault.{ScanFault}
-use Rattle.hcl_scan.specs.declared.fault.ScanFault.TheVariants.{TooLong, NotUtf8, BadCharacter, BadEscape, OpenString, OpenTemplate, OpenHeredoc, OpenComment, Memory}
+use Rattle.hcl_scan.specs.declared.fault.ScanFault.TheVariants.{TooLong, NotUtf8, BadCharacter, BadEscape}
+use Rattle.hcl_scan.specs.declared.fault.ScanFault.TheVariants.{OpenString, OpenTemplate, OpenHeredoc}
+use Rattle.hcl_scan.specs.declared.fault.ScanFault.TheVariants.{OpenComment, Memory}
 use Rattle.hcl_rescan.specs.declared.incremental.RescanFault.{RescanFault}
 use Rattle.hcl_rescan.specs.declared.incremental.ReplacedRange.{ReplacedRange}
 

@@ -1,5 +1,6 @@
 -- The token with which a text begins where a heredoc opens, and in the text of a heredoc.
-use Rattle.std.specs.Prelude.{ℕ, ◌+◌, Bool, ◌&&◌, if◌then◌else◌, ◌==◌, List, length, drop, slice_index, Some, None}
+use Rattle.std.specs.Prelude.{ℕ, ◌+◌, Bool, ◌&&◌, if◌then◌else◌, ◌==◌, List, length, drop, slice_index, Some}
+use Rattle.std.specs.Prelude.{None}
 use Rattle.std.specs.List.{prefix_len}
 use Rattle.hcl_token.specs.declared.kind.Kind.TheVariants.{HereOpen, HereClose, HereLit}
 use Rattle.hcl_scan.specs.Characters.{is_whitespace}
@@ -26,7 +27,8 @@ here_open_of_length before end = if end == 0 then None else Some (HereOpen, befo
 -- after `before` bytes, with this marker
 abbrev pub open_with_marker : ℕ → List ℕ → LexedToken → LexedToken
 open_with_marker before t None = None
-open_with_marker before t (Some name) = here_open_of_length (before + name.1) (line_end_length (drop name.1 t))
+open_with_marker before t (Some name) =
+    here_open_of_length (before + name.1) (line_end_length (drop name.1 t))
 
 -- the text begins with `<<`
 abbrev pub is_at_heredoc_start : List ℕ → Bool
@@ -35,7 +37,8 @@ is_at_heredoc_start t = slice_index t 0 == 60 && slice_index t 1 == 60
 abbrev pub here_open : List ℕ → LexedToken
 here_open t =
     if is_at_heredoc_start t
-    then open_with_marker (heredoc_start_length t) (drop (heredoc_start_length t) t) (identifier (drop (heredoc_start_length t) t))
+    then open_with_marker (heredoc_start_length t) (drop (heredoc_start_length t) t)
+    (identifier (drop (heredoc_start_length t) t))
     else None
 
 -- ---- the text

@@ -1,6 +1,7 @@
 -- The token with which a text begins, as a kind and a number of bytes; identifiers, and the
 -- openings of template sequences.
-use Rattle.std.specs.Prelude.{ℕ, ◌+◌, Bool, ◌&&◌, ◌||◌, if◌then◌else◌, ◌==◌, nat_le, List, [], ◌∷◌, slice_index, Option, Some, None}
+use Rattle.std.specs.Prelude.{ℕ, ◌+◌, Bool, ◌&&◌, ◌||◌, if◌then◌else◌, ◌==◌, nat_le, List, [], ◌∷◌}
+use Rattle.std.specs.Prelude.{slice_index, Option, Some, None}
 use Rattle.std.specs.Char.{is_ascii_alphabetic, is_ascii_alphanumeric, len_utf8}
 use Rattle.std.specs.Str.{chars}
 use Rattle.hcl_token.specs.declared.kind.Kind.{Kind}

@@ -1,17 +1,26 @@
 -- What one step of the scanner finds at the start of a text, the kind and the length of the longest
 -- lexeme of the mode. `Longest` of proofs/ shows that it is the longest lexeme, and that where it
 -- finds none there is none.
-use Rattle.std.specs.Prelude.{ℕ, ◌+◌, Bool, false, ◌&&◌, ◌||◌, if◌then◌else◌, ◌==◌, nat_lt, List, length, drop, slice_index, Some, None}
+use Rattle.std.specs.Prelude.{ℕ, ◌+◌, Bool, false, ◌&&◌, ◌||◌, if◌then◌else◌, ◌==◌, nat_lt, List, length}
+use Rattle.std.specs.Prelude.{drop, slice_index, Some, None}
 use Rattle.std.specs.Char.{is_ascii_digit}
 use Rattle.std.specs.List.{prefix_len}
-use Rattle.hcl_token.specs.declared.kind.Kind.TheVariants.{LineEnd, LineComment, InlineComment, Number, DotIndex, Plus, Minus, Star, Slash, Percent, And, Or, Bang, DoubleEqual, NotEqual, Less, Greater, LessEqual, GreaterEqual, Question, Colon, DoubleColon, Equal, FatArrow, OpenBrace, CloseBrace, OpenBracket, CloseBracket, OpenParen, CloseParen, Comma, Dot, Ellipsis, QuoteOpen, SeqClose, QuoteClose, QuoteLit}
+use Rattle.hcl_token.specs.declared.kind.Kind.TheVariants.{LineEnd, LineComment, InlineComment, Number}
+use Rattle.hcl_token.specs.declared.kind.Kind.TheVariants.{DotIndex, Plus, Minus, Star, Slash, Percent, And}
+use Rattle.hcl_token.specs.declared.kind.Kind.TheVariants.{Or, Bang, DoubleEqual, NotEqual, Less, Greater}
+use Rattle.hcl_token.specs.declared.kind.Kind.TheVariants.{LessEqual, GreaterEqual, Question, Colon}
+use Rattle.hcl_token.specs.declared.kind.Kind.TheVariants.{DoubleColon, Equal, FatArrow, OpenBrace}
+use Rattle.hcl_token.specs.declared.kind.Kind.TheVariants.{CloseBrace, OpenBracket, CloseBracket, OpenParen}
+use Rattle.hcl_token.specs.declared.kind.Kind.TheVariants.{CloseParen, Comma, Dot, Ellipsis, QuoteOpen}
+use Rattle.hcl_token.specs.declared.kind.Kind.TheVariants.{SeqClose, QuoteClose, QuoteLit}
 use Rattle.hcl_scan.specs.Characters.{is_whitespace}
 use Rattle.hcl_scan.specs.Modes.{Mode, is_literal, can_close_sequence}
 use Rattle.hcl_scan.specs.Modes.Mode.{Quoted, Heredoc}
 use Rattle.hcl_scan.specs.Inner.RunLength.{run_length}
 use Rattle.hcl_scan.specs.Inner.HeredocToken.{is_at_heredoc_start, here_open, heredoc_token}
 use Rattle.hcl_scan.specs.Lexeme.{comment_unit, inline_unit, quote_unit}
-pub use Rattle.hcl_scan.specs.Inner.LexemeStarts.{LexedToken, id_continue_length, identifier_of, identifier, is_word_start, is_at_opening, opening}
+pub use Rattle.hcl_scan.specs.Inner.LexemeStarts.{LexedToken, id_continue_length, identifier_of, identifier}
+pub use Rattle.hcl_scan.specs.Inner.LexemeStarts.{is_word_start, is_at_opening, opening}
 
 -- ---- operators
 

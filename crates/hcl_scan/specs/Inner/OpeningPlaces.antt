@@ -3,7 +3,9 @@
 -- `openings_after_pairs`.
 use Rattle.std.specs.Prelude.{◌≡◌, ℕ, ◌+◌, List, [], ◌∷◌, length, drop, if◌then◌else◌}
 use Rattle.hcl_token.specs.declared.kind.Kind.{Kind}
-use Rattle.hcl_token.specs.declared.kind.Kind.TheVariants.{OpenBrace, CloseBrace, QuoteOpen, QuoteClose, HereOpen, HereClose, InterpOpen, DirectiveOpen, SeqClose}
+use Rattle.hcl_token.specs.declared.kind.Kind.TheVariants.{OpenBrace, CloseBrace, QuoteOpen, QuoteClose}
+use Rattle.hcl_token.specs.declared.kind.Kind.TheVariants.{HereOpen, HereClose, InterpOpen, DirectiveOpen}
+use Rattle.hcl_token.specs.declared.kind.Kind.TheVariants.{SeqClose}
 use Rattle.hcl_token.specs.Tokens.{Pair}
 use Rattle.hcl_scan.specs.Modes.{Mode, mode_of, is_braces, is_in_sequence, modes_after}
 
@@ -16,7 +18,8 @@ opening_places_after DirectiveOpen at modes places = at ∷ places
 opening_places_after QuoteClose at modes places = drop 1 places
 opening_places_after HereClose at modes places = drop 1 places
 opening_places_after SeqClose at modes places = drop 1 places
-opening_places_after OpenBrace at modes places = if is_in_sequence (mode_of modes) then at ∷ places else places
+opening_places_after OpenBrace at modes places =
+    if is_in_sequence (mode_of modes) then at ∷ places else places
 opening_places_after CloseBrace at modes places =
     if is_braces (mode_of modes) then drop 1 places else places
 opening_places_after _ at modes places = places

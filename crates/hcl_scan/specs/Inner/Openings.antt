@@ -1,9 +1,14 @@
 -- What the openings that the scanner keeps, the innermost last, represent.
 use Rattle.std.specs.Prelude.{ℕ, Bool, not, ◌||◌, ◌==◌, List, [], ◌∷◌, map, reverse}
 use Rattle.hcl_scan.specs.declared.mode.Mode.{Mode as Reading}
-use Rattle.hcl_scan.specs.declared.mode.Mode.TheVariants.{Expression as InExpression, Sequence as InSequence, Braces as InBraces, Quoted as InQuoted, Heredoc as InHeredoc}
+use Rattle.hcl_scan.specs.declared.mode.Mode.TheVariants.{Expression as InExpression, Sequence as InSequence}
+use Rattle.hcl_scan.specs.declared.mode.Mode.TheVariants.{Braces as InBraces, Quoted as InQuoted}
+use Rattle.hcl_scan.specs.declared.mode.Mode.TheVariants.{Heredoc as InHeredoc}
 use Rattle.hcl_scan.specs.declared.mode.Region.{Region}
-use Rattle.hcl_scan.specs.declared.mode.Region.TheVariants.{Expression as ExpressionRegion, Sequence as SequenceRegion, Braces as BracesRegion, Quoted as QuotedRegion, Heredoc as HeredocRegion}
+use Rattle.hcl_scan.specs.declared.mode.Region.TheVariants.{Expression as ExpressionRegion}
+use Rattle.hcl_scan.specs.declared.mode.Region.TheVariants.{Sequence as SequenceRegion}
+use Rattle.hcl_scan.specs.declared.mode.Region.TheVariants.{Braces as BracesRegion, Quoted as QuotedRegion}
+use Rattle.hcl_scan.specs.declared.mode.Region.TheVariants.{Heredoc as HeredocRegion}
 use Rattle.hcl_scan.specs.declared.mode.Opening.{Opening}
 use Rattle.hcl_scan.specs.Modes.{Mode}
 use Rattle.hcl_scan.specs.Modes.Mode.{Expression, Sequence, Braces, Quoted, Heredoc}

@@ -1,6 +1,7 @@
 -- The number of bytes of the longest run with which a text begins. `RunLemmas` of proofs/ shows
 -- that it is that.
-use Rattle.std.specs.Prelude.{◌≡◌, false, ℕ, zero, suc, ◌-◌, ◌==◌, Bool, not, ◌||◌, List, [], ◌∷◌, if◌then◌else◌}
+use Rattle.std.specs.Prelude.{◌≡◌, false, ℕ, zero, suc, ◌-◌, ◌==◌, Bool, not, ◌||◌, List, [], ◌∷◌}
+use Rattle.std.specs.Prelude.{if◌then◌else◌}
 use Rattle.hcl_scan.specs.Runs.{UnitLength}
 
 -- where the first `skip` bytes belong to a unit already
@@ -8,7 +9,9 @@ abbrev pub run_from : UnitLength → Bool → ℕ → List ℕ → ℕ
 run_from unit at_line_start skip [] = 0
 run_from unit at_line_start (suc skip) (b ∷ t) = suc (run_from unit (b == 10) skip t)
 run_from unit at_line_start zero (b ∷ t) =
-    if unit at_line_start (b ∷ t) == 0 then 0 else suc (run_from unit (b == 10) (unit at_line_start (b ∷ t) - 1) t)
+    if unit at_line_start (b ∷ t) == 0
+    then 0
+    else suc (run_from unit (b == 10) (unit at_line_start (b ∷ t) - 1) t)
 
 abbrev pub run_length : UnitLength → Bool → List ℕ → ℕ
 run_length unit at_line_start t = run_from unit at_line_start 0 t

@@ -8,7 +8,8 @@ use Rattle.hcl_scan.specs.Inner.OpeningPlaces.{opening_places_after_pairs}
 
 -- up to this place the text has these tokens, after which the modes are these, whose openings are
 -- at these places
-pub record IsTokenizedTo (text : List ℕ) (tokens : List Span) (at : ℕ) (modes : List Mode) (openings : List ℕ) : Type 0 where
+pub record IsTokenizedTo (text : List ℕ) (tokens : List Span) (at : ℕ) (modes : List Mode)
+    (openings : List ℕ) : Type 0 where
   pub within : at ≤ length text
   pub utf8 : IsUtf8 (drop at text)
   pub tokenizes : TokenizesPrefix text (pairs_of text tokens) (drop at text) modes

@@ -1,5 +1,6 @@
 -- Places found by going forward over the tokens.
-use Rattle.std.specs.Prelude.{◌≡◌, ℕ, zero, suc, ◌+◌, ◌≤◌, ◌==◌, Bool, List, [], ◌∷◌, length, take, count_by, if◌then◌else◌}
+use Rattle.std.specs.Prelude.{◌≡◌, ℕ, zero, suc, ◌+◌, ◌≤◌, ◌==◌, Bool, List, [], ◌∷◌, length, take, count_by}
+use Rattle.std.specs.Prelude.{if◌then◌else◌}
 use Rattle.std.specs.List.{list_any}
 use Rattle.hcl_token.specs.declared.place.Place.{Place}
 use Rattle.hcl_token.specs.declared.span.Span.{Span}
@@ -24,7 +25,9 @@ place_after_piece at piece = record {
 
 abbrev pub place_after_pair : Place → Pair → Place
 place_after_pair at p =
-    if is_mark p.kind then place_after_piece at p.gap else place_after_piece (place_after_piece at p.gap) p.spelling
+    if is_mark p.kind
+    then place_after_piece at p.gap
+    else place_after_piece (place_after_piece at p.gap) p.spelling
 
 abbrev pub place_after_pairs : Place → List Pair → Place
 place_after_pairs at [] = at

@@ -2,7 +2,16 @@
 -- next 24, its stop in the others.
 use Rattle.std.specs.Prelude.{ℕ, ◌+◌, ◌*◌}
 use Rattle.hcl_token.specs.declared.kind.Kind.{Kind}
-use Rattle.hcl_token.specs.declared.kind.Kind.TheVariants.{Mark, LineEnd, LineComment, InlineComment, Identifier, Number, DotIndex, Plus, Minus, Star, Slash, Percent, And, Or, Bang, DoubleEqual, NotEqual, Less, Greater, LessEqual, GreaterEqual, Question, Colon, DoubleColon, Equal, FatArrow, OpenBracket, CloseBracket, OpenParen, CloseParen, Comma, Dot, Ellipsis, QuoteLit, OpenBrace, CloseBrace, QuoteOpen, HereOpen, SeqClose, QuoteClose, InterpOpen, DirectiveOpen, HereClose, HereLit}
+use Rattle.hcl_token.specs.declared.kind.Kind.TheVariants.{Mark, LineEnd, LineComment, InlineComment}
+use Rattle.hcl_token.specs.declared.kind.Kind.TheVariants.{Identifier, Number, DotIndex, Plus, Minus, Star}
+use Rattle.hcl_token.specs.declared.kind.Kind.TheVariants.{Slash, Percent, And, Or, Bang, DoubleEqual}
+use Rattle.hcl_token.specs.declared.kind.Kind.TheVariants.{NotEqual, Less, Greater, LessEqual, GreaterEqual}
+use Rattle.hcl_token.specs.declared.kind.Kind.TheVariants.{Question, Colon, DoubleColon, Equal, FatArrow}
+use Rattle.hcl_token.specs.declared.kind.Kind.TheVariants.{OpenBracket, CloseBracket, OpenParen, CloseParen}
+use Rattle.hcl_token.specs.declared.kind.Kind.TheVariants.{Comma, Dot, Ellipsis, QuoteLit, OpenBrace}
+use Rattle.hcl_token.specs.declared.kind.Kind.TheVariants.{CloseBrace, QuoteOpen, HereOpen, SeqClose}
+use Rattle.hcl_token.specs.declared.kind.Kind.TheVariants.{QuoteClose, InterpOpen, DirectiveOpen, HereClose}
+use Rattle.hcl_token.specs.declared.kind.Kind.TheVariants.{HereLit}
 use Rattle.hcl_token.specs.TokenSpan.{TokenSpan}
 
 abbrev pub number_of : Kind → ℕ

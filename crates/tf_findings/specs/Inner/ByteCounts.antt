@@ -1,12 +1,14 @@
 -- For proofs: what a comment silences as the code reads it, by how many bytes of a class a text
 -- begins with. Comments says it by words; CommentForms of the proofs joins both.
-use Rattle.std.specs.Prelude.{ℕ, ◌-◌, nat_le, nat_lt, not, ◌&&◌, ◌||◌, ◌==◌, Bool, List, [], ◌∷◌, take, drop, length, slice_index, codes, if◌then◌else◌}
+use Rattle.std.specs.Prelude.{ℕ, ◌-◌, nat_le, nat_lt, not, ◌&&◌, ◌||◌, ◌==◌, Bool, List, [], ◌∷◌, take, drop}
+use Rattle.std.specs.Prelude.{length, slice_index, codes, if◌then◌else◌}
 use Rattle.std.specs.List.{prefix_len, list_all, list_any}
 use Rattle.std.specs.Str.{byte, bytes_eq}
 use Rattle.tf_rules.specs.declared.rule.Rule.{Rule}
 use Rattle.tf_rules.specs.Table.{name_of}
 use Rattle.tf_findings.specs.declared.silencing.class.ByteClass.{ByteClass}
-use Rattle.tf_findings.specs.declared.silencing.class.ByteClass.TheVariants.{Whitespace, NameByte, NotComma, NotHash}
+use Rattle.tf_findings.specs.declared.silencing.class.ByteClass.TheVariants.{Whitespace, NameByte, NotComma}
+use Rattle.tf_findings.specs.declared.silencing.class.ByteClass.TheVariants.{NotHash}
 
 -- a space or a tab; an ASCII letter, a digit, `_` or `-`; anything but a comma; anything but `#`
 abbrev pub is_in_class : ByteClass → ℕ → Bool

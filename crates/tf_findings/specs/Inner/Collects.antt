@@ -11,5 +11,6 @@ pub data Collects (rules : RuleSet) (pairs : List Pair) : List Node → List Fin
     → Type 0 where
   no_nodes : {xs : List Finding} → Collects rules pairs [] xs xs
   visit : {n : Node} {ns : List Node} {xs ys zs : List Finding}
-      → Collects rules pairs (children n) (xs ++ valid_findings (length pairs) (node_findings rules pairs n)) ys
+      → Collects rules pairs (children n)
+      (xs ++ valid_findings (length pairs) (node_findings rules pairs n)) ys
       → Collects rules pairs ns ys zs → Collects rules pairs (n ∷ ns) xs zs

@@ -4,7 +4,8 @@ ghost use Rattle.std.specs.Prelude.{◌≡◌, ◌++◌, [], ◌∷◌, ◌||◌
 ghost use Rattle.hcl_token.specs.Place.{line_of};
 ghost use Rattle.tf_rules.specs.declared.rule.Rule.{Rule};
 ghost use Rattle.tf_rules.specs.RuleSets.{has_rule};
-ghost use Rattle.tf_findings.specs.Inner.Annotations.{AreLinesIncreasing, AreIncreasing, covers, is_silenced_by, silences_at, silences_among};
+ghost use Rattle.tf_findings.specs.Inner.Annotations.{AreLinesIncreasing, AreIncreasing, covers};
+ghost use Rattle.tf_findings.specs.Inner.Annotations.{is_silenced_by, silences_at, silences_among};
 
 use crate::silencing::annotation::Annotation;
 use crate::silencing::comment::silenced_rules;

@@ -1,6 +1,7 @@
 //! What a comment silences.
 
-ghost use Rattle.std.specs.Prelude.{◌≡◌, ◌==◌, ◌&&◌, ◌||◌, ◌<◌, ◌≤◌, ◌+◌, ℕ, List, false, length, take, drop, codes};
+ghost use Rattle.std.specs.Prelude.{◌≡◌, ◌==◌, ◌&&◌, ◌||◌, ◌<◌, ◌≤◌, ◌+◌, ℕ, List, false, length, take, drop};
+ghost use Rattle.std.specs.Prelude.{codes};
 ghost use Rattle.std.specs.List.{list_all, list_any};
 ghost use Rattle.std.specs.Str.{bytes_eq};
 ghost use Rattle.tf_rules.specs.declared.rule.Rule.{Rule};
@@ -8,7 +9,9 @@ ghost use Rattle.tf_rules.specs.RuleSets.{has_rule};
 ghost use Rattle.hcl_token.specs.Kinds.{is_line_comment, is_comment};
 ghost use Rattle.tf_findings.specs.Comments.{comment_body, silences};
 ghost use Rattle.tf_findings.specs.Inner.Annotations.{option_has};
-ghost use Rattle.tf_findings.specs.Inner.ByteCounts.{skip_whitespace, is_all_whitespace, ends_in_whitespace, split_commas, leading_name, is_name, names_rule, list_names, body_silences};
+ghost use Rattle.tf_findings.specs.Inner.ByteCounts.{skip_whitespace, is_all_whitespace, ends_in_whitespace};
+ghost use Rattle.tf_findings.specs.Inner.ByteCounts.{split_commas, leading_name, is_name, names_rule};
+ghost use Rattle.tf_findings.specs.Inner.ByteCounts.{list_names, body_silences};
 
 use crate::silencing::class::{ByteClass, class_prefix_len, is_in_class};
 use hcl_token::Kind;

@@ -1,11 +1,13 @@
 //! Findings without those that a comment silences.
 
-ghost use Rattle.std.specs.Prelude.{◌≡◌, ◌<◌, ◌≤◌, ◌+◌, ◌++◌, [], ◌∷◌, ℕ, not, nat_lt, filter, length, take, drop, IfOk, if◌then◌else◌};
+ghost use Rattle.std.specs.Prelude.{◌≡◌, ◌<◌, ◌≤◌, ◌+◌, ◌++◌, [], ◌∷◌, ℕ, not, nat_lt, filter, length, take};
+ghost use Rattle.std.specs.Prelude.{drop, IfOk, if◌then◌else◌};
 ghost use Rattle.hcl_token.specs.Place.{line_of};
 ghost use Rattle.tf_rules.specs.declared.rule.Rule.{Rule};
 ghost use Rattle.tf_rules.specs.ValidFindings.{AreValidFindings};
 ghost use Rattle.tf_findings.specs.Silencing.{is_silenced, is_silenced_on};
-ghost use Rattle.tf_findings.specs.Inner.Annotations.{AreLinesIncreasing, AreIncreasing, is_silenced_by, silences_among, CanSilence};
+ghost use Rattle.tf_findings.specs.Inner.Annotations.{AreLinesIncreasing, AreIncreasing, is_silenced_by};
+ghost use Rattle.tf_findings.specs.Inner.Annotations.{silences_among, CanSilence};
 
 use crate::silencing::annotation::Annotation;
 use crate::silencing::annotations::annotations_of;

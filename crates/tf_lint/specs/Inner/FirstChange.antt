@@ -1,5 +1,6 @@
 -- For proofs: one step, and what is known from some steps on.
-use Rattle.std.specs.Prelude.{◌≡◌, ◌≤◌, ◌<◌, ◌+◌, ◌*◌, ◌⊎◌, ◌&&◌, ℕ, Bool, true, List, [], ◌∷◌, length, Option, Some, None, Result, Ok, Err, MatchBool}
+use Rattle.std.specs.Prelude.{◌≡◌, ◌≤◌, ◌<◌, ◌+◌, ◌*◌, ◌⊎◌, ◌&&◌, ℕ, Bool, true, List, [], ◌∷◌, length}
+use Rattle.std.specs.Prelude.{Option, Some, None, Result, Ok, Err, MatchBool}
 use Rattle.hcl_scan.specs.Tokenization.{MAX_TEXT}
 use Rattle.edit_record.specs.Lists.Pieces.{EditList, Transforms}
 use Rattle.edit_record.specs.Squashes.SquashLists.{SquashAll}
@@ -21,7 +22,8 @@ use Rattle.tf_rules.specs.SingleRule.{only}
 use Rattle.tf_rules.specs.RuleSets.{has_rule}
 use Rattle.tf_rules.specs.Table.{has_fix}
 use Rattle.tf_fix.specs.OneStep.{RulesFind, step_text_of, step_edits_of, step_count_of}
-use Rattle.tf_lint.specs.Steps.{IsRemainingCount, texts_differ, Steps, no_steps, prepend_step, StepBreaks, Rewrite}
+use Rattle.tf_lint.specs.Steps.{IsRemainingCount, texts_differ, Steps, no_steps, prepend_step, StepBreaks}
+use Rattle.tf_lint.specs.Steps.{Rewrite}
 
 -- ---- the steps, by recursion on the rules
 

@@ -27,4 +27,5 @@ pub record IsSkippedMember (pairs : List Pair) (from past : ℕ) : Type 0 where
 
 -- the parser has this error at a member from this place on
 abbrev pub IsMemberFault : List Pair → ℕ → TokenFault → Type 0
-IsMemberFault pairs from e = member_of (tokens_of pairs) MAX_NESTING (deeper_members (tokens_of pairs) MAX_NESTING) from ≡ Err e
+IsMemberFault pairs from e =
+    member_of (tokens_of pairs) MAX_NESTING (deeper_members (tokens_of pairs) MAX_NESTING) from ≡ Err e

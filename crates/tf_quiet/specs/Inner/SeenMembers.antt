@@ -43,15 +43,18 @@ pub record AreSeen (pairs : List Pair) (names typed described : Bool) (all : Lis
 
 -- of the members of a body some are left from number `to` on, and what is seen of these, with what
 -- is said of those before, is seen of all
-pub record IsLeft (pairs : List Pair) (names typed described : Bool) (depth : ℕ) (all : List Member) (to past : ℕ) : Type 0 where
+pub record IsLeft (pairs : List Pair) (names typed described : Bool) (depth : ℕ)
+    (all : List Member) (to past : ℕ) : Type 0 where
   pub left : List Member
   pub is_left : IsMembers (tokens_of pairs) depth left to past
   pub seen : (more_typed more_described : Bool)
       → AreSeen pairs names more_typed more_described (flat_map member_attributes left)
-      → AreSeen pairs names (typed || more_typed) (described || more_described) (flat_map member_attributes all)
+      → AreSeen pairs names (typed || more_typed) (described || more_described)
+      (flat_map member_attributes all)
 
 -- the tokens between these places are lines and members of each body that begins at the one place
-pub record IsMemberWalk (pairs : List Pair) (names : Bool) (from to : ℕ) (typed described : Bool) : Type 0 where
+pub record IsMemberWalk (pairs : List Pair) (names : Bool) (from to : ℕ)
+    (typed described : Bool) : Type 0 where
   pub each : (depth past : ℕ) (all : List Member) → IsMembers (tokens_of pairs) depth all from past
       → NextIs (tokens_of pairs) false k.CloseBrace past
       → IsLeft pairs names typed described depth all to past

@@ -10,7 +10,8 @@ use Rattle.tf_rules.specs.declared.packed.PackedFix.{PackedFix}
 use Rattle.tf_rules.specs.declared.packed.PackedFixKind.{PackedFixKind}
 use Rattle.tf_rules.specs.declared.packed.PackedFixKind.TheVariants as kind
 use Rattle.tf_rules.specs.declared.packed.PackedRange.{PackedRange}
-use Rattle.tf_rules.specs.Inner.Unpacking.{unpack_kept, unpack_kind, unpack_fix, unpack_name, IsCanonicalRange, AreCanonicalRanges, IsCanonical, IsCanonicalName}
+use Rattle.tf_rules.specs.Inner.Unpacking.{unpack_kept, unpack_kind, unpack_fix, unpack_name}
+use Rattle.tf_rules.specs.Inner.Unpacking.{IsCanonicalRange, AreCanonicalRanges, IsCanonical, IsCanonicalName}
 
 abbrev pub pack_after : Option KeptTokens → Option Insertion
 pack_after None = None

@@ -1,5 +1,6 @@
 -- For proofs: the rest of a name as a loop over its bytes reads it.
-use Rattle.std.specs.Prelude.{◌≡◌, ◌≤◌, ◌<◌, ℕ, ◌-◌, not, ◌&&◌, ◌||◌, ◌==◌, Bool, true, List, [], ◌∷◌, slice_index}
+use Rattle.std.specs.Prelude.{◌≡◌, ◌≤◌, ◌<◌, ℕ, ◌-◌, not, ◌&&◌, ◌||◌, ◌==◌, Bool, true, List, [], ◌∷◌}
+use Rattle.std.specs.Prelude.{slice_index}
 use Rattle.tf_rules.specs.SnakeCase.{is_lower_or_digit}
 
 -- what may come next, after an underscore or not: a letter or a digit, or a single underscore

@@ -1,6 +1,7 @@
 -- Calls of `lookup` with two arguments. TFLint ruleset for the Terraform language,
 -- terraform_deprecated_lookup.
-use Rattle.std.specs.Prelude.{ℕ, not, ◌&&◌, ◌||◌, Bool, true, false, List, [], ◌∷◌, Option, Some, None, if◌then◌else◌, codes}
+use Rattle.std.specs.Prelude.{ℕ, not, ◌&&◌, ◌||◌, Bool, true, false, List, [], ◌∷◌, Option, Some, None}
+use Rattle.std.specs.Prelude.{if◌then◌else◌, codes}
 use Rattle.hcl_grammar.specs.declared.tree.Call.{out-Call}
 use Rattle.hcl_grammar.specs.declared.tree.Expr.{Expr}
 use Rattle.hcl_grammar.specs.declared.tree.ExprKind.{out-ExprKind}

@@ -1,7 +1,8 @@
 -- Variables without a type, variables and outputs without a description. TFLint ruleset for the
 -- Terraform language, terraform_typed_variables, terraform_documented_variables,
 -- terraform_documented_outputs.
-use Rattle.std.specs.Prelude.{ℕ, ◌+◌, not, ◌&&◌, ◌||◌, Bool, true, false, List, [], ◌++◌, Option, Some, None, codes, if◌then◌else◌}
+use Rattle.std.specs.Prelude.{ℕ, ◌+◌, not, ◌&&◌, ◌||◌, Bool, true, false, List, [], ◌++◌, Option, Some, None}
+use Rattle.std.specs.Prelude.{codes, if◌then◌else◌}
 use Rattle.std.specs.Str.{bytes_eq}
 use Rattle.hcl_grammar.specs.declared.tree.Attribute.{Attribute}
 use Rattle.hcl_grammar.specs.declared.tree.Block.{Block}
@@ -9,7 +10,8 @@ use Rattle.hcl_grammar.specs.declared.tree.Label.{Label}
 use Rattle.hcl_token.specs.Tokens.{Pair}
 use Rattle.tf_rules.specs.declared.finding.Finding.{Finding}
 use Rattle.tf_rules.specs.declared.rule.Rule.{Rule}
-use Rattle.tf_rules.specs.declared.rule.Rule.TheVariants.{TypedVariables, DocumentedVariables, DocumentedOutputs}
+use Rattle.tf_rules.specs.declared.rule.Rule.TheVariants.{TypedVariables, DocumentedVariables}
+use Rattle.tf_rules.specs.declared.rule.Rule.TheVariants.{DocumentedOutputs}
 use Rattle.tf_rules.specs.declared.rule_set.RuleSet.{RuleSet}
 use Rattle.tf_rules.specs.Findings.{finding_at}
 use Rattle.tf_rules.specs.RuleSets.{has_rule}

@@ -9,7 +9,8 @@ use Rattle.hcl_grammar.specs.declared.tree.Label.{Label}
 use Rattle.hcl_token.specs.Tokens.{Pair}
 use Rattle.tf_rules.specs.declared.finding.Finding.{Finding}
 use Rattle.tf_rules.specs.declared.finding.NameKind.{NameKind}
-use Rattle.tf_rules.specs.declared.finding.NameKind.TheVariants.{Resource, Data, Variable, Output, Module, Local}
+use Rattle.tf_rules.specs.declared.finding.NameKind.TheVariants.{Resource, Data, Variable, Output, Module}
+use Rattle.tf_rules.specs.declared.finding.NameKind.TheVariants.{Local}
 use Rattle.tf_rules.specs.declared.rule.Rule.TheVariants.{NamingConvention}
 use Rattle.tf_rules.specs.Findings.{finding_at}
 use Rattle.tf_rules.specs.Attributes.{attributes}

@@ -1,8 +1,10 @@
 //! Comparisons with an empty list.
 
-ghost use Rattle.std.specs.Prelude.{◌≡◌, ◌++◌, ◌+◌, ◌-◌, ◌==◌, ◌&&◌, not, true, OnOk, length, [], if◌then◌else◌};
+ghost use Rattle.std.specs.Prelude.{◌≡◌, ◌++◌, ◌+◌, ◌-◌, ◌==◌, ◌&&◌, not, true, OnOk, length, []};
+ghost use Rattle.std.specs.Prelude.{if◌then◌else◌};
 ghost use Rattle.hcl_grammar.specs.declared.tree.ExprKind.{out-ExprKind};
-ghost use Rattle.tf_rules.specs.Rules.Equality.{is_empty_list, is_equality, is_equal, length_fix, operation_findings, chain_findings, equality_findings};
+ghost use Rattle.tf_rules.specs.Rules.Equality.{is_empty_list, is_equality, is_equal, length_fix};
+ghost use Rattle.tf_rules.specs.Rules.Equality.{operation_findings, chain_findings, equality_findings};
 ghost use Rattle.tf_rules.specs.Fixes.{when};
 ghost use Rattle.tf_rules.specs.declared.rule.Rule.TheVariants.{EmptyListEquality};
 ghost use Rattle.tf_rules.specs.RuleSets.{has_rule};

@@ -1,9 +1,12 @@
 //! Quoted text that is one interpolation.
 
-ghost use Rattle.std.specs.Prelude.{◌≡◌, ◌++◌, ◌+◌, ◌-◌, false, Some, OnOk, option_map, length, ◌∷◌, [], if◌then◌else◌};
+ghost use Rattle.std.specs.Prelude.{◌≡◌, ◌++◌, ◌+◌, ◌-◌, false, Some, OnOk, option_map, length, ◌∷◌, []};
+ghost use Rattle.std.specs.Prelude.{if◌then◌else◌};
 ghost use Rattle.hcl_grammar.specs.declared.tree.Part.{out-Part};
 ghost use Rattle.hcl_grammar.specs.declared.tree.Primary.{out-Primary};
-ghost use Rattle.tf_rules.specs.Rules.Interpolation.{is_post, is_object_key, is_elsewhere, sole_part, sole_interpolation, part_interpolation, is_interpolation_fixable, interpolation_findings};
+ghost use Rattle.tf_rules.specs.Rules.Interpolation.{is_post, is_object_key, is_elsewhere, sole_part};
+ghost use Rattle.tf_rules.specs.Rules.Interpolation.{sole_interpolation, part_interpolation};
+ghost use Rattle.tf_rules.specs.Rules.Interpolation.{is_interpolation_fixable, interpolation_findings};
 ghost use Rattle.tf_rules.specs.Trivia.{token_range, has_line_end};
 ghost use Rattle.tf_rules.specs.Unbroken.{AreUnbroken};
 ghost use Rattle.tf_rules.specs.RuleSets.{has_rule};

@@ -2,7 +2,8 @@
 
 ghost use Rattle.std.specs.Prelude.{◌≡◌, ◌++◌, Some, slice_get, OnOk, length};
 ghost use Rattle.tf_rules.specs.Attributes.{attributes};
-ghost use Rattle.tf_rules.specs.Rules.Missing.{is_undocumented, missing_finding, untyped_findings, undocumented_findings, missing_findings};
+ghost use Rattle.tf_rules.specs.Rules.Missing.{is_undocumented, missing_finding, untyped_findings};
+ghost use Rattle.tf_rules.specs.Rules.Missing.{undocumented_findings, missing_findings};
 ghost use Rattle.tf_rules.specs.Findings.{valid_findings};
 
 use crate::attributes::{has_attribute, has_empty_attribute};

@@ -4,7 +4,9 @@ ghost use Rattle.std.specs.Prelude.{◌≡◌, ◌++◌, [], Some, slice_get, On
 ghost use Rattle.std.specs.List.{flat_map};
 ghost use Rattle.tf_rules.specs.Attributes.{member_attributes, optional_attribute, attributes};
 ghost use Rattle.tf_rules.specs.Spelling.{token_text};
-ghost use Rattle.tf_rules.specs.Rules.Naming.{naming_finding, declared_name, label_findings, declared_findings, local_findings, locals_findings, naming_findings};
+ghost use Rattle.tf_rules.specs.Rules.Naming.{naming_finding, declared_name, label_findings};
+ghost use Rattle.tf_rules.specs.Rules.Naming.{declared_findings, local_findings, locals_findings};
+ghost use Rattle.tf_rules.specs.Rules.Naming.{naming_findings};
 ghost use Rattle.tf_rules.specs.RuleSets.{has_rule};
 ghost use Rattle.tf_rules.specs.declared.rule.Rule.TheVariants.{NamingConvention};
 ghost use Rattle.tf_rules.specs.Findings.{valid_findings};

@@ -8,7 +8,8 @@ use Rattle.edit_record.specs.declared.lists.record.Word.{Word}
 use Rattle.edit_record.specs.declared.lists.record.Word.TheVariants.{Fmt, Fix}
 use Rattle.edit_record.specs.Lists.Pieces.{EditEntry, EditList}
 use Rattle.edit_record.specs.Lists.Journal.{JournalEntry}
-use Rattle.edit_record.specs.Lists.Equality.{is_same_edit, is_same_list, is_same_word, is_same_record, is_same_journal}
+use Rattle.edit_record.specs.Lists.Equality.{is_same_edit, is_same_list, is_same_word, is_same_record}
+use Rattle.edit_record.specs.Lists.Equality.{is_same_journal}
 
 -- a test of equality is an equivalence
 pub equivalence : {A : Type 0} {test : A → A → Bool} → ((x y : A) → Decides (test x y) (x ≡ y))

@@ -1,5 +1,6 @@
 -- What applying and undoing edits answers is what the pieces say.
-use Rattle.std.proofs.Common.{◌≡◌, ◌≢◌, ◌↔◌, ℕ, ◌+◌, List, length, Bool, true, false, cond, eqb, eq-eqb, Result, Ok, Err, refl, arith}
+use Rattle.std.proofs.Common.{◌≡◌, ◌≢◌, ◌↔◌, ℕ, ◌+◌, List, length, Bool, true, false, cond, eqb, eq-eqb}
+use Rattle.std.proofs.Common.{Result, Ok, Err, refl, arith}
 use Rattle.std.proofs.lemmas.Bool.{eqb-true}
 use Rattle.edit_record.specs.declared.lists.change.Refused.{Refused}
 use Rattle.edit_record.specs.declared.lists.change.Refused.TheVariants.{Length, Memory}
@@ -9,7 +10,8 @@ use Rattle.edit_record.specs.Lists.Pieces.{EditList, Transforms, removed_len, ad
 use Rattle.edit_record.specs.Lists.Validity.{new_len}
 use Rattle.edit_record.specs.Lists.Apply.{apply_edits, walk}
 use Rattle.edit_record.specs.Lists.Inner.Walks.{Walks, SameRest}
-use Rattle.edit_record.specs.Lists.Inner.WalkExact.{walks_from_pieces, pieces_from_walks, flip, lengths, walks_from_walk, walk_from_walks, walk_never_memory}
+use Rattle.edit_record.specs.Lists.Inner.WalkExact.{walks_from_pieces, pieces_from_walks, flip, lengths}
+use Rattle.edit_record.specs.Lists.Inner.WalkExact.{walks_from_walk, walk_from_walks, walk_never_memory}
 
 tested : (b : Bool) (r : Result (List ℕ) Refused) (f : Refused) (u : List ℕ)
     → cond b r (Err f) ≡ Ok u → (b ≡ true) × (r ≡ Ok u)

@@ -2,8 +2,10 @@
 use Rattle.std.specs.Prelude.{◌≡◌, ◌≢◌, ◌↔◌, ℕ, List, Ok, Err}
 use Rattle.edit_record.specs.declared.lists.change.Refused.TheVariants.{Memory}
 use Rattle.edit_record.specs.declared.lists.direction.Direction.TheVariants.{Forward, Backward}
-use Rattle.edit_record.specs.Lists.Journal.{JournalEntry, record_transforms, record_forward, record_backward, journal_transforms, journal_forward, journal_backward}
-use Rattle.edit_record.specs.Lists.Inner.SequenceExact.{forward_all_exact, backward_all_exact, forward_all_never, backward_all_never}
+use Rattle.edit_record.specs.Lists.Journal.{JournalEntry, record_transforms, record_forward, record_backward}
+use Rattle.edit_record.specs.Lists.Journal.{journal_transforms, journal_forward, journal_backward}
+use Rattle.edit_record.specs.Lists.Inner.SequenceExact.{forward_all_exact, backward_all_exact}
+use Rattle.edit_record.specs.Lists.Inner.SequenceExact.{forward_all_never, backward_all_never}
 use Rattle.edit_record.specs.Lists.Inner.Exact.{forward_exact, backward_exact, answer_never_memory}
 
 pub record_applies : (r : JournalEntry) (t u : List ℕ) → (record_forward r t ≡ Ok u)

@@ -1,5 +1,7 @@
 -- The three views of edits are one: the pieces, the relation and the walk.
-use Rattle.std.proofs.Common.{◌≡◌, ◌≢◌, ℕ, ◌+◌, ◌-◌, ◌≤◌, List, [], ◌∷◌, ◌++◌, length, take, drop, true, false, cond, leb, Result, Ok, Err, refl, arith, sym, ap, ◌∙◌, append_assoc, length-append, ◌&&◌}
+use Rattle.std.proofs.Common.{◌≡◌, ◌≢◌, ℕ, ◌+◌, ◌-◌, ◌≤◌, List, [], ◌∷◌, ◌++◌, length, take, drop, true}
+use Rattle.std.proofs.Common.{false, cond, leb, Result, Ok, Err, refl, arith, sym, ap, ◌∙◌, append_assoc}
+use Rattle.std.proofs.Common.{length-append, ◌&&◌}
 use Rattle.std.specs.Str.{bytes_eq}
 use Rattle.std.proofs.lemmas.Bool.{leb-true, le-leb, and_parts}
 use Rattle.std.proofs.lemmas.List.{append-nil, take_at, drop_at, take-append-drop, length-take-le}
@@ -8,7 +10,8 @@ use Rattle.edit_record.specs.declared.lists.change.Refused.{Refused}
 use Rattle.edit_record.specs.declared.lists.change.Refused.TheVariants.{Differs, Memory}
 use Rattle.edit_record.specs.declared.lists.direction.Direction.{Direction}
 use Rattle.edit_record.specs.declared.lists.direction.Direction.TheVariants.{Forward, Backward}
-use Rattle.edit_record.specs.Lists.Pieces.{EditEntry, Piece, Kept, Changed, old_text, new_text, changed_entries, removed_len, added_len}
+use Rattle.edit_record.specs.Lists.Pieces.{EditEntry, Piece, Kept, Changed, old_text, new_text}
+use Rattle.edit_record.specs.Lists.Pieces.{changed_entries, removed_len, added_len}
 use Rattle.edit_record.specs.Lists.Apply.{read_bytes, written_bytes, prepend, matches_at, walk}
 use Rattle.edit_record.specs.Lists.Inner.Walks.{Walks, SameRest}
 

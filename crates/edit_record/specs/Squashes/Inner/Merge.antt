@@ -1,6 +1,7 @@
 -- The merge: the state between two steps, and each step as a function. Its result is defined in
 -- Squash and Groups, which do not depend on this.
-use Rattle.std.specs.Prelude.{◌≡◌, ℕ, ◌+◌, ◌-◌, ◌≤◌, List, [], ◌∷◌, ◌++◌, length, take, drop, min, ⊤, Bool, true, false, nat_le, ◌==◌, ◌&&◌, if◌then◌else◌}
+use Rattle.std.specs.Prelude.{◌≡◌, ℕ, ◌+◌, ◌-◌, ◌≤◌, List, [], ◌∷◌, ◌++◌, length, take, drop, min, ⊤, Bool}
+use Rattle.std.specs.Prelude.{true, false, nat_le, ◌==◌, ◌&&◌, if◌then◌else◌}
 use Rattle.edit_record.specs.Lists.Pieces.{EditEntry, removed_len, added_len}
 use Rattle.edit_record.specs.declared.lists.edits.TheConstants.{MAX_TEXT}
 use Rattle.edit_record.specs.Lists.Validity.{AreDisjoint}

@@ -5,7 +5,8 @@ use Rattle.edit_record.specs.Lists.Pieces.{EditEntry, EditList, as_list}
 use Rattle.edit_record.specs.Lists.Validity.{AreValidEdits, new_len}
 use Rattle.edit_record.specs.Squashes.Squash.{IsSquash, IsContradiction}
 use Rattle.edit_record.specs.declared.squashes.squash_lists.Unmet.{Unmet}
-use Rattle.edit_record.specs.declared.squashes.squash_lists.Unmet.TheVariants.{LengthsDiffer, Contradicts, Memory}
+use Rattle.edit_record.specs.declared.squashes.squash_lists.Unmet.TheVariants.{LengthsDiffer, Contradicts}
+use Rattle.edit_record.specs.declared.squashes.squash_lists.Unmet.TheVariants.{Memory}
 
 -- if the lengths match it returns what `squash` does, and the edits are valid
 abbrev pub IsMergeResult : EditList → EditList → Result (Vec EditEntry) Unmet → Type 0

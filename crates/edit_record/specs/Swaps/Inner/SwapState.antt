@@ -1,5 +1,6 @@
 -- Swapping two lists of edits: the state between two steps, and each step as a function.
-use Rattle.std.specs.Prelude.{◌≡◌, ◌↔◌, ℕ, ◌+◌, ◌-◌, ◌^◌, ◌≤◌, ◌<◌, List, [], ◌∷◌, ◌++◌, length, Bool, true, false, nat_lt}
+use Rattle.std.specs.Prelude.{◌≡◌, ◌↔◌, ℕ, ◌+◌, ◌-◌, ◌^◌, ◌≤◌, ◌<◌, List, [], ◌∷◌, ◌++◌, length, Bool, true}
+use Rattle.std.specs.Prelude.{false, nat_lt}
 use Rattle.edit_record.specs.Lists.Pieces.{EditEntry, EditList, Transforms, as_list, removed_len, added_len}
 use Rattle.edit_record.specs.Lists.Validity.{AreDisjoint, AreValidEdits, new_len}
 use Rattle.edit_record.specs.Swaps.Swap.{NoneMeet, AreRelocated}

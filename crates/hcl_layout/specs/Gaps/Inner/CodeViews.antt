@@ -1,5 +1,7 @@
 -- What the code keeps of tokens and cells, as lists. For proofs: nothing here has to be believed.
-use Rattle.std.specs.Prelude.{◌≡◌, ◌==◌, ◌&&◌, ◌||◌, ◌/◌, ◌≤◌, nat_le, nat_lt, ℕ, suc, Bool, true, false, not, slice_get, slice_range, List, [], ◌∷◌, ◌++◌, length, map, drop, reverse, ◌<◌, Option, Some, None, ⊤}
+use Rattle.std.specs.Prelude.{◌≡◌, ◌==◌, ◌&&◌, ◌||◌, ◌/◌, ◌≤◌, nat_le, nat_lt, ℕ, suc, Bool, true, false, not}
+use Rattle.std.specs.Prelude.{slice_get, slice_range, List, [], ◌∷◌, ◌++◌, length, map, drop, reverse, ◌<◌}
+use Rattle.std.specs.Prelude.{Option, Some, None, ⊤}
 use Rattle.std.specs.List.{list_any, list_all}
 use Rattle.hcl_token.specs.declared.kind.Kind.{Kind}
 use Rattle.hcl_token.specs.declared.kind.Kind.TheVariants.{HereOpen}
@@ -10,7 +12,8 @@ use Rattle.hcl_token.specs.Tokens.{Pair}
 use Rattle.hcl_token.specs.TokenizedText.{gap_of, spelling_of}
 use Rattle.hcl_token.specs.Place.{clusters}
 use Rattle.hcl_layout.specs.Gaps.Cells.{is_balanced, assignment, closing_comment}
-use Rattle.hcl_layout.specs.Gaps.Inner.Stages.{prev_kinds_of, SplitsLine, lines_from, open_heredocs_of, all_gap_lens, widths, cell_tokens, with_gaps}
+use Rattle.hcl_layout.specs.Gaps.Inner.Stages.{prev_kinds_of, SplitsLine, lines_from, open_heredocs_of}
+use Rattle.hcl_layout.specs.Gaps.Inner.Stages.{all_gap_lens, widths, cell_tokens, with_gaps}
 use Rattle.hcl_layout.specs.Gaps.Space.{prev_after_all, spaces}
 use Rattle.hcl_layout.specs.declared.gaps.lines.LineSpan.{LineSpan}
 use Rattle.hcl_layout.specs.declared.gaps.space.PrevKinds.{PrevKinds}
@@ -91,7 +94,8 @@ is_start_frozen frozen lines i = frozen
 -- by their flags these spans have no token that begins such a cell
 abbrev pub LackCell : Cell → List LineSpan → ℕ → ℕ → Type 0
 LackCell cell lines from to =
-    (k : ℕ) (line : LineSpan) → from ≤ k → k < to → Some line ≡ slice_get lines k → can_have_cell cell line ≡ false
+    (k : ℕ) (line : LineSpan) → from ≤ k → k < to
+    → Some line ≡ slice_get lines k → can_have_cell cell line ≡ false
 
 -- by its flags this span can have one
 abbrev pub CanHaveCell : Cell → List LineSpan → ℕ → Type 0
@@ -118,11 +122,13 @@ without_repeats true (None ∷ starts) = None ∷ without_repeats false starts
 without_repeats false (None ∷ starts) = without_repeats false starts
 
 -- cells that are those of the lines of a text from a token on, without repeats
-pub record AreStarts (cell : Cell) (gaps : List ℕ) (pairs : List Pair) (first : ℕ) (starts : List (Option CellStart)) : Type 0 where
+pub record AreStarts (cell : Cell) (gaps : List ℕ) (pairs : List Pair) (first : ℕ)
+    (starts : List (Option CellStart)) : Type 0 where
   pub all : List (Option CellStart)
   pub kept : starts ≡ without_repeats false all
   pub sizes : widths_of all ≡ widths (cell_of cell) (lines_from 0 (drop first (with_gaps gaps pairs)))
-  pub numbers : tokens_in all ≡ cell_tokens first (cell_of cell) (lines_from 0 (drop first (with_gaps gaps pairs)))
+  pub numbers : tokens_in all
+      ≡ cell_tokens first (cell_of cell) (lines_from 0 (drop first (with_gaps gaps pairs)))
   pub inside : AreInside (length pairs) all
 
 -- ---- what all bytes of a text say

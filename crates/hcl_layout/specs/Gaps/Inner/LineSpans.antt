@@ -1,5 +1,6 @@
 -- Lines in turn that can have no cell, as one span. For proofs: nothing here has to be believed.
-use Rattle.std.specs.Prelude.{◌≡◌, ◌&&◌, ◌||◌, ℕ, suc, zero, Bool, true, false, not, List, [], ◌∷◌, length, slice_range, Option, None, if◌then◌else◌}
+use Rattle.std.specs.Prelude.{◌≡◌, ◌&&◌, ◌||◌, ℕ, suc, zero, Bool, true, false, not, List, [], ◌∷◌, length}
+use Rattle.std.specs.Prelude.{slice_range, Option, None, if◌then◌else◌}
 use Rattle.hcl_token.specs.Kinds.{is_line_comment, is_line_end}
 use Rattle.hcl_token.specs.Tokens.{Pair}
 use Rattle.hcl_layout.specs.Gaps.Inner.Stages.{SplitsLine}
@@ -15,7 +16,8 @@ is_comment_alone (p ∷ q ∷ []) = is_line_comment p.kind && is_line_end q.kind
 is_comment_alone (p ∷ q ∷ r ∷ ps) = false
 
 -- a line from one token up to another that has no such cell
-pub record HasNoCell (cell : Cell) (pairs : List Pair) (at : ℕ) (frozen : Bool) (past : ℕ) (next : Bool) : Type 0 where
+pub record HasNoCell (cell : Cell) (pairs : List Pair) (at : ℕ) (frozen : Bool)
+    (past : ℕ) (next : Bool) : Type 0 where
   pub split : SplitsLine pairs at frozen past next
   pub none : cell_of cell (record { frozen = frozen; pairs = slice_range pairs at past }) ≡ None
 
@@ -29,7 +31,8 @@ HaveNoCell cell (suc more) pairs at frozen past next =
 -- flag is set it is a line with these flags.
 pub record IsSpan (pairs : List Pair) (at : ℕ) (frozen : Bool) (span : LineSpan) : Type 0 where
   pub line : (cell : Cell) → can_have_cell cell span ≡ true → IsLine pairs at frozen span
-  pub lacks : (cell : Cell) → can_have_cell cell span ≡ false → (more : ℕ) × HaveNoCell cell more pairs at frozen span.past span.next_frozen
+  pub lacks : (cell : Cell) → can_have_cell cell span ≡ false
+      → (more : ℕ) × HaveNoCell cell more pairs at frozen span.past span.next_frozen
 
 -- the spans of a text from a token on, where that begins in a heredoc or not
 abbrev pub AreSpans : List Pair → ℕ → Bool → List LineSpan → Type 0

@@ -1,8 +1,15 @@
 -- What is known of the gap between two tokens before all rows of the table are gone through. For
 -- proofs: nothing here has to be believed.
-use Rattle.std.specs.Prelude.{◌≡◌, ◌<◌, ◌≤◌, ℕ, ◌-◌, Bool, true, false, not, ◌&&◌, ◌||◌, List, [], ◌∷◌, slice_range, slice_get, Option, Some, option_map}
+use Rattle.std.specs.Prelude.{◌≡◌, ◌<◌, ◌≤◌, ℕ, ◌-◌, Bool, true, false, not, ◌&&◌, ◌||◌, List, [], ◌∷◌}
+use Rattle.std.specs.Prelude.{slice_range, slice_get, Option, Some, option_map}
 use Rattle.hcl_token.specs.declared.kind.Kind.{Kind}
-use Rattle.hcl_token.specs.declared.kind.Kind.TheVariants.{Mark, LineEnd, LineComment, Identifier, Number, DotIndex, Minus, Star, Slash, Bang, Less, Greater, Colon, DoubleColon, Equal, OpenBrace, CloseBrace, OpenBracket, CloseBracket, OpenParen, CloseParen, Comma, Dot, Ellipsis, SeqClose, QuoteClose, InterpOpen, DirectiveOpen, QuoteLit, HereClose, HereLit}
+use Rattle.hcl_token.specs.declared.kind.Kind.TheVariants.{Mark, LineEnd, LineComment, Identifier, Number}
+use Rattle.hcl_token.specs.declared.kind.Kind.TheVariants.{DotIndex, Minus, Star, Slash, Bang, Less, Greater}
+use Rattle.hcl_token.specs.declared.kind.Kind.TheVariants.{Colon, DoubleColon, Equal, OpenBrace, CloseBrace}
+use Rattle.hcl_token.specs.declared.kind.Kind.TheVariants.{OpenBracket, CloseBracket, OpenParen, CloseParen}
+use Rattle.hcl_token.specs.declared.kind.Kind.TheVariants.{Comma, Dot, Ellipsis, SeqClose, QuoteClose}
+use Rattle.hcl_token.specs.declared.kind.Kind.TheVariants.{InterpOpen, DirectiveOpen, QuoteLit, HereClose}
+use Rattle.hcl_token.specs.declared.kind.Kind.TheVariants.{HereLit}
 use Rattle.hcl_token.specs.Tokens.{Pair}
 use Rattle.hcl_token.specs.TokenizedText.{kind_of}
 use Rattle.hcl_layout.specs.Gaps.Kinds.{among, is_identifier}
@@ -73,7 +80,10 @@ needs_context a = among (Minus ∷ []) a.kind || (is_star a.kind || is_in_keywor
 
 -- a token of kind b closes or indexes this name, which is not `in`
 abbrev pub closes_or_indexes_name : Pair → Kind → Bool
-closes_or_indexes_name a b = is_identifier a.kind && ((among (CloseParen ∷ CloseBracket ∷ SeqClose ∷ []) b || among (OpenBracket ∷ []) b) && not (is_in_keyword a))
+closes_or_indexes_name a b =
+    is_identifier a.kind
+    && ((among (CloseParen ∷ CloseBracket ∷ SeqClose ∷ []) b || among (OpenBracket ∷ []) b)
+    && not (is_in_keyword a))
 
 -- whether there is a space between token i, of kind b, and the one before it
 abbrev pub spaced_at : List Kind → List Pair → ℕ → Kind → Option Bool

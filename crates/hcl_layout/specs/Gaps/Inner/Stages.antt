@@ -1,5 +1,8 @@
 -- The layout as the code works it out, stage by stage. For proofs: nothing here has to be believed.
-use Rattle.std.specs.Prelude.{◌≡◌, ◌<◌, ◌≤◌, drop, slice_range, ℕ, suc, ◌+◌, ◌-◌, ◌*◌, ◌==◌, Bool, true, false, ◌&&◌, nat_lt, max, List, [], ◌∷◌, length, get_or, replicate, slice_get, slice_set, ◌||◌, ◌++◌, Option, Some, None, option_map, option_and_then, if◌then◌else◌, ⊤}
+use Rattle.std.specs.Prelude.{◌≡◌, ◌<◌, ◌≤◌, drop, slice_range, ℕ, suc, ◌+◌, ◌-◌, ◌*◌, ◌==◌, Bool, true}
+use Rattle.std.specs.Prelude.{false, ◌&&◌, nat_lt, max, List, [], ◌∷◌, length, get_or, replicate, slice_get}
+use Rattle.std.specs.Prelude.{slice_set, ◌||◌, ◌++◌, Option, Some, None, option_map, option_and_then}
+use Rattle.std.specs.Prelude.{if◌then◌else◌, ⊤}
 use Rattle.std.specs.Str.{bytes_eq}
 use Rattle.hcl_token.specs.declared.kind.Kind.{Kind}
 use Rattle.hcl_token.specs.declared.item.Item.{Item}
