@@ -1,5 +1,5 @@
 -- The lines of tokens, one after another.
-use Rattle.std.proofs.Common.{◌≡◌, ℕ, zero, suc, ◌+◌, ◌<◌, ◌≤◌, ◌||◌, ◌&&◌, false, List, [], ◌∷◌, drop, Some, add-one, sym, ap, ◌∙◌, inl, inr, arith}
+use Rattle.std.proofs.Common.{◌≡◌, ℕ, zero, suc, ◌+◌, ◌<◌, ◌≤◌, ◌||◌, ◌&&◌, Bool, false, List, [], ◌∷◌, drop, Some, add-one, sym, ap, ◌∙◌, inl, inr, arith}
 use Rattle.std.specs.Prelude.{unwrap_or, count_by, length}
 use Rattle.std.specs.Option.{option_map}
 use Rattle.std.specs.List.{concat}
@@ -78,6 +78,22 @@ quiet_spelling pairs rule line i kind spelling is_kind is_spelling none_said =
     let e : k ≡ kind = cc (same_kind, is_kind) in
     let f : t ≡ spelling = cc (same_spelling, is_spelling) in
     ap (λ x. silences x t rule) e ∙ (ap (λ x. silences kind x rule) f ∙ none_said))
+
+-- whether a token silences the rule, as it is spelled, is whether it does so on the lines that it covers
+pub spelled : (pairs : List Pair) (rule : Rule) (line i : ℕ) (kind : Kind) (spelling : List ℕ) (does : Bool) → i < length pairs → Some kind ≡ kind_of pairs i
+    → Some spelling ≡ spelling_of pairs i → silences kind spelling rule ≡ does → silences_at pairs rule line i ≡ (does && covers_line line (line_of pairs i))
+spelled pairs rule line i kind spelling does within is_kind is_spelling said =
+    let test = λ (p : Pair). silences p.kind p.spelling rule && covers_line line (line_of pairs i) in
+    elim (slice_get_cases pairs i).1 [
+      | inl (x, below, found, same) ↦
+          let same_kind : Some x.kind ≡ kind_of pairs i = sym (ap (option_map (λ (p : Pair). p.kind)) found) in
+          let same_spelling : Some x.spelling ≡ spelling_of pairs i = sym (ap (option_map (λ (p : Pair). p.spelling)) found) in
+          let e : x.kind ≡ kind = cc (same_kind, is_kind) in
+          let f : x.spelling ≡ spelling = cc (same_spelling, is_spelling) in
+          let own : silences x.kind x.spelling rule ≡ does = ap (λ k. silences k x.spelling rule) e ∙ (ap (λ t. silences kind t rule) f ∙ said) in
+          ap (λ o. unwrap_or (option_map test o) false) found ∙ ap (λ b. b && covers_line line (line_of pairs i)) own
+      | inr (past, none) ↦ absurd (omega arith)
+    ]
 
 -- a token that is no silencing comment can be skipped
 pub quiet_step : (pairs : List Pair) (rule : Rule) (line i : ℕ) → i < length pairs → silences_at pairs rule line i ≡ false
