@@ -1,5 +1,6 @@
-use Rattle.std.proofs.Common.{◌≡◌, ◌||◌, ◌&&◌, Bool, true, false, ap, sym, refl, ◌∙◌}
+use Rattle.std.proofs.Common.{◌≡◌, ◌||◌, ◌&&◌, Bool, true, false, List, ap, sym, refl, ◌∙◌}
 use Rattle.hcl_token.specs.Place.{line_of}
+use Rattle.hcl_token.specs.Tokens.{Pair}
 use Rattle.tf_rules.specs.RuleSets.{has_rule}
 use Rattle.tf_findings.specs.Silencing.{covers_line}
 use Rattle.tf_findings.proofs.LineLemmas.{quiet_spelling, spelled}
@@ -27,5 +28,6 @@ returns-in_ok-add_annotation-in-Some-clause-silenced c = λ rule line.
     let does = has_rule c.in-Some.rules rule in
     let said = sym (c.silenced_rules.ensures rule) ∙ ap (λ o. option_has o rule) c.in-Some.is in
     let here = spelled pairs rule line c.args.i c.kind.result c.spelling.result.now does c.requires.within c.kind.ensures c.spelling.ensures.value said in
-    let covered = ap (λ n. covers_line line n && does) c.of-line.ensures.line ∙ either_order (covers_line line (line_of pairs c.args.i)) does in
+    let at = c.of-line.ensures.line ∙ ap (λ (ps : List Pair). line_of ps c.args.i) c.requires.lines in
+    let covered = ap (λ n. covers_line line n && does) at ∙ either_order (covers_line line (line_of pairs c.args.i)) does in
     c.in_ok-add_annotation-in-Some.ensures.silenced rule line ∙ ap (λ b. old || b) (covered ∙ sym here)
