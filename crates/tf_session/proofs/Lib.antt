@@ -21,4 +21,3 @@ pub mod JournalRefusing
 pub mod RevertSucceeds
 pub mod Saving
 pub mod Invocations
-pub mod FormerForms
