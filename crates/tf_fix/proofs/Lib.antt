@@ -4,7 +4,6 @@ pub mod CommentLemmas
 pub mod NonemptyLemmas
 pub mod FoundLemmas
 pub mod PrevTokenLemmas
-mod ReplacementForms
 pub mod FoundByLemmas
 pub mod PairLemmas
 pub mod PartLemmas
