@@ -32,6 +32,7 @@ pub mod PlainLemmas
 pub mod Pieces
 pub mod RunLemmas
 pub mod RunFollowingText
+pub mod ScannedLemmas
 pub mod Sound
 pub mod SoundOperators
 pub mod SoundWords

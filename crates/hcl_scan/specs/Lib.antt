@@ -8,3 +8,4 @@ pub mod Lexeme
 pub mod Modes
 pub mod Runs
 pub mod ScanResult
+pub mod TokenLists

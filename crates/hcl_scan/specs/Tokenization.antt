@@ -4,7 +4,7 @@ use Rattle.std.specs.List.{list_all}
 use Rattle.hcl_token.specs.declared.kind.Kind.TheVariants.{Mark}
 use Rattle.hcl_token.specs.Tokens.{Pair, whole_text}
 -- the greatest number of bytes of a text
-pub use Rattle.hcl_token.specs.declared.tokens.TheConstants.{MAX_TEXT}
+pub use Rattle.hcl_token.specs.declared.limit.TheConstants.{MAX_TEXT}
 use Rattle.hcl_scan.specs.Characters.{is_whitespace, is_prefix_of}
 use Rattle.hcl_scan.specs.Modes.{Mode, mode_of, is_literal, modes_after}
 use Rattle.hcl_scan.specs.Lexeme.{IsLongest}

@@ -19,8 +19,10 @@ mod runs;
 mod scanned;
 mod sixteen;
 mod token;
+mod token_list;
 mod tokenize;
 
 pub use fault::ScanFault;
-pub use hcl_token::{Item, Kind, Lines, MAX_TEXT, Place, Places, Span, TokenList};
+pub use hcl_token::{Item, Kind, Lines, MAX_TEXT, Place, Places, Span};
 pub use scanned::{Scanned, scan, scan_in};
+pub use token_list::TokenList;

@@ -3,15 +3,19 @@
 ghost use Rattle.std.specs.Prelude.{◌≡◌, ◌+◌, ◌<◌, ◌≤◌, ◌↔◌, [], Some, IsTrue, IsUtf8, length, drop};
 ghost use Rattle.hcl_token.specs.TokenizedText.{TokenizedText, AreUtf8, kind_of, spelling_of, gap_of};
 ghost use Rattle.hcl_token.specs.TokenizedText.{clusters_of, item_of, joins_of, pairs_in_range};
-ghost use Rattle.hcl_token.specs.Pairs.{InOrder, pairs_of};
-ghost use Rattle.hcl_token.specs.TokenLists.{IsTokenListOf};
+ghost use Rattle.hcl_token.specs.Pairs.{InOrder, IsWellFormed, pairs_of, tokenized_text};
 ghost use Rattle.hcl_token.specs.Place.{place_of};
-ghost use Rattle.hcl_scan.specs.Tokenization.{IsTokenization};
+ghost use Rattle.hcl_scan.specs.Tokenization.{IsTokenization, MAX_TEXT};
+ghost use Rattle.hcl_scan.specs.TokenLists.{IsTokenListOf};
 ghost use Rattle.hcl_scan.specs.ScanResult.{IsScanResult};
 
 use crate::fault::ScanFault;
+use crate::token_list::TokenList;
 use crate::tokenize::tokenize;
-use hcl_token::{Item, Kind, Lines, Place, Places, Span, TokenList, Tokens};
+use hcl_token::{
+    Item, Kind, Lines, Place, Places, Span, are_same_tokens, clusters, gap_at, joins, slice,
+    token_range,
+};
 use std::alloc::Global;
 use std::marker::Model;
 
@@ -20,15 +24,18 @@ use std::marker::Model;
 /// Tokens are numbered from 0. No call allocates.
 #[derive(Drop)]
 pub struct Scanned<'t> {
-    tokens: Tokens<'t>,
+    text: &'t [u8],
+    tokens: Vec<Span>,
+    last_gap_at: u32,
 }
 
 impl<'t> Model for Scanned<'t> {
     ghost Value = { TokenizedText };
 
-    ghost view = { λ s. s.tokens };
+    ghost view = { λ s. tokenized_text s.text.now s.tokens.items s.last_gap_at };
 
-    ghost invariant = { λ s. IsTokenization s.tokens.text s.tokens.pairs s.tokens.last };
+    ghost invariant = { λ s. IsWellFormed s.text.now s.tokens.items s.last_gap_at
+        × IsTokenization s.text.now (pairs_of s.text.now s.tokens.items) (drop s.last_gap_at s.text.now) };
 }
 
 /// Returns the tokens of a text.
@@ -62,6 +69,24 @@ pub fn scan_in<'t>(
     Ok(Scanned::of_tokens(text, tokens, last_gap_at))
 }
 
+/// Returns a place in a text in 32 bits.
+#[inline]
+fn to_u32(place: usize) -> u32
+    requires { place ≤ MAX_TEXT }
+    ensures { result ≡ place }
+{
+    place as u32
+}
+
+/// Returns the bytes of a text from one offset on.
+#[inline]
+fn slice_from(text: &[u8], from: u32) -> &[u8]
+    requires { from ≤ length text.now }
+    ensures { result.now ≡ drop from text.now }
+{
+    &text[from as usize..]
+}
+
 impl<'t> Scanned<'t> {
     /// Returns a text with its tokens; the gap after the last begins at byte `last_gap_at`.
     pub fn of_tokens(text: &'t [u8], tokens: Vec<Span>, last_gap_at: usize) -> Scanned<'t>
@@ -73,7 +98,9 @@ impl<'t> Scanned<'t> {
         ensures tokenization { IsTokenization text.now result.pairs result.last }
     {
         Scanned {
-            tokens: Tokens::new(text, tokens, last_gap_at),
+            text,
+            tokens,
+            last_gap_at: to_u32(last_gap_at),
         }
     }
 
@@ -81,14 +108,19 @@ impl<'t> Scanned<'t> {
     pub fn into_buffer(self) -> Vec<Span>
         ensures { result.items ≡ [] }
     {
-        self.tokens.into_buffer()
+        let mut buffer = self.tokens;
+        buffer.clear();
+        buffer
     }
 
     /// Returns the tokens without the text, which may then be moved; `attach` joins them again.
     pub fn detach(self) -> TokenList
         ensures { IsTokenListOf self.entry result }
     {
-        self.tokens.detach()
+        TokenList {
+            tokens: self.tokens,
+            last_gap_at: self.last_gap_at,
+        }
     }
 
     /// Returns the text with its tokens, which were detached.
@@ -100,7 +132,9 @@ impl<'t> Scanned<'t> {
             → IsTokenListOf tokenized list → result ≡ tokenized }
     {
         Scanned {
-            tokens: Tokens::attach(text, list),
+            text,
+            tokens: list.tokens,
+            last_gap_at: list.last_gap_at,
         }
     }
 
@@ -110,7 +144,7 @@ impl<'t> Scanned<'t> {
         ensures tokenization { IsTokenization self.now.text self.now.pairs self.now.last }
         ensures utf8 { AreUtf8 self.now.pairs }
     {
-        self.tokens.text()
+        self.text
     }
 
     /// Returns the number of tokens.
@@ -141,7 +175,13 @@ impl<'t> Scanned<'t> {
         requires { i < length self.now.pairs }
         ensures { Some result ≡ item_of self.now.pairs i }
     {
-        self.tokens.item(i)
+        let token = self.tokens[i];
+        Item {
+            gap_at: gap_at(&self.tokens, i),
+            start: token.start(),
+            stop: token.stop(),
+            kind: token.kind(),
+        }
     }
 
     /// Returns the kind of token `i`.
@@ -149,7 +189,8 @@ impl<'t> Scanned<'t> {
         requires { i < length self.now.pairs }
         ensures { Some result ≡ kind_of self.now.pairs i }
     {
-        self.tokens.kind(i)
+        let token = self.tokens[i];
+        token.kind()
     }
 
     /// Returns the spelling of token `i`.
@@ -158,7 +199,8 @@ impl<'t> Scanned<'t> {
         ensures value { Some result.now ≡ spelling_of self.now.pairs i }
         ensures utf8 { IsUtf8 result.now }
     {
-        self.tokens.spelling(i)
+        let token = self.tokens[i];
+        slice(self.text, token.start(), token.stop())
     }
 
     /// Returns the gap before token `i`.
@@ -167,14 +209,15 @@ impl<'t> Scanned<'t> {
         ensures value { Some result.now ≡ gap_of self.now.pairs i }
         ensures utf8 { IsUtf8 result.now }
     {
-        self.tokens.gap(i)
+        let token = self.tokens[i];
+        slice(self.text, gap_at(&self.tokens, i), token.start())
     }
 
     /// Returns the gap after the last token.
     pub fn last_gap(&self) -> &'t [u8]
         ensures { result.now ≡ self.now.last }
     {
-        self.tokens.last_gap()
+        slice_from(self.text, self.last_gap_at)
     }
 
     /// Whether token `i` joins with token `j`, if `j` follows it after an empty gap: the two, and
@@ -184,7 +227,12 @@ impl<'t> Scanned<'t> {
         requires second { j < length self.now.pairs }
         ensures { Some result ≡ joins_of self.now.pairs i j }
     {
-        self.tokens.joins(i, j)
+        joins(
+            self.kind(i),
+            self.spelling(i),
+            self.kind(j),
+            self.spelling(j),
+        )
     }
 
     /// Returns how many extended grapheme clusters token `i` has.
@@ -192,7 +240,7 @@ impl<'t> Scanned<'t> {
         requires { i < length self.now.pairs }
         ensures { Some result ≡ clusters_of self.now.pairs i }
     {
-        self.tokens.clusters(i)
+        clusters(self.spelling(i))
     }
 
     /// Whether `count` tokens from number `from` on are those of another text from number `to` on:
@@ -204,7 +252,12 @@ impl<'t> Scanned<'t> {
         ensures { IsTrue result
             ↔ (pairs_in_range self.now.pairs from count ≡ pairs_in_range other.now.pairs to count) }
     {
-        self.tokens.has_same_tokens(from, &other.tokens, to, count)
+        if count == 0 {
+            return true;
+        }
+        let tokens = token_range(&self.tokens, from, from + count);
+        let others = token_range(&other.tokens, to, to + count);
+        are_same_tokens(self.text, tokens, other.text, others)
     }
 
     /// Returns the line and the column of token `i`, from 1, counted from the start of the text.
@@ -212,20 +265,20 @@ impl<'t> Scanned<'t> {
         requires { i < length self.now.pairs }
         ensures { result ≡ place_of self.now.pairs i }
     {
-        self.tokens.place_of(i)
+        self.places().of(i)
     }
 
     /// Returns a cursor over the lines and columns of tokens, from 1.
     pub fn places(&self) -> Places<'_>
         ensures { result ≡ self.now.pairs }
     {
-        self.tokens.places()
+        Places::new(self.text, &self.tokens)
     }
 
     /// Returns a cursor over the lines of tokens, from 1.
     pub fn lines(&self) -> Lines<'_>
         ensures { result ≡ self.now.pairs }
     {
-        self.tokens.lines()
+        Lines::new(self.text, &self.tokens)
     }
 }

@@ -3,7 +3,7 @@ use Rattle.std.proofs.Common.{◌≡◌, ℕ, zero, suc, ◌+◌, ◌-◌, ◌*�
 use Rattle.std.proofs.lemmas.List.{get_or_default, take-take, drop-take, drop-drop, length-take-le}
 use Rattle.hcl_token.specs.declared.kind.Kind.{Kind}
 use Rattle.hcl_token.specs.declared.span.Span.{Span}
-use Rattle.hcl_token.specs.declared.tokens.TheConstants.{MAX_TEXT}
+use Rattle.hcl_token.specs.declared.limit.TheConstants.{MAX_TEXT}
 use Rattle.hcl_token.specs.Tokens.{Pair, whole_text}
 use Rattle.hcl_token.specs.Pairs.{pair_at, pairs_from, InOrder}
 use Rattle.hcl_token.specs.TokenizedText.{TokenizedText, pairs_in_range, without_first_gap}

@@ -2,7 +2,7 @@
 use Rattle.std.proofs.Common.{◌≡◌, ℕ, ◌+◌, ◌-◌, ◌*◌, ◌%◌, ◌^◌, ◌<◌, ◌≤◌, List, [], ◌∷◌, get_or, refl, sym, ap, ◌∙◌, arith}
 use Rattle.hcl_token.specs.declared.kind.Kind.{Kind}
 use Rattle.hcl_token.specs.declared.kind.Kind.TheVariants.{Mark, LineEnd, LineComment, InlineComment, Identifier, Number, DotIndex, Plus, Minus, Star, Slash, Percent, And, Or, Bang, DoubleEqual, NotEqual, Less, Greater, LessEqual, GreaterEqual, Question, Colon, DoubleColon, Equal, FatArrow, OpenBracket, CloseBracket, OpenParen, CloseParen, Comma, Dot, Ellipsis, QuoteLit, OpenBrace, CloseBrace, QuoteOpen, HereOpen, SeqClose, QuoteClose, InterpOpen, DirectiveOpen, HereClose, HereLit}
-use Rattle.hcl_token.specs.declared.tokens.TheConstants.{MAX_TEXT}
+use Rattle.hcl_token.specs.declared.limit.TheConstants.{MAX_TEXT}
 use Rattle.hcl_token.specs.Inner.TokenWord.{number_of}
 
 -- the kinds in the order of their numbers

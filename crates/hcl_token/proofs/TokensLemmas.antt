@@ -1,13 +1,12 @@
 -- What is known of token i.
-use Rattle.std.proofs.Common.{◌≡◌, ℕ, ◌<◌, ◌==◌, ◌↔◌, Bool, false, IsTrue, List, [], ◌∷◌, length, get_or, slice_get, Some, sym, ap, subst, ◌∙◌, arith}
+use Rattle.std.proofs.Common.{◌≡◌, ℕ, ◌<◌, ◌==◌, ◌↔◌, Bool, false, IsTrue, List, [], ◌∷◌, length, get_or, slice_get, Some, sym, ap, ◌∙◌, arith}
 use Rattle.std.specs.Option.{option_map}
 use Rattle.hcl_token.specs.declared.item.Item.{Item}
 use Rattle.hcl_token.specs.declared.span.Span.{Span}
-use Rattle.hcl_token.specs.Tokens.{whole_text}
 use Rattle.hcl_token.specs.Pairs.{tokenized_text, pair_at, pairs_of}
 use Rattle.hcl_token.specs.TokenizedText.{TokenizedText, item_of}
 use Rattle.hcl_token.specs.Inner.LineColumn.{IsWellFormed, gap_at}
-use Rattle.hcl_token.proofs.OrderLemmas.{IsTokenAt, token_at, item_is, length-pairs, text_is-from}
+use Rattle.hcl_token.proofs.OrderLemmas.{IsTokenAt, token_at, item_is, length-pairs}
 
 -- the value is a view of a text with its tokens
 pub record IsViewOf (text : List ℕ) (tokens : List Span) (last_gap_at : ℕ) (value : TokenizedText) : Type 0 where
@@ -34,10 +33,6 @@ known_place text tokens last_gap_at i at value token v begins k =
     ap (λ (x : Item). Some x) (item_is text tokens last_gap_at i at token v.ordered begins k)
     ∙ sym (ap (option_map _) k.pair)
     ∙ ap (λ (x : TokenizedText). item_of x.pairs i) v.view
-
-pub known_text : (text : List ℕ) (tokens : List Span) (last_gap_at : ℕ) (value : TokenizedText) → IsViewOf text tokens last_gap_at value → value.text ≡ whole_text value.pairs value.last
-known_text text tokens last_gap_at value v =
-    subst (λ (x : TokenizedText). x.text ≡ whole_text x.pairs x.last) v.view (sym (text_is-from text tokens 0 last_gap_at v.ordered.order))
 
 pub empty_is : (text : List ℕ) (tokens : List Span) (last_gap_at : ℕ) (value : TokenizedText) (empty : Bool) → IsViewOf text tokens last_gap_at value
     → empty ≡ (length tokens == 0) → IsTrue empty ↔ (value.pairs ≡ [])

@@ -4,7 +4,6 @@ pub mod Inner
 pub mod Pairs
 pub mod Kinds
 pub mod Joins
-pub mod TokenLists
 pub mod Place
 pub mod TokenSpan
 pub mod Tokens

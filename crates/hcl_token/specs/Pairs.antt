@@ -1,7 +1,7 @@
 -- Which gaps and tokens are meant by a text and by where its tokens start and stop.
 use Rattle.std.specs.Prelude.{◌≡◌, ℕ, ◌+◌, ◌≤◌, List, [], ◌∷◌, length, drop, slice_range}
 use Rattle.hcl_token.specs.declared.span.Span.{Span}
-use Rattle.hcl_token.specs.declared.tokens.TheConstants.{MAX_TEXT}
+use Rattle.hcl_token.specs.declared.limit.TheConstants.{MAX_TEXT}
 use Rattle.hcl_token.specs.TokenizedText.{TokenizedText, AreUtf8}
 use Rattle.hcl_token.specs.Tokens.{Pair}
 

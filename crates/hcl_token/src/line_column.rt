@@ -26,7 +26,7 @@ const CHUNK: usize = 224;
 pub(crate) const FIRST_PLACE: Place = Place { line: 1, column: 1 };
 
 /// Returns the bytes of a text from one offset up to another.
-pub(crate) fn slice(text: &[u8], from: u32, to: u32) -> &[u8]
+pub fn slice(text: &[u8], from: u32, to: u32) -> &[u8]
     requires ordered { from ≤ to }
     requires within { to ≤ length text.now }
     ensures { result.now ≡ slice_range text.now from to }
@@ -35,7 +35,7 @@ pub(crate) fn slice(text: &[u8], from: u32, to: u32) -> &[u8]
 }
 
 /// Returns where the gap before token `i` begins, or the gap after the last token, in bytes from 0.
-pub(crate) fn gap_at(tokens: &[Span], i: usize) -> u32
+pub fn gap_at(tokens: &[Span], i: usize) -> u32
     requires { i ≤ length tokens.now }
     ensures { result ≡ gap_at tokens.now i }
 {
@@ -43,7 +43,7 @@ pub(crate) fn gap_at(tokens: &[Span], i: usize) -> u32
 }
 
 /// Returns the tokens from one number up to another.
-pub(crate) fn token_range(tokens: &[Span], from: usize, to: usize) -> &[Span]
+pub fn token_range(tokens: &[Span], from: usize, to: usize) -> &[Span]
     requires ordered { from ≤ to }
     requires within { to ≤ length tokens.now }
     ensures { result.now ≡ slice_range tokens.now from to }

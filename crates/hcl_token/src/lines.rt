@@ -31,8 +31,9 @@ impl<'s> Model for Lines<'s> {
 }
 
 impl<'s> Lines<'s> {
-    /// Returns a cursor at the start of a text with these tokens.
-    pub(crate) fn new(text: &'s [u8], tokens: &'s [Span]) -> Lines<'s>
+    /// Returns a cursor at the start of a text with these tokens, of which no byte order mark has a
+    /// line feed.
+    pub fn new(text: &'s [u8], tokens: &'s [Span]) -> Lines<'s>
         requires order { (last : ℕ) × IsWellFormed text.now tokens.now last }
         requires marks { MarksHaveNoLf (pairs_of text.now tokens.now) }
         ensures { result ≡ pairs_of text.now tokens.now }

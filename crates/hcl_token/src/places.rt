@@ -32,7 +32,7 @@ impl<'s> Model for Places<'s> {
 
 impl<'s> Places<'s> {
     /// Returns a cursor at the start of a text with these tokens.
-    pub(crate) fn new(text: &'s [u8], tokens: &'s [Span]) -> Places<'s>
+    pub fn new(text: &'s [u8], tokens: &'s [Span]) -> Places<'s>
         requires { (last : ℕ) × IsWellFormed text.now tokens.now last }
         ensures { result ≡ pairs_of text.now tokens.now }
     {

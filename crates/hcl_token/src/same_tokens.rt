@@ -1,7 +1,7 @@
 //! Whether tokens of two texts are the same, by their bytes and their places.
 
 ghost use Rattle.std.specs.Prelude.{◌≡◌, ◌≤◌, ◌+◌, ◌-◌, ◌*◌, ◌%◌, ◌^◌, ◌↔◌, [], IsTrue, length};
-ghost use Rattle.hcl_token.specs.declared.tokens.TheConstants.{MAX_TEXT};
+ghost use Rattle.hcl_token.specs.declared.limit.TheConstants.{MAX_TEXT};
 ghost use Rattle.hcl_token.specs.Inner.SameTokens.{AreWordsShiftedBy, IsTokenRun, IsWordShiftedBy, token_run};
 ghost use Rattle.hcl_token.specs.Tokens.{whole_text};
 
@@ -59,7 +59,7 @@ fn same_bytes(bytes: &[u8], others: &[u8]) -> bool
 ///
 /// All their bytes are compared at once: then kinds and places are left, which are in one word for
 /// each token.
-pub(crate) fn are_same_tokens(text: &[u8], tokens: &[Span], other: &[u8], others: &[Span]) -> bool
+pub fn are_same_tokens(text: &[u8], tokens: &[Span], other: &[u8], others: &[Span]) -> bool
     requires self_run { IsTokenRun text.now tokens.now }
     requires other_run { IsTokenRun other.now others.now }
     requires number { length tokens.now ≡ length others.now }

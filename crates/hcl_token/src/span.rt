@@ -2,7 +2,7 @@
 
 ghost use Rattle.std.specs.Prelude.{◌≡◌, ◌<◌, ◌≤◌, ◌+◌, ◌-◌, ◌%◌, ◌^◌};
 ghost use Rattle.hcl_token.specs.Inner.TokenWord.{number_of, word_of};
-ghost use Rattle.hcl_token.specs.declared.tokens.TheConstants.{MAX_TEXT};
+ghost use Rattle.hcl_token.specs.declared.limit.TheConstants.{MAX_TEXT};
 
 use crate::kind::Kind;
 use std::marker::Model;

@@ -1,6 +1,6 @@
 -- A text that was searched, and its tree.
 use Rattle.std.specs.Prelude.{◌≡◌, length}
-use Rattle.hcl_token.specs.TokenLists.{IsTokenListOf}
+use Rattle.hcl_scan.specs.TokenLists.{IsTokenListOf}
 use Rattle.tf_lint.specs.LintedMembers.{AreLintedMembers}
 use Rattle.tf_rules.specs.ValidFindings.{AreValidFindings}
 use Rattle.tf_fix.specs.ParsedTexts.{IsParseOf}

@@ -1,6 +1,6 @@
 -- What a fix leaves.
 use Rattle.std.specs.Prelude.{ℕ, List, length}
-use Rattle.hcl_token.specs.TokenLists.{IsTokenListOf}
+use Rattle.hcl_scan.specs.TokenLists.{IsTokenListOf}
 use Rattle.tf_rules.specs.declared.rule_set.RuleSet.{RuleSet}
 use Rattle.tf_rules.specs.ValidFindings.{AreValidFindings}
 use Rattle.tf_fix.specs.declared.parsed.Parsed.{Parsed}

@@ -4,7 +4,7 @@ use Rattle.std.specs.Prelude.{if◌then◌else◌}
 use Rattle.std.specs.List.{list_any}
 use Rattle.hcl_token.specs.declared.place.Place.{Place}
 use Rattle.hcl_token.specs.declared.span.Span.{Span}
-use Rattle.hcl_token.specs.declared.tokens.TheConstants.{MAX_TEXT}
+use Rattle.hcl_token.specs.declared.limit.TheConstants.{MAX_TEXT}
 use Rattle.hcl_token.specs.Tokens.{Pair}
 use Rattle.hcl_token.specs.Pairs.{pairs_from, pairs_of, InOrder}
 pub use Rattle.hcl_token.specs.Pairs.{IsWellFormed}

@@ -1,6 +1,6 @@
 use Rattle.std.proofs.Common.{sym, subst}
 use Rattle.hcl_token.specs.TokenizedText.{TokenizedText}
-use Rattle.hcl_token.specs.TokenLists.{IsTokenListOf}
+use Rattle.hcl_scan.specs.TokenLists.{IsTokenListOf}
 use Rattle.tf_lint.specs.LintedMembers.{AreLintedMembers}
 use Rattle.tf_lint.proofs.relint.into_previous.Goals as goal
 
