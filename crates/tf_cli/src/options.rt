@@ -3,7 +3,8 @@
 ghost use Rattle.std.specs.Prelude.{◌≡◌, ◌≤◌, ◌↔◌, ◌⊎◌, true, false, Some, length};
 ghost use Rattle.std.specs.List.{list_any};
 ghost use Rattle.tf_cli.specs.Arguments.{is_dash};
-ghost use Rattle.tf_cli.specs.Options.{subcommand_name, file_count_of, flag_name};
+ghost use Rattle.tf_cli.specs.Options.{subcommand_name, file_count_of, flag_name, flag_value};
+ghost use Rattle.tf_cli.specs.Options.{flag_conflict, flag_commands, is_among, has_flag};
 ghost use Rattle.tf_cli.specs.declared.options.FileCount.{FileCount};
 ghost use Rattle.tf_cli.specs.declared.options.Subcommand.{Subcommand};
 
@@ -173,7 +174,10 @@ impl Flag {
 
     /// Returns the row of the option.
     pub fn info(self) -> FlagInfo
-        ensures { result.name.now ≡ flag_name self }
+        ensures name { result.name.now ≡ flag_name self }
+        ensures value { result.value ≡ flag_value self }
+        ensures conflict { result.conflict ≡ flag_conflict self }
+        ensures commands { result.commands ≡ flag_commands self }
     {
         match self {
             Flag::Check => FlagInfo {
@@ -229,8 +233,19 @@ impl Flag {
     }
 
     /// Returns whether a command has the option.
-    pub fn is_of(self, subcommand: Subcommand) -> bool {
-        match self.info().commands {
+    pub fn is_of(self, subcommand: Subcommand) -> bool
+        ensures { result ≡ has_flag subcommand self }
+    {
+        self.info().commands.include(subcommand)
+    }
+}
+
+impl Commands {
+    /// Returns whether a command is one of these.
+    fn include(self, subcommand: Subcommand) -> bool
+        ensures { result ≡ is_among self subcommand }
+    {
+        match self {
             Commands::Fmt => matches!(subcommand, Subcommand::Fmt),
             Commands::LintAndFix => matches!(subcommand, Subcommand::Lint | Subcommand::Fix),
             Commands::AllButRevert => !matches!(subcommand, Subcommand::Revert),
