@@ -1,3 +1,4 @@
+pub mod Building
 pub mod Choosing
 pub mod Commands
 pub mod Naming

@@ -1,4 +1,5 @@
 pub mod Arguments
 pub mod Choices
 pub mod Options
+pub mod Parsing
 pub mod Tasks

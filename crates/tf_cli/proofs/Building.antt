@@ -1,0 +1,110 @@
+-- Arguments of clap's, made step by step, and a list of them.
+use Rattle.std.proofs.Common.{◌≡◌, ◌∙◌, ◌<◌, ◌+◌, ◌==◌, ◌&&◌, ℕ, Bool, true, false, not, List, [], ◌∷◌, ◌++◌, Option, Some, None, Bor, IsSomeAnd, length, take, get_or, if◌then◌else◌, inl, inr, refl, sym, ap, subst, arith}
+use Rattle.std.proofs.lemmas.Bool.Decides.{eqb_tells}
+use Rattle.std.proofs.lemmas.List.{take_more, length_push}
+use Rattle.clap.specs.Adds.{AddsConflicts}
+use Rattle.clap.specs.Walk.{Rule, is_empty, rule_of}
+use Rattle.clap.specs.declared.builder.arg.Arg.{Arg}
+use Rattle.clap.specs.declared.builder.range.ValueRange.{ValueRange}
+use Rattle.clap.specs.declared.builder.value_parser.ValueParser.{ValueParser}
+use Rattle.tf_cli.specs.Options.{flag_conflict, has_flag}
+use Rattle.tf_cli.specs.Parsing.{AddsFlag, AreArguments, HasParser, HasRange, IsArgumentOf, IsChanged, flag_rule, flag_rules, with_conflict}
+use Rattle.tf_cli.specs.declared.options.Flag.{Flag}
+use Rattle.tf_cli.specs.declared.options.Subcommand.{Subcommand}
+
+abbrev pub global_of : Arg → Bool
+global_of argument = argument.global
+
+-- ---- a range, and a parser
+
+some_is : (found : Option ValueRange) (range : ValueRange) → IsSomeAnd found (λ r. r ≡ range) → found ≡ Some range
+some_is None range is = absurd is
+some_is (Some r) range is = ap (λ (x : ValueRange). Some x) is
+
+pub ranged : (argument made : Arg) (range : ValueRange) → made ≡ record argument { num_vals = made.num_vals }
+    → IsSomeAnd made.num_vals (λ r. r ≡ range) → HasRange range argument made
+ranged argument made range same is =
+    same ∙ ap (λ (o : Option ValueRange). record argument { num_vals = o }) (some_is made.num_vals range is)
+
+pub parsed_by : (argument made : Arg) (parser given : ValueParser) → made ≡ record argument { value_parser = made.value_parser }
+    → made.value_parser ≡ Some given → given ≡ parser → HasParser parser argument made
+parsed_by argument made parser given same some is =
+    same ∙ ap (λ (o : Option ValueParser). record argument { value_parser = o }) (some ∙ ap (λ (q : ValueParser). Some q) is)
+
+-- ---- an argument that excludes another one
+
+pushed_not_empty : (xs : List (Bor (List ℕ))) (x : Bor (List ℕ)) → is_empty (xs ++ x ∷ []) ≡ false
+pushed_not_empty xs x = elim (eqb_tells (length (xs ++ x ∷ [])) 0) [
+  | inl same ↦ absurd (omega (arith, same.1, length_push xs x))
+  | inr other ↦ other.0
+]
+
+second_false : (a b c : Bool) → b ≡ false → (a && (b && c)) ≡ false
+second_false true b c is = ap (λ (x : Bool). x && c) is
+second_false false b c is = refl
+
+-- the other rules of an argument on another one
+abbrev is_free_but_for_conflicts : Arg → Bool
+is_free_but_for_conflicts a =
+    is_empty a.needs.items && (is_empty a.r_ifs.items && (is_empty a.r_ifs_all.items
+    && (is_empty a.r_unless.items && is_empty a.r_unless_all.items)))
+
+not_free : (argument made : Arg) (id : Bor (List ℕ)) → AddsConflicts argument made (id ∷ [])
+    → rule_of made ≡ record (rule_of argument) { is_free = false }
+not_free argument made id adds =
+    let some : is_empty made.conflicts.items ≡ false = ap (λ (xs : List (Bor (List ℕ))). is_empty xs) adds.1 ∙ pushed_not_empty argument.conflicts.items id in
+    ap rule_of adds.0
+    ∙ ap (λ (free : Bool). record (rule_of argument) { is_free = free })
+    (second_false (not argument.exclusive) (is_empty made.conflicts.items) (is_free_but_for_conflicts argument) some)
+
+pub excluding : (flag other : Flag) (argument made : Arg) (id : Bor (List ℕ)) → flag_conflict flag ≡ Some other
+    → AddsConflicts argument made (id ∷ []) → IsChanged (with_conflict (flag_conflict flag)) argument made
+excluding flag other argument made id is adds = (
+  not_free argument made id adds ∙ ap (λ (conflict : Option Flag). with_conflict conflict (rule_of argument)) (sym is),
+  ap global_of adds.0,
+)
+
+-- ---- a list of arguments
+
+pub argument_pushed : (rules : List Rule) (arguments : List Arg) (rule : Rule) (argument : Arg)
+    → AreArguments rules arguments → IsArgumentOf rule argument → AreArguments (rules ++ rule ∷ []) (arguments ++ argument ∷ [])
+argument_pushed [] [] rule argument are is = (is, tt)
+argument_pushed [] (a ∷ arguments) rule argument are is = absurd are
+argument_pushed (r ∷ rules) [] rule argument are is = absurd are
+argument_pushed (r ∷ rules) (a ∷ arguments) rule argument are is = (are.0, argument_pushed rules arguments rule argument are.1 is)
+
+-- a rule that is there or not, before others
+then_more : (has : Bool) (rule : Rule) (before after more : List Rule) → after ≡ before ++ more
+    → (if has then rule ∷ after else after) ≡ (if has then rule ∷ before else before) ++ more
+then_more true rule before after more is = ap (λ (rules : List Rule). rule ∷ rules) is
+then_more false rule before after more is = is
+
+flag_more : (subcommand : Subcommand) (flags : List Flag) (flag : Flag) → has_flag subcommand flag ≡ true
+    → flag_rules subcommand (flags ++ flag ∷ []) ≡ flag_rules subcommand flags ++ flag_rule flag ∷ []
+flag_more subcommand [] flag has = ap (λ (b : Bool). if b then flag_rule flag ∷ [] else []) has
+flag_more subcommand (f ∷ flags) flag has =
+    then_more (has_flag subcommand f) (flag_rule f) (flag_rules subcommand flags) (flag_rules subcommand (flags ++ flag ∷ [])) (flag_rule flag ∷ [])
+    (flag_more subcommand flags flag has)
+
+flag_less : (subcommand : Subcommand) (flags : List Flag) (flag : Flag) → has_flag subcommand flag ≡ false
+    → flag_rules subcommand (flags ++ flag ∷ []) ≡ flag_rules subcommand flags
+flag_less subcommand [] flag has = ap (λ (b : Bool). if b then flag_rule flag ∷ [] else []) has
+flag_less subcommand (f ∷ flags) flag has =
+    ap (λ (rules : List Rule). if has_flag subcommand f then flag_rule f ∷ rules else rules) (flag_less subcommand flags flag has)
+
+flag_added : (subcommand : Subcommand) (flags : List Flag) (flag : Flag) (old new : List Arg) → AreArguments (flag_rules subcommand flags) old
+    → AddsFlag subcommand flag old new → AreArguments (flag_rules subcommand (flags ++ flag ∷ [])) new
+flag_added subcommand flags flag old new are (inl without) =
+    subst (λ (rules : List Rule). AreArguments rules new) (sym (flag_less subcommand flags flag without.0))
+    (subst (λ (arguments : List Arg). AreArguments (flag_rules subcommand flags) arguments) (sym without.1) are)
+flag_added subcommand flags flag old new are (inr has) =
+    subst (λ (rules : List Rule). AreArguments rules new) (sym (flag_more subcommand flags flag has.0))
+    (subst (λ (arguments : List Arg). AreArguments (flag_rules subcommand flags ++ flag_rule flag ∷ []) arguments) (sym has.3)
+    (argument_pushed (flag_rules subcommand flags) old (flag_rule flag) has.1 are has.2))
+
+pub next_flag : (subcommand : Subcommand) (flags : List Flag) (i : ℕ) (d : Flag) (old new : List Arg) → i < length flags
+    → AreArguments (flag_rules subcommand (take i flags)) old → AddsFlag subcommand (get_or flags i d) old new
+    → AreArguments (flag_rules subcommand (take (i + 1) flags)) new
+next_flag subcommand flags i d old new below are adds =
+    subst (λ (some : List Flag). AreArguments (flag_rules subcommand some) new) (sym (take_more flags i d below))
+    (flag_added subcommand (take i flags) (get_or flags i d) old new are adds)

@@ -1,0 +1,113 @@
+-- What clap has of the commands and their options, and the task of a list of arguments, as clap reads
+-- them: Rattle.clap.specs.Walk and Simple say how, for any such table.
+use Rattle.std.specs.Prelude.{◌≡◌, ◌⊎◌, ◌||◌, ℕ, Bool, true, false, List, [], ◌∷◌, ◌++◌, ⊤, pos, map}
+use Rattle.std.specs.Prelude.{Option, Some, None, Result, Ok, Err, codes, if◌then◌else◌}
+use Rattle.std.specs.Borrow.{Bor}
+use Rattle.clap.specs.Lexer.{usize_max}
+use Rattle.clap.specs.Walk.{Rule, rule_of}
+use Rattle.clap.specs.Simple.{App, app_of, new_app, new_rule, new_shape, with_rule, with_subcommand}
+use Rattle.clap.specs.declared.builder.action.ArgAction.TheVariants.{Set, Append, SetTrue}
+use Rattle.clap.specs.declared.builder.arg.Arg.{Arg}
+use Rattle.clap.specs.declared.builder.range.ValueRange.{ValueRange}
+use Rattle.clap.specs.declared.builder.value_parser.ValueParser.{ValueParser}
+use Rattle.clap.specs.declared.builder.value_parser.ValueParser.TheVariants as vp
+use Rattle.tf_cli.specs.Options.{file_count_of, flag_name, flag_value, flag_conflict, has_flag}
+use Rattle.tf_cli.specs.Options.{all_flags}
+use Rattle.tf_cli.specs.declared.options.FileCount.{FileCount}
+use Rattle.tf_cli.specs.declared.options.Flag.{Flag}
+use Rattle.tf_cli.specs.declared.options.FlagValue.{FlagValue}
+use Rattle.tf_cli.specs.declared.options.Subcommand.{Subcommand}
+
+-- ---- an option
+
+-- one value
+abbrev pub one_value : ValueRange
+one_value = record { start_inclusive = 1; end_inclusive = 1 }
+
+-- a number of 32 bits
+abbrev pub number_parser : ValueParser
+number_parser = vp.Signed (pos 0) (pos 4294967295)
+
+-- `--name`, which is also its id
+abbrev pub named_rule : List ℕ → Rule
+named_rule name = record (new_rule name) { long = Some name }
+
+-- What follows the option: nothing, and then it is given once; the name of a rule, and then it can be
+-- given several times; or a number, and then it is given once.
+abbrev pub with_flag_value : FlagValue → Rule → Rule
+with_flag_value FlagValue.Nothing rule = record rule { action = Some SetTrue }
+with_flag_value FlagValue.Rule rule =
+    record rule { action = Some Append; range = Some one_value; value_names = 1 }
+with_flag_value FlagValue.Number rule =
+    record rule { action = Some Set; value_names = 1; parser = Some number_parser }
+
+-- it can't be used with another option; with which, clap's rule does not say
+abbrev pub with_conflict : Option Flag → Rule → Rule
+with_conflict None rule = rule
+with_conflict (Some other) rule = record rule { is_free = false }
+
+abbrev pub flag_rule : Flag → Rule
+flag_rule flag =
+    with_conflict (flag_conflict flag) (with_flag_value (flag_value flag) (named_rule (flag_name flag)))
+
+-- ---- FILE
+
+-- one value or more
+abbrev pub some_values : ValueRange
+some_values = record { start_inclusive = 1; end_inclusive = usize_max }
+
+abbrev pub with_file_count : FileCount → Rule → Rule
+with_file_count FileCount.Several rule = record rule { action = Some Append; range = Some some_values }
+with_file_count FileCount.One rule = rule
+
+abbrev pub required_rule : List ℕ → Rule
+required_rule name = record (new_rule name) { required = true }
+
+abbrev pub file_rule : FileCount → Rule
+file_rule count = with_file_count count (required_rule (codes "FILE"))
+
+-- ---- the arguments of a command
+
+-- the options among these that it has
+abbrev pub flag_rules : Subcommand → List Flag → List Rule
+flag_rules subcommand [] = []
+flag_rules subcommand (flag ∷ flags) =
+    if has_flag subcommand flag then flag_rule flag ∷ flag_rules subcommand flags
+    else flag_rules subcommand flags
+
+-- its options and FILE
+abbrev pub command_rules : Subcommand → List Rule
+command_rules subcommand =
+    flag_rules subcommand all_flags ++ file_rule (file_count_of subcommand) ∷ []
+
+-- ---- how the arguments are made
+
+-- a value of clap's for this rule, of one command alone
+abbrev pub IsArgumentOf : Rule → Arg → Type 0
+IsArgumentOf rule argument = (rule_of argument ≡ rule) × (argument.global ≡ false)
+
+-- one for each rule, in order
+abbrev pub AreArguments : List Rule → List Arg → Type 0
+AreArguments [] [] = ⊤
+AreArguments (rule ∷ rules) (argument ∷ arguments) =
+    IsArgumentOf rule argument × AreArguments rules arguments
+AreArguments rules arguments = ⊥
+
+-- `made` is the argument with this range, or with this parser
+abbrev pub HasRange : ValueRange → Arg → Arg → Type 0
+HasRange range argument made = made ≡ record argument { num_vals = Some range }
+
+abbrev pub HasParser : ValueParser → Arg → Arg → Type 0
+HasParser parser argument made = made ≡ record argument { value_parser = Some parser }
+
+-- `made` is the argument, changed as its rule is
+abbrev pub IsChanged : (Rule → Rule) → Arg → Arg → Type 0
+IsChanged change argument made =
+    (rule_of made ≡ change (rule_of argument)) × (made.global ≡ argument.global)
+
+-- `new` is the list with the option, if the command has it
+abbrev pub AddsFlag : Subcommand → Flag → List Arg → List Arg → Type 0
+AddsFlag subcommand flag old new =
+    ((has_flag subcommand flag ≡ false) × (new ≡ old))
+    ⊎ ((has_flag subcommand flag ≡ true) × (argument : Arg) × IsArgumentOf (flag_rule flag) argument
+    × (new ≡ old ++ argument ∷ []))
