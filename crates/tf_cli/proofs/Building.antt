@@ -1,14 +1,19 @@
 -- Arguments of clap's, made step by step, and a list of them.
-use Rattle.std.proofs.Common.{◌≡◌, ◌∙◌, ◌<◌, ◌+◌, ◌==◌, ◌&&◌, ℕ, Bool, true, false, not, List, [], ◌∷◌, ◌++◌, Option, Some, None, Bor, IsSomeAnd, length, take, get_or, if◌then◌else◌, inl, inr, refl, sym, ap, subst, arith}
+use Rattle.std.proofs.Common.{◌≡◌, ◌∙◌, ◌<◌, ◌+◌, ◌==◌, ◌&&◌, ◌||◌, ℕ, Bool, true, false, not, List, [], ◌∷◌, ◌++◌, Option, Some, None, Result, Ok, Err, Bor, IfOk, IsSomeAnd, length, take, get_or, if◌then◌else◌, inl, inr, refl, sym, ap, subst, arith}
 use Rattle.std.proofs.lemmas.Bool.Decides.{eqb_tells}
 use Rattle.std.proofs.lemmas.List.{take_more, length_push}
 use Rattle.clap.specs.Adds.{AddsConflicts}
+use Rattle.clap.specs.Built.{AddsArg, AddsInTurn}
+use Rattle.clap.specs.Simple.{App, app_of, with_rule, with_subcommand}
 use Rattle.clap.specs.Walk.{Rule, is_empty, rule_of}
+use Rattle.clap.specs.Words.{fields_of}
 use Rattle.clap.specs.declared.builder.arg.Arg.{Arg}
+use Rattle.clap.specs.declared.builder.command.Command.{Command}
+use Rattle.clap.specs.declared.builder.command.Command.TheOpen.{Command-F}
 use Rattle.clap.specs.declared.builder.range.ValueRange.{ValueRange}
 use Rattle.clap.specs.declared.builder.value_parser.ValueParser.{ValueParser}
 use Rattle.tf_cli.specs.Options.{flag_conflict, has_flag}
-use Rattle.tf_cli.specs.Parsing.{AddsFlag, AreArguments, HasParser, HasRange, IsArgumentOf, IsChanged, flag_rule, flag_rules, with_conflict}
+use Rattle.tf_cli.specs.Parsing.{AddsFlag, AreArguments, HasParser, HasRange, IsAdded, IsArgumentOf, IsChanged, IsCommand, command_app, flag_rule, flag_rules, with_command, with_conflict, with_rules}
 use Rattle.tf_cli.specs.declared.options.Flag.{Flag}
 use Rattle.tf_cli.specs.declared.options.Subcommand.{Subcommand}
 
@@ -108,3 +113,30 @@ pub next_flag : (subcommand : Subcommand) (flags : List Flag) (i : ℕ) (d : Fla
 next_flag subcommand flags i d old new below are adds =
     subst (λ (some : List Flag). AreArguments (flag_rules subcommand some) new) (sym (take_more flags i d below))
     (flag_added subcommand (take i flags) (get_or flags i d) old new are adds)
+
+-- ---- a command, and the program
+
+abbrev pub globals_in : Command-F Command → Bool
+globals_in fields = fields.has_globals
+
+pub arguments_added : (rules : List Rule) (arguments : List Arg) (old new : Command) → AreArguments rules arguments → AddsInTurn AddsArg old arguments new
+    → globals_in (fields_of old) ≡ false → (app_of new ≡ with_rules (app_of old) rules) × (globals_in (fields_of new) ≡ false)
+arguments_added [] [] old new are adds local =
+    (ap (λ (c : Command). app_of c) (sym adds), ap (λ (c : Command). globals_in (fields_of c)) (sym adds) ∙ local)
+arguments_added [] (a ∷ arguments) old new are adds local = absurd are
+arguments_added (rule ∷ rules) [] old new are adds local = absurd are
+arguments_added (rule ∷ rules) (a ∷ arguments) old new are adds local =
+    let added = adds.1 in
+    let still_local : globals_in (fields_of adds.0) ≡ false =
+    added.globals ∙ (ap (λ (b : Bool). b || a.global) local ∙ ap (λ (b : Bool). false || b) are.0.1) in
+    let one : app_of adds.0 ≡ with_rule (app_of old) rule = added.shape are.0.1 ∙ ap (λ (r : Rule). with_rule (app_of old) r) are.0.0 in
+    let rest = arguments_added rules arguments adds.0 new are.1 adds.2 still_local in
+    (rest.0 ∙ ap (λ (app : App). with_rules app rules) one, rest.1)
+
+pub command_added : {E : Type 0} (subcommand : Subcommand) (program new : Command) (made : Result Command E) (app : App)
+    → app_of program ≡ app → IfOk made (λ command. IsCommand (command_app subcommand) command) → IsAdded program made new
+    → app_of new ≡ with_command subcommand app
+command_added subcommand program new (Ok command) app is made added =
+    added.shape made.1 ∙ ap (λ (c : App). with_subcommand (app_of program) c.top) made.0
+    ∙ ap (λ (p : App). with_command subcommand p) is
+command_added subcommand program new (Err error) app is made added = absurd added

@@ -5,14 +5,16 @@ use Rattle.std.specs.Prelude.{Option, Some, None, Result, Ok, Err, codes, if◌t
 use Rattle.std.specs.Borrow.{Bor}
 use Rattle.clap.specs.Lexer.{usize_max}
 use Rattle.clap.specs.Walk.{Rule, rule_of}
+use Rattle.clap.specs.Words.{fields_of, AddsSubcommand}
 use Rattle.clap.specs.Simple.{App, app_of, new_app, new_rule, new_shape, with_rule, with_subcommand}
 use Rattle.clap.specs.declared.builder.action.ArgAction.TheVariants.{Set, Append, SetTrue}
 use Rattle.clap.specs.declared.builder.arg.Arg.{Arg}
+use Rattle.clap.specs.declared.builder.command.Command.{Command}
 use Rattle.clap.specs.declared.builder.range.ValueRange.{ValueRange}
 use Rattle.clap.specs.declared.builder.value_parser.ValueParser.{ValueParser}
 use Rattle.clap.specs.declared.builder.value_parser.ValueParser.TheVariants as vp
 use Rattle.tf_cli.specs.Options.{file_count_of, flag_name, flag_value, flag_conflict, has_flag}
-use Rattle.tf_cli.specs.Options.{all_flags}
+use Rattle.tf_cli.specs.Options.{all_flags, subcommand_name}
 use Rattle.tf_cli.specs.declared.options.FileCount.{FileCount}
 use Rattle.tf_cli.specs.declared.options.Flag.{Flag}
 use Rattle.tf_cli.specs.declared.options.FlagValue.{FlagValue}
@@ -111,3 +113,49 @@ AddsFlag subcommand flag old new =
     ((has_flag subcommand flag ≡ false) × (new ≡ old))
     ⊎ ((has_flag subcommand flag ≡ true) × (argument : Arg) × IsArgumentOf (flag_rule flag) argument
     × (new ≡ old ++ argument ∷ []))
+
+-- ---- commands
+
+-- a command with these rules more
+abbrev pub with_rules : App → List Rule → App
+with_rules app [] = app
+with_rules app (rule ∷ rules) = with_rules (with_rule app rule) rules
+
+abbrev pub command_app : Subcommand → App
+command_app subcommand =
+    with_rules (new_app (subcommand_name subcommand)) (command_rules subcommand)
+
+-- the program has a version, and wants a command
+abbrev pub empty_program : App
+empty_program = record {
+  top = record (new_shape (codes "tfk")) { has_version = true; subcommand_required = true };
+  subs = [];
+}
+
+abbrev pub with_command : Subcommand → App → App
+with_command subcommand app = with_subcommand app (command_app subcommand).top
+
+-- The program, with its commands: what clap reads arguments by. It adds -h, --help and the command
+-- help, and -V, --version.
+abbrev pub program_app : App
+program_app =
+    with_command Subcommand.Revert
+    (with_command Subcommand.Fix
+    (with_command Subcommand.Lint (with_command Subcommand.Fmt empty_program)))
+
+-- ---- how the commands are made
+
+-- clap has this of the command, and no argument of it is that of another command too
+abbrev pub IsCommand : App → Command → Type 0
+IsCommand app command = (app_of command ≡ app) × ((fields_of command).has_globals ≡ false)
+
+-- a new command with these arguments
+abbrev pub IsNewCommand : List ℕ → List Arg → Command → Type 0
+IsNewCommand name arguments command =
+    (rules : List Rule) → AreArguments rules arguments
+    → IsCommand (with_rules (new_app name) rules) command
+
+-- `new` is the program with the command, which was made
+abbrev pub IsAdded : {E : Type 0} → Command → Result Command E → Command → Type 0
+IsAdded program (Ok command) new = AddsSubcommand program command new
+IsAdded program (Err error) new = ⊥
