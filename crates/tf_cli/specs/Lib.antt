@@ -2,4 +2,5 @@ pub mod Arguments
 pub mod Choices
 pub mod Options
 pub mod Parsing
+pub mod Reading
 pub mod Tasks

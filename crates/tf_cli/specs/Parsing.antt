@@ -137,7 +137,7 @@ with_command subcommand app = with_subcommand app (command_app subcommand).top
 
 -- The program, with its commands: what clap reads arguments by. It adds -h, --help and the command
 -- help, and -V, --version.
-abbrev pub program_app : App
+unfoldable pub program_app : App
 program_app =
     with_command Subcommand.Revert
     (with_command Subcommand.Fix

@@ -2,12 +2,13 @@
 use Rattle.std.proofs.Common.{◌≡◌}
 use Rattle.std.proofs.lemmas.Result.{IfOk-weaker}
 use Rattle.clap.specs.Simple.{app_of}
-use Rattle.tf_cli.specs.Parsing.{empty_program, with_command}
+use Rattle.tf_cli.specs.Parsing.{empty_program, program_app, with_command}
 use Rattle.tf_cli.specs.declared.options.Subcommand.{Subcommand}
 use Rattle.tf_cli.proofs.Building.{command_added}
 use Rattle.tf_cli.proofs.command_line.program_command.Goals as goal
 
 pub returns : goal.returns
+unfolding program_app
 returns c =
     let fmt_app = with_command Subcommand.Fmt empty_program in
     let lint_app = with_command Subcommand.Lint fmt_app in
