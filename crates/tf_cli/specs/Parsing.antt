@@ -1,8 +1,7 @@
--- What clap has of the commands and their options, and the task of a list of arguments, as clap reads
--- them: Rattle.clap.specs.Walk and Simple say how, for any such table.
-use Rattle.std.specs.Prelude.{◌≡◌, ◌⊎◌, ◌||◌, ℕ, Bool, true, false, List, [], ◌∷◌, ◌++◌, ⊤, pos, map}
-use Rattle.std.specs.Prelude.{Option, Some, None, Result, Ok, Err, codes, if◌then◌else◌}
-use Rattle.std.specs.Borrow.{Bor}
+-- The commands and their options as clap has them: the rules by which it reads arguments. How it
+-- reads them by rules, Walk and Simple of clap's specs say.
+use Rattle.std.specs.Prelude.{◌≡◌, ◌⊎◌, ℕ, true, false, List, [], ◌∷◌, ◌++◌, ⊤, pos, Option, Some}
+use Rattle.std.specs.Prelude.{None, Result, Ok, Err, codes, if◌then◌else◌}
 use Rattle.clap.specs.Lexer.{usize_max}
 use Rattle.clap.specs.Walk.{Rule, rule_of}
 use Rattle.clap.specs.Words.{fields_of, AddsSubcommand}
@@ -34,8 +33,8 @@ number_parser = vp.Signed (pos 0) (pos 4294967295)
 abbrev pub named_rule : List ℕ → Rule
 named_rule name = record (new_rule name) { long = Some name }
 
--- What follows the option: nothing, and then it is given once; the name of a rule, and then it can be
--- given several times; or a number, and then it is given once.
+-- What follows the option: nothing, and then it can be given once; the name of a rule, and then it
+-- can be given several times; or a number, and then it can be given once.
 abbrev pub with_flag_value : FlagValue → Rule → Rule
 with_flag_value FlagValue.Nothing rule = record rule { action = Some SetTrue }
 with_flag_value FlagValue.Rule rule =
@@ -50,7 +49,8 @@ with_conflict (Some other) rule = record rule { is_free = false }
 
 abbrev pub flag_rule : Flag → Rule
 flag_rule flag =
-    with_conflict (flag_conflict flag) (with_flag_value (flag_value flag) (named_rule (flag_name flag)))
+    with_conflict (flag_conflict flag)
+    (with_flag_value (flag_value flag) (named_rule (flag_name flag)))
 
 -- ---- FILE
 
@@ -59,7 +59,8 @@ abbrev pub some_values : ValueRange
 some_values = record { start_inclusive = 1; end_inclusive = usize_max }
 
 abbrev pub with_file_count : FileCount → Rule → Rule
-with_file_count FileCount.Several rule = record rule { action = Some Append; range = Some some_values }
+with_file_count FileCount.Several rule =
+    record rule { action = Some Append; range = Some some_values }
 with_file_count FileCount.One rule = rule
 
 abbrev pub required_rule : List ℕ → Rule

@@ -1,7 +1,10 @@
 //! The work that the arguments ask for.
 
-ghost use Rattle.std.specs.Prelude.{◌≡◌, ◌≤◌};
+ghost use Rattle.std.specs.Prelude.{◌≡◌, ◌≤◌, map, string_bytes};
+ghost use Rattle.tf_cli.specs.Arguments.{all_normalized};
+ghost use Rattle.tf_cli.specs.Reading.{arguments_of};
 ghost use Rattle.tf_program.specs.Batches.{HasNext, ReportsRest, DoesFile, RunsTask};
+ghost use Rattle.tf_program.specs.Runs.{IsStatusOfArguments};
 ghost use Rattle.tf_program.specs.Work.{IsStatusOf, command_of, file_command};
 
 use crate::batch::Batch;
@@ -24,7 +27,9 @@ pub fn work<R: Files, I: Read, O: Write, F: Write>(
     input: &mut I,
     output: &mut O,
     faults: &mut F,
-) -> u8 {
+) -> u8
+    ensures { IsStatusOfArguments (all_normalized (map string_bytes words.now)) result }
+{
     match CommandLine::new(alloc, words) {
         Ok(line) => run_command_line(rt, alloc, &line, input, output, faults),
         Err(_) => exit_with_fault(faults, OUT_OF_MEMORY),
@@ -39,7 +44,9 @@ fn run_command_line<R: Files, I: Read, O: Write, F: Write>(
     input: &mut I,
     output: &mut O,
     faults: &mut F,
-) -> u8 {
+) -> u8
+    ensures { IsStatusOfArguments (arguments_of line.now) result }
+{
     match line.task(alloc) {
         Ok(task) => run_task(rt, alloc, &task, input, output, faults).status(),
         Err(stop) => exit_with(&stop, output, faults),
