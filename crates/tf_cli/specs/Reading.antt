@@ -24,7 +24,7 @@ IsTaskOfArguments args task =
     (name : List ℕ) × (rows : List Row) × ReadsCommand args name rows × IsTaskOfName name rows task
 
 -- Why the arguments have no task: what clap reads of them has none; or they name no command; or
--- clap refuses them, which of arguments that it takes (`takes`) is for want of memory alone.
+-- clap refuses them: those that it takes (`takes`) only if memory runs out.
 abbrev pub IsArgumentsFault : List (List ℕ) → Exit → Type 0
 IsArgumentsFault args exit =
     ((name : List ℕ) × (rows : List Row) × ReadsCommand args name rows
