@@ -1,31 +1,51 @@
 -- From clap's matches to the arguments: what clap has found is what it reads of them.
-use Rattle.std.proofs.Common.{◌≡◌, ◌∙◌, ℕ, true, List, Option, Some, None, option_map, unwrap_or, box_value, inl, inr, refl, sym, ap, ap₂}
+use Rattle.std.proofs.Common.{◌≡◌, ◌∙◌, ℕ, Bool, true, false, List, [], ◌∷◌, Option, Some, None, option_map, unwrap_or, box_value, inl, inr, refl, sym, ap, ap₂}
+use Rattle.clap.specs.Faults.{is_simple_and_free}
+use Rattle.clap.specs.Kinds.{IsAmong, Kinds}
 use Rattle.clap.specs.Matches.{found_of, subcommand_name_of}
 use Rattle.clap.specs.Simple.{is_simple, subcommand_of, subcommand_rows_of}
 use Rattle.clap.specs.Walk.{Row, rows_of}
+use Rattle.clap.specs.declared.error.kind.ErrorKind.{ErrorKind}
 use Rattle.clap.specs.declared.parser.matches.ArgMatches.{ArgMatches}
 use Rattle.clap.specs.declared.parser.matches.ArgMatches.TheViews.{out-ArgMatches, out-SubCommand}
 use Rattle.tf_cli.specs.Parsing.{program_app}
-use Rattle.tf_cli.specs.Reading.{IsArgumentsFault, IsTaskOfArguments}
+use Rattle.tf_cli.specs.Reading.{HasNoError, IsArgumentsFault, IsTaskOfArguments}
 use Rattle.tf_cli.specs.Tasks.{HasCommand, IsTaskOf, IsTaskOfFault}
 use Rattle.tf_cli.specs.declared.command_line.Exit.{Exit}
 use Rattle.tf_cli.specs.declared.command_line.Task.{Task}
 
 -- clap says what it reads by a table of this kind
-pub program_is_simple : is_simple program_app ≡ true
+pub program_is_simple : (excludes : Bool) → is_simple (program_app excludes) ≡ true
 unfolding program_app
-program_is_simple = refl
+program_is_simple true = refl
+program_is_simple false = refl
+
+-- and without conflicts it says what it refuses
+pub program_is_free : (excludes : Bool) → excludes ≡ false → is_simple_and_free (program_app excludes) ≡ true
+unfolding program_app
+program_is_free true is = cc
+program_is_free false is = refl
+
+pub not_empty : (kind : ErrorKind) (kinds : Kinds) → IsAmong kind kinds → kinds ≡ [] → ⊥
+not_empty kind [] among is = among
+not_empty kind (k ∷ kinds) among is = cc
 
 -- two parts of what may be there, and both of them
+abbrev both : {X : Type 0} → (X → List ℕ) → (X → List Row) → X → List ℕ × List Row
+both name rows x = (name x, rows x)
+
+abbrev found_pair : List ℕ → List Row → Option (List ℕ × List Row)
+found_pair name rows = Some (name, rows)
+
 both_found : {X : Type 0} (o : Option X) (f : X → List ℕ) (g : X → List Row) (name : List ℕ) (rows : List Row) → option_map f o ≡ Some name
-    → option_map (λ (p : List ℕ × List Row). p.1) (option_map (λ x. (f x, g x)) o) ≡ Some rows → option_map (λ x. (f x, g x)) o ≡ Some (name, rows)
+    → option_map (λ (p : List ℕ × List Row). p.1) (option_map (both f g) o) ≡ Some rows → option_map (both f g) o ≡ found_pair name rows
 both_found None f g name rows is_name are_rows = cc
 both_found (Some x) f g name rows is_name are_rows =
     let same_name : f x ≡ name = ap (λ (o : Option (List ℕ)). unwrap_or o (f x)) is_name in
     let same_rows : g x ≡ rows = ap (λ (o : Option (List Row)). unwrap_or o (g x)) are_rows in
-    ap₂ (λ (n : List ℕ) (r : List Row). Some (n, r)) same_name same_rows
+    ap₂ found_pair same_name same_rows
 
-none_found : {X : Type 0} (o : Option X) (f : X → List ℕ) (g : X → List Row) → option_map f o ≡ None → option_map (λ x. (f x, g x)) o ≡ None
+none_found : {X : Type 0} (o : Option X) (f : X → List ℕ) (g : X → List Row) → option_map f o ≡ None → option_map (both f g) o ≡ None
 none_found None f g none = refl
 none_found (Some x) f g none = cc
 
@@ -39,14 +59,14 @@ no_command_found matches none =
     none_found (out-ArgMatches matches).subcommand (λ b. (out-SubCommand (box_value b)).name.now)
     (λ b. rows_of (found_of (out-SubCommand (box_value b)).matches)) none
 
-pub task_found : (matches : ArgMatches) (args : List (List ℕ)) (task : Task) → subcommand_rows_of matches ≡ subcommand_of program_app args
-    → IsTaskOf matches task → IsTaskOfArguments args task
-task_found matches args task found is =
-    (is.0, is.1, sym found ∙ command_found matches is.0 is.1 is.2, is.3)
+pub task_found : (excludes : Bool) (matches : ArgMatches) (args : List (List ℕ)) (task : Task) → subcommand_rows_of matches ≡ subcommand_of (program_app excludes) args
+    → HasNoError excludes args → IsTaskOf matches task → IsTaskOfArguments excludes args task
+task_found excludes matches args task found no_error is =
+    (is.0, is.1, sym found ∙ command_found matches is.0 is.1 is.2, is.3, no_error)
 
-pub fault_found : (matches : ArgMatches) (args : List (List ℕ)) (exit : Exit) → subcommand_rows_of matches ≡ subcommand_of program_app args
-    → IsTaskOfFault matches exit → IsArgumentsFault args exit
-fault_found matches args exit found (inl is) =
+pub fault_found : (excludes : Bool) (matches : ArgMatches) (args : List (List ℕ)) (exit : Exit) → subcommand_rows_of matches ≡ subcommand_of (program_app excludes) args
+    → IsTaskOfFault matches exit → IsArgumentsFault excludes args exit
+fault_found excludes matches args exit found (inl is) =
     inl (is.0, is.1, sym found ∙ command_found matches is.0 is.1 is.2, is.3)
-fault_found matches args exit found (inr is) =
+fault_found excludes matches args exit found (inr is) =
     inr (inl (sym found ∙ no_command_found matches is.0, is.1))

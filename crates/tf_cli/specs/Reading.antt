@@ -1,7 +1,7 @@
 -- The task of a list of arguments: as clap reads them by the program's table, and no other way.
-use Rattle.std.specs.Prelude.{◌≡◌, ◌⊎◌, ℕ, true, List, Some, None, map, codes}
+use Rattle.std.specs.Prelude.{◌≡◌, ◌⊎◌, ℕ, Bool, false, List, [], Some, None, map, codes}
+use Rattle.clap.specs.Faults.{fault_of}
 use Rattle.clap.specs.Simple.{subcommand_of}
-use Rattle.clap.specs.Takes.{takes}
 use Rattle.clap.specs.Walk.{Row}
 use Rattle.tf_cli.specs.Parsing.{program_app}
 use Rattle.tf_cli.specs.Tasks.{IsTaskOfName, IsTaskOfNameFault, SaysUsage}
@@ -14,20 +14,36 @@ use Rattle.tf_cli.specs.declared.command_line.Task.{Task}
 abbrev pub arguments_of : CommandLine → List (List ℕ)
 arguments_of line = map (λ arg. arg.now) line.args.items
 
+-- the first of them is revert, which has options that exclude each other
+abbrev pub excludes_of : CommandLine → Bool
+excludes_of line = line.excludes
+
 -- The arguments name this command, and what clap reads of those after it are these rows: for each
 -- option that is given and for FILE its values, in the order given.
-abbrev pub ReadsCommand : List (List ℕ) → List ℕ → List Row → Type 0
-ReadsCommand args name rows = subcommand_of program_app args ≡ Some (name, rows)
+abbrev pub ReadsCommand : Bool → List (List ℕ) → List ℕ → List Row → Type 0
+ReadsCommand excludes args name rows =
+    subcommand_of (program_app excludes) args ≡ Some (name, rows)
 
-abbrev pub IsTaskOfArguments : List (List ℕ) → Task → Type 0
-IsTaskOfArguments args task =
-    (name : List ℕ) × (rows : List Row) × ReadsCommand args name rows × IsTaskOfName name rows task
+-- clap refuses none of the arguments; of revert, this says nothing
+abbrev pub HasNoError : Bool → List (List ℕ) → Type 0
+HasNoError excludes args = excludes ≡ false → fault_of (program_app excludes) args ≡ []
+
+abbrev pub IsTaskOfArguments : Bool → List (List ℕ) → Task → Type 0
+IsTaskOfArguments excludes args task =
+    (name : List ℕ) × (rows : List Row) × ReadsCommand excludes args name rows
+    × IsTaskOfName name rows task × HasNoError excludes args
+
+-- memory ran out, or clap refuses some of the arguments; of revert, this says nothing
+abbrev pub IsRefused : Bool → List (List ℕ) → Exit → Type 0
+IsRefused excludes args exit =
+    excludes ≡ false → (exit ≡ Memory) ⊎ ¬ (fault_of (program_app excludes) args ≡ [])
 
 -- Why the arguments have no task: what clap reads of them has none; or they name no command; or
--- clap refuses them: those that it takes (`takes`) only if memory runs out.
-abbrev pub IsArgumentsFault : List (List ℕ) → Exit → Type 0
-IsArgumentsFault args exit =
-    ((name : List ℕ) × (rows : List Row) × ReadsCommand args name rows
+-- clap refuses them.
+abbrev pub IsArgumentsFault : Bool → List (List ℕ) → Exit → Type 0
+IsArgumentsFault excludes args exit =
+    ((name : List ℕ) × (rows : List Row) × ReadsCommand excludes args name rows
     × IsTaskOfNameFault name rows exit)
-    ⊎ ((subcommand_of program_app args ≡ None) × SaysUsage (codes "tfk: no command\n") exit)
-    ⊎ (takes program_app args ≡ true → exit ≡ Memory)
+    ⊎ ((subcommand_of (program_app excludes) args ≡ None)
+    × SaysUsage (codes "tfk: no command\n") exit)
+    ⊎ IsRefused excludes args exit

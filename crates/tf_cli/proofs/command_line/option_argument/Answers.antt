@@ -2,8 +2,8 @@
 use Rattle.std.proofs.Common.{◌∙◌, ◌≡◌, ℕ, List, Some, ap}
 use Rattle.std.proofs.lemmas.Result.{IfOk-weaker}
 use Rattle.clap.specs.Walk.{Rule, rule_of}
-use Rattle.tf_cli.specs.Options.{flag_conflict, flag_value}
-use Rattle.tf_cli.specs.Parsing.{named_rule, with_conflict, with_flag_value}
+use Rattle.tf_cli.specs.Options.{flag_value}
+use Rattle.tf_cli.specs.Parsing.{conflict_in, named_rule, with_conflict, with_flag_value}
 use Rattle.tf_cli.proofs.Building.{global_of}
 use Rattle.tf_cli.proofs.command_line.option_argument.Goals as goal
 
@@ -19,5 +19,5 @@ returns c =
     let local = ap global_of c.help-argument.ensures ∙ (ap global_of c.long.ensures ∙ c.new.ensures.optional.1) in
     let valued = c.with_flag_value-valued.ensures.0 ∙ ap (with_flag_value (flag_value flag)) (named ∙ ap named_rule c.info.ensures.name) in
     IfOk-weaker c.with_conflict.result _ _
-    (λ argument made. (made.0 ∙ ap (with_conflict (flag_conflict flag)) valued, made.1 ∙ (c.with_flag_value-valued.ensures.1 ∙ local)))
+    (λ argument made. (made.0 ∙ ap (with_conflict (conflict_in c.args.excludes flag)) valued, made.1 ∙ (c.with_flag_value-valued.ensures.1 ∙ local)))
     c.with_conflict.ensures
