@@ -1,7 +1,7 @@
 -- Texts for help are nothing that clap reads arguments by; then the arguments are added in turn.
 use Rattle.std.proofs.Common.{◌∙◌, ◌≡◌, false, ap}
 use Rattle.clap.specs.Simple.{App, app_of, app_of_fields, new_app}
-use Rattle.clap.specs.Words.{fields_of}
+use Rattle.clap.specs.declared.builder.command.Command.TheViews.{out-Command as fields_of}
 use Rattle.tf_cli.specs.Parsing.{with_rules}
 use Rattle.tf_cli.proofs.Building.{arguments_added, globals_in}
 use Rattle.tf_cli.proofs.command_line.new_command.Goals as goal

@@ -23,3 +23,7 @@ returns-in_err-scanned-clause-fault c =
 pub returns-in_err-linted-clause-fault : goal.returns-in_err-linted-clause-fault
 returns-in_err-linted-clause-fault c =
     residual c.from_residual-in_err-linted.result c.in_err-linted.field-0.0 (IsReadFault c.args.text.now) c.from_residual-in_err-linted.ensures (c.in_err-linted.ensures.fault c.args.text.now c.in_ok-scanned.ensures.text)
+
+pub returns-in_err-linted-2-clause-fault : goal.returns-in_err-linted-2-clause-fault
+returns-in_err-linted-2-clause-fault c =
+    residual c.from_residual-in_err-linted-2.result c.in_err-linted-2.field-0.0 (IsReadFault c.args.text.now) c.from_residual-in_err-linted-2.ensures (c.in_err-linted-2.ensures.fault c.args.text.now c.in_ok-scanned.ensures.text)
