@@ -4,4 +4,5 @@ pub mod Holding
 pub mod Listing
 pub mod Locating
 pub mod Naming
+pub mod Refusing
 pub mod Running

@@ -1,5 +1,5 @@
 -- What a batch holds of the files that it is given, and what is noted of each of them.
-use Rattle.std.specs.Prelude.{◌≡◌, ◌+◌, ◌<◌, ◌⊎◌, ◌↔◌, ℕ, true, false, List, [], ◌∷◌, ◌++◌, length}
+use Rattle.std.specs.Prelude.{◌≡◌, ◌+◌, ◌<◌, ◌⊎◌, ◌↔◌, ℕ, Bool, true, false, List, [], ◌∷◌, ◌++◌, length}
 use Rattle.std.specs.Prelude.{Option, Some, None, Result, Ok, Err, IfOk, IfErr, vec_len}
 use Rattle.std.specs.Borrow.{Bor}
 use Rattle.tf_cli.specs.declared.options.Action.{Action}
@@ -47,10 +47,10 @@ AreNoted (entry ∷ rest) old new =
 -- ---- what is held
 
 -- a file of this name, with what the command made of it, or why it made nothing
-abbrev pub IsEntryOf : Command → List ℕ → Entry → Type 0
-IsEntryOf command name entry =
+abbrev pub IsEntryOf : Command → List ℕ → Bool → Entry → Type 0
+IsEntryOf command name locate entry =
     (entry.name.now ≡ name) × IfOk entry.made (IsMade command name)
-    × IfErr entry.made (λ error. IsNotMade command name error.fault)
+    × IfErr entry.made (IsNotMade command name locate)
 
 -- not all files that are left are held: one more can be put in
 abbrev pub HasNext : Batch → Type 0
@@ -74,7 +74,7 @@ Notes put old new =
 -- a command is done on a file of this name, which is put in
 abbrev pub PutsIn : Command → List ℕ → Batch → Batch → Type 0
 PutsIn command name old new =
-    (entry : Entry) × IsEntryOf command name entry × Notes (entry ∷ []) old new
+    (entry : Entry) × IsEntryOf command name old.locate entry × Notes (entry ∷ []) old new
 
 -- ---- what is done on each file of a task
 
@@ -85,8 +85,10 @@ DoesCommand None name old new =
     (new.entries.items ≡ old.entries.items)
     × (met : Result FileOutcome FileError) × IsNoted met old.outcome new.outcome
 
+-- the action on the file of this name; whether errors are located stays
 abbrev pub DoesFile : Action → List ℕ → Batch → Batch → Type 0
-DoesFile action name old new = DoesCommand (file_command action name) name old new
+DoesFile action name old new =
+    DoesCommand (file_command action name) name old new × (new.locate ≡ old.locate)
 
 -- the action on the files of these names, one after another
 abbrev pub DoesEach : Action → List (Bor (List ℕ)) → Batch → Batch → Type 0
@@ -95,15 +97,15 @@ DoesEach action (name ∷ names) old new =
     (mid : Batch) × DoesFile action name.now old mid × DoesEach action names mid new
 
 -- nothing is held, and nothing has been met on any of this number of files
-abbrev pub IsStart : ℕ → Batch → Type 0
-IsStart count batch =
+abbrev pub IsStart : ℕ → Bool → Batch → Type 0
+IsStart count locate batch =
     (batch.entries.items ≡ []) × (batch.outcome.has_fault ≡ false)
     × (batch.outcome.has_issue ≡ false) × (batch.outcome.has_unformatted ≡ false)
-    × (batch.outcome.left ≡ count)
+    × (batch.outcome.left ≡ count) × (batch.locate ≡ locate)
 
 -- The action was done on each file, in the order given, and what then was held has been noted.
-abbrev pub RunsTask : Action → List (Bor (List ℕ)) → RunOutcome → Type 0
-RunsTask action names outcome =
-    (first : Batch) × IsStart (length names) first
+abbrev pub RunsTask : Action → Bool → List (Bor (List ℕ)) → RunOutcome → Type 0
+RunsTask action locate names outcome =
+    (first : Batch) × IsStart (length names) locate first
     × (last : Batch) × DoesEach action names first last
     × (end : Batch) × Notes [] last end × (end.entries.items ≡ []) × (outcome ≡ end.outcome)

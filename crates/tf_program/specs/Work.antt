@@ -1,5 +1,5 @@
 -- What an action does to each file that it is given, and to standard input.
-use Rattle.std.specs.Prelude.{◌≡◌, ◌≤◌, ◌⊎◌, ℕ, true, List, [], ◌++◌, codes, Option, Some, None}
+use Rattle.std.specs.Prelude.{◌≡◌, ◌≤◌, ◌⊎◌, ℕ, Bool, true, false, List, [], ◌++◌, codes, Option, Some, None}
 use Rattle.std.specs.Prelude.{if◌then◌else◌, string_bytes}
 use Rattle.tf_cli.specs.Arguments.{is_dash}
 use Rattle.tf_cli.specs.declared.command_line.Exit.{Exit}
@@ -18,6 +18,8 @@ use Rattle.tf_files.specs.Opening.{is_file_fault}
 use Rattle.tf_files.specs.declared.journaled_file.FileEffect.{FileEffect}
 use Rattle.tf_files.specs.declared.journaled_file.JournaledFile.{JournaledFile}
 use Rattle.tf_program.specs.Inputs.{IsOutcomeOf, Formats, Checks, Lints, Fixes, FixInputFault}
+use Rattle.tf_program.specs.Location.{IsLocationOf, byte_of}
+use Rattle.tf_program.specs.declared.file_error.FileError.{FileError}
 use Rattle.tf_program.specs.declared.files.Made.{Made}
 
 -- the exit status if there is nothing to be done: 1 if the arguments are wrong or memory ran out, 0
@@ -54,13 +56,21 @@ abbrev pub IsMade : Command → List ℕ → Made → Type 0
 IsMade command name made =
     (file : JournaledFile) × (string_bytes file.paths.text ≡ name) × IsMadeOf command file made
 
+-- an error of this text: it has its location there if errors are located, and else none
+abbrev pub IsLocatedIn : List ℕ → Bool → FileError → Type 0
+IsLocatedIn text locate error =
+    (locate ≡ true → IsLocationOf text (byte_of error.fault) error.location)
+    × (locate ≡ false → error.location ≡ None)
+
 -- why a command made nothing of a file with this name: the file and its journal were not opened,
--- for an error of files; or they were read, and the command has no effect on them
-abbrev pub IsNotMade : Command → List ℕ → RunFault → Type 0
-IsNotMade command name fault =
-    (is_file_fault fault ≡ true)
+-- for an error of files; or they were read, and the command has no effect on them, for an error that
+-- is located in the text that was read
+abbrev pub IsNotMade : Command → List ℕ → Bool → FileError → Type 0
+IsNotMade command name locate error =
+    ((is_file_fault error.fault ≡ true) × (error.location ≡ None))
     ⊎ ((file : JournaledFile) × (string_bytes file.paths.text ≡ name)
-    × HasNoEffectOnFile command file fault)
+    × HasNoEffectOnFile command file error.fault
+    × IsLocatedIn file.contents.text.items locate error)
 
 -- ---- the text of a reader alone: no file is changed
 

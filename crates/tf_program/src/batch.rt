@@ -47,7 +47,7 @@ impl<'a> Batch<'a> {
     /// Returns a batch of no file, for the files of a task.
     pub fn new(alloc: Global, task: &Task<'_>) -> Batch<'a>
         ensures none { vec_len result.entries ≡ 0 }
-        ensures start { IsStart (length task.now.files.items) result }
+        ensures start { IsStart (length task.now.files.items) task.now.locate result }
     {
         Batch {
             alloc,
@@ -70,6 +70,7 @@ impl<'a> Batch<'a> {
         requires { HasNext self.old }
         ensures reported { ReportsRest 1 self.old self.new }
         ensures entries { PutsIn command name.now self.old self.new }
+        ensures locate { self.new.locate ≡ self.old.locate }
     {
         self.admit(rt, name, output, faults);
         let entry = self.make(rt, command, name, output, faults);
@@ -88,6 +89,7 @@ impl<'a> Batch<'a> {
         requires { vec_len self.old.entries ≤ self.old.outcome.left }
         ensures reported { ReportsRest 0 self.old self.new }
         ensures notes { Notes [] self.old self.new }
+        ensures locate { self.new.locate ≡ self.old.locate }
     {
         if self.admits(rt, name) {
             return;
@@ -127,11 +129,13 @@ impl<'a> Batch<'a> {
         faults: &mut F,
     ) -> Entry<'a>
         requires { vec_len self.old.entries ≤ self.old.outcome.left }
-        ensures made { IsEntryOf command name.now result }
+        ensures made { IsEntryOf command name.now self.old.locate result }
         ensures reported { ReportsRest 0 self.old self.new }
         ensures notes { Notes [] self.old self.new }
+        ensures locate { self.new.locate ≡ self.old.locate }
     {
-        let made = change_file(rt, self.alloc, command, name, self.locate);
+        let locate = self.locate;
+        let made = change_file(rt, self.alloc, command, name, locate);
         if self.entries.is_empty() {
             return Entry { name, made };
         }
@@ -140,7 +144,7 @@ impl<'a> Batch<'a> {
         }
         // once those are saved there is more memory
         self.finish(rt, output, faults);
-        let made = change_file(rt, self.alloc, command, name, self.locate);
+        let made = change_file(rt, self.alloc, command, name, locate);
         Entry { name, made }
     }
 
@@ -155,6 +159,7 @@ impl<'a> Batch<'a> {
         requires { HasNext self.old }
         ensures reported { ReportsRest 1 self.old self.new }
         ensures notes { Notes (next.entry ∷ []) self.old self.new }
+        ensures locate { self.new.locate ≡ self.old.locate }
     {
         self.make_space(rt, next.size(), output, faults);
         if self.lets_wait(&next) {
@@ -175,6 +180,7 @@ impl<'a> Batch<'a> {
         requires { vec_len self.old.entries ≤ self.old.outcome.left }
         ensures reported { ReportsRest 0 self.old self.new }
         ensures notes { Notes [] self.old self.new }
+        ensures locate { self.new.locate ≡ self.old.locate }
     {
         if self.has_space(bytes) {
             return;
@@ -208,6 +214,7 @@ impl<'a> Batch<'a> {
         requires { HasNext self.old }
         ensures reported { ReportsRest 1 self.old self.new }
         ensures notes { Notes (next.entry ∷ []) self.old self.new }
+        ensures locate { self.new.locate ≡ self.old.locate }
     {
         let size = next.size();
         match self.entries.push(next) {
@@ -225,6 +232,7 @@ impl<'a> Batch<'a> {
         requires { vec_len self.old.entries ≤ self.old.outcome.left }
         ensures reported { ReportsRest 0 self.old self.new }
         ensures notes { Notes [] self.old self.new }
+        ensures locate { self.new.locate ≡ self.old.locate }
     {
         if self.may_hold_more() {
             return;
@@ -248,6 +256,7 @@ impl<'a> Batch<'a> {
         ensures reported { ReportsRest 1 self.old self.new }
         ensures entries { self.new.entries.items ≡ [] }
         ensures notes { Notes (next.now ∷ []) self.old self.new }
+        ensures locate { self.new.locate ≡ self.old.locate }
     {
         self.finish(rt, output, faults);
         self.finish_entry(rt, next, None, output, faults);
@@ -260,6 +269,7 @@ impl<'a> Batch<'a> {
         ensures none { vec_len self.new.entries ≡ 0 }
         ensures entries { self.new.entries.items ≡ [] }
         ensures notes { Notes [] self.old self.new }
+        ensures locate { self.new.locate ≡ self.old.locate }
     {
         let entries = self.take_entries();
         let attempts = save_entries(rt, self.alloc, &entries);
@@ -273,6 +283,7 @@ impl<'a> Batch<'a> {
         ensures none { vec_len self.new.entries ≡ 0 }
         ensures entries { self.new.entries.items ≡ [] }
         ensures outcome { self.new.outcome ≡ self.old.outcome }
+        ensures locate { self.new.locate ≡ self.old.locate }
     {
         self.bytes = 0;
         mem::replace(&mut self.entries, Vec::new(self.alloc))
@@ -292,6 +303,7 @@ impl<'a> Batch<'a> {
         ensures len { vec_len self.new.entries ≡ vec_len self.old.entries }
         ensures entries { self.new.entries.items ≡ self.old.entries.items }
         ensures noted { AreNoted entries.now self.old.outcome self.new.outcome }
+        ensures locate { self.new.locate ≡ self.old.locate }
     {
         let mut rest = attempts.into_iter();
         for entry in entries {
@@ -317,6 +329,7 @@ impl<'a> Batch<'a> {
         ensures len { vec_len self.new.entries ≡ vec_len self.old.entries }
         ensures entries { self.new.entries.items ≡ self.old.entries.items }
         ensures noted { IsEntryNoted entry.now.made self.old.outcome self.new.outcome }
+        ensures locate { self.new.locate ≡ self.old.locate }
     {
         match &entry.made {
             Ok(made) => {
@@ -340,6 +353,7 @@ impl<'a> Batch<'a> {
         ensures len { vec_len self.new.entries ≡ vec_len self.old.entries }
         ensures entries { self.new.entries.items ≡ self.old.entries.items }
         ensures noted { IsNoted met self.old.outcome self.new.outcome }
+        ensures locate { self.new.locate ≡ self.old.locate }
     {
         match met {
             Ok(file_outcome) => self.outcome = self.outcome.with_file(file_outcome),
