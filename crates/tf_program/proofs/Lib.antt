@@ -6,3 +6,4 @@ pub mod Locating
 pub mod Naming
 pub mod Refusing
 pub mod Running
+pub mod Waiting

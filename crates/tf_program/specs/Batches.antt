@@ -6,6 +6,9 @@ use Rattle.tf_cli.specs.declared.options.Action.{Action}
 use Rattle.tf_cli.specs.declared.outcome.FileOutcome.{FileOutcome}
 use Rattle.tf_cli.specs.declared.outcome.RunOutcome.{RunOutcome}
 use Rattle.tf_session.specs.declared.command.Command.{Command}
+use Rattle.tf_files.specs.Common.{MayHaveCommon}
+use Rattle.tf_files.specs.declared.changed_file.ChangedFile.{ChangedFile}
+use Rattle.tf_files.specs.declared.found_files.FoundFiles.{FoundFiles}
 use Rattle.tf_program.specs.declared.batch.Batch.{Batch}
 use Rattle.tf_program.specs.declared.batch.Entry.{Entry}
 use Rattle.tf_program.specs.declared.file_error.FileError.{FileError}
@@ -75,6 +78,28 @@ Notes put old new =
 abbrev pub PutsIn : Command → List ℕ → Batch → Batch → Type 0
 PutsIn command name old new =
     (entry : Entry) × IsEntryOf command name old.locate entry × Notes (entry ∷ []) old new
+
+-- ---- what may be read before those that are held are saved
+
+-- a file that was changed may have one of these, too
+abbrev pub FileMayShare : Option ChangedFile → FoundFiles → Type 0
+FileMayShare None found = ⊥
+FileMayShare (Some file) found = MayHaveCommon file.found found
+
+abbrev pub MayShare : Result Made FileError → FoundFiles → Type 0
+MayShare (Ok made) found = FileMayShare made.file found
+MayShare (Err error) found = ⊥
+
+-- none of the files of these entries has one of these
+abbrev pub AreApart : List Entry → FoundFiles → Type 0
+AreApart [] found = Unit {0}
+AreApart (entry ∷ entries) found = ¬ (MayShare entry.made found) × AreApart entries found
+
+-- a file may be read: none is held, or none that is held has one of those that were found of it
+abbrev pub Admits : Batch → Type 0
+Admits batch =
+    (vec_len batch.entries ≡ 0)
+    ⊎ ((found : FoundFiles) × AreApart batch.entries.items found)
 
 -- ---- what is done on each file of a task
 

@@ -1,9 +1,10 @@
 //! Files that a command changes: many are saved at once, and all are reported in the order in which
 //! they were given.
 
-ghost use Rattle.std.specs.Prelude.{◌≡◌, ◌+◌, ◌<◌, ◌≤◌, [], ◌∷◌, length, vec_len};
+ghost use Rattle.std.specs.Prelude.{◌≡◌, ◌+◌, ◌<◌, ◌≤◌, ◌↔◌, true, [], ◌∷◌, length, vec_len};
 ghost use Rattle.tf_program.specs.Batches.{IsNoted, IsEntryNoted, AreNoted, HasNext, ReportsRest};
 ghost use Rattle.tf_program.specs.Batches.{Notes, IsEntryOf, PutsIn, IsStart};
+ghost use Rattle.tf_program.specs.Batches.{MayShare, AreApart, Admits};
 
 use crate::file_error::FileError;
 use crate::files::{Made, change_file};
@@ -90,6 +91,7 @@ impl<'a> Batch<'a> {
         ensures reported { ReportsRest 0 self.old self.new }
         ensures notes { Notes [] self.old self.new }
         ensures locate { self.new.locate ≡ self.old.locate }
+        ensures apart { Admits self.new }
     {
         if self.admits(rt, name) {
             return;
@@ -98,23 +100,16 @@ impl<'a> Batch<'a> {
     }
 
     /// Returns whether a file of this name may be read before those that are held are saved.
-    fn admits<R: Files>(&self, rt: &R, name: &str) -> bool {
+    fn admits<R: Files>(&self, rt: &R, name: &str) -> bool
+        ensures { result ≡ true → Admits self.now }
+    {
         if self.entries.is_empty() {
             return true;
         }
         match FoundFiles::of_name(rt, self.alloc, name) {
-            Some(found) => !self.shares(&found),
+            Some(found) => are_apart(&self.entries, &found),
             None => false,
         }
-    }
-
-    fn shares(&self, found: &FoundFiles) -> bool {
-        for entry in &self.entries {
-            if entry.shares(found) {
-                return true;
-            }
-        }
-        false
     }
 
     /// Does a command on a file. If memory runs out while others are held, these are saved, and it
@@ -128,7 +123,8 @@ impl<'a> Batch<'a> {
         output: &mut O,
         faults: &mut F,
     ) -> Entry<'a>
-        requires { vec_len self.old.entries ≤ self.old.outcome.left }
+        requires within { vec_len self.old.entries ≤ self.old.outcome.left }
+        requires apart { Admits self.old }
         ensures made { IsEntryOf command name.now self.old.locate result }
         ensures reported { ReportsRest 0 self.old self.new }
         ensures notes { Notes [] self.old self.new }
@@ -382,12 +378,27 @@ impl<'a> Entry<'a> {
         }
     }
 
-    fn shares(&self, found: &FoundFiles) -> bool {
-        match self.changed_file() {
-            Some(file) => file.shares(found),
-            None => false,
+    /// Returns whether its file may have a file in common with another one.
+    fn shares(&self, found: &FoundFiles) -> bool
+        ensures { result ≡ true ↔ MayShare self.now.made found.now }
+    {
+        match &self.made {
+            Ok(made) => made.shares(found),
+            Err(_) => false,
         }
     }
+}
+
+/// Returns whether none of the files of entries may have a file in common with another one.
+fn are_apart(entries: &[Entry<'_>], found: &FoundFiles) -> bool
+    ensures { result ≡ true ↔ AreApart entries.now found.now }
+{
+    for entry in entries {
+        if entry.shares(found) {
+            return false;
+        }
+    }
+    true
 }
 
 fn is_out_of_memory(made: &Result<Made, FileError>) -> bool {
