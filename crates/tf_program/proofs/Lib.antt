@@ -1,6 +1,7 @@
 pub mod Checking
 pub mod Fixing
 pub mod Holding
+pub mod Lending
 pub mod Listing
 pub mod Locating
 pub mod Naming
