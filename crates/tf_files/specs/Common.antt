@@ -19,3 +19,8 @@ abbrev pub HaveCommon : FoundFiles → FoundFiles → Type 0
 HaveCommon ours others =
     IsFound ours.text others ⊎ IsFoundToo ours.journal others ⊎ IsFoundToo ours.new_text others
     ⊎ IsFoundToo ours.new_journal others
+
+-- one of the files may be one of the others: it is not known which these are, or one is
+abbrev pub MayHaveCommon : Option FoundFiles → FoundFiles → Type 0
+MayHaveCommon None others = Unit {0}
+MayHaveCommon (Some ours) others = HaveCommon ours others

@@ -1,6 +1,7 @@
 //! Files that were changed in memory, and are saved alone or many at once.
 
-ghost use Rattle.std.specs.Prelude.{◌≡◌, map, IfOk, IsOk, IsErrOf};
+ghost use Rattle.std.specs.Prelude.{◌≡◌, ◌↔◌, true, map, IfOk, IsOk, IsErrOf};
+ghost use Rattle.tf_files.specs.Common.{MayHaveCommon};
 
 use crate::file_paths::FilePaths;
 use crate::found_files::FoundFiles;
@@ -35,7 +36,9 @@ impl ChangedFile {
     }
 
     /// Returns whether it may have a file in common with another one.
-    pub fn shares(&self, other: &FoundFiles) -> bool {
+    pub fn shares(&self, other: &FoundFiles) -> bool
+        ensures { result ≡ true ↔ MayHaveCommon self.now.found other.now }
+    {
         match &self.found {
             Some(found) => found.share(other),
             None => true,

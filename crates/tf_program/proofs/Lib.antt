@@ -1,7 +1,10 @@
 pub mod Checking
 pub mod Fixing
 pub mod Holding
+pub mod Lending
 pub mod Listing
 pub mod Locating
 pub mod Naming
+pub mod Refusing
 pub mod Running
+pub mod Waiting

@@ -1,11 +1,14 @@
 -- What a batch holds of the files that it is given, and what is noted of each of them.
-use Rattle.std.specs.Prelude.{◌≡◌, ◌+◌, ◌<◌, ◌⊎◌, ◌↔◌, ℕ, true, false, List, [], ◌∷◌, ◌++◌, length}
+use Rattle.std.specs.Prelude.{◌≡◌, ◌+◌, ◌<◌, ◌⊎◌, ◌↔◌, ℕ, Bool, true, false, List, [], ◌∷◌, ◌++◌, length}
 use Rattle.std.specs.Prelude.{Option, Some, None, Result, Ok, Err, IfOk, IfErr, vec_len}
 use Rattle.std.specs.Borrow.{Bor}
 use Rattle.tf_cli.specs.declared.options.Action.{Action}
 use Rattle.tf_cli.specs.declared.outcome.FileOutcome.{FileOutcome}
 use Rattle.tf_cli.specs.declared.outcome.RunOutcome.{RunOutcome}
 use Rattle.tf_session.specs.declared.command.Command.{Command}
+use Rattle.tf_files.specs.Common.{MayHaveCommon}
+use Rattle.tf_files.specs.declared.changed_file.ChangedFile.{ChangedFile}
+use Rattle.tf_files.specs.declared.found_files.FoundFiles.{FoundFiles}
 use Rattle.tf_program.specs.declared.batch.Batch.{Batch}
 use Rattle.tf_program.specs.declared.batch.Entry.{Entry}
 use Rattle.tf_program.specs.declared.file_error.FileError.{FileError}
@@ -47,10 +50,10 @@ AreNoted (entry ∷ rest) old new =
 -- ---- what is held
 
 -- a file of this name, with what the command made of it, or why it made nothing
-abbrev pub IsEntryOf : Command → List ℕ → Entry → Type 0
-IsEntryOf command name entry =
+abbrev pub IsEntryOf : Command → List ℕ → Bool → Entry → Type 0
+IsEntryOf command name locate entry =
     (entry.name.now ≡ name) × IfOk entry.made (IsMade command name)
-    × IfErr entry.made (λ error. IsNotMade command name error.fault)
+    × IfErr entry.made (IsNotMade command name locate)
 
 -- not all files that are left are held: one more can be put in
 abbrev pub HasNext : Batch → Type 0
@@ -74,7 +77,29 @@ Notes put old new =
 -- a command is done on a file of this name, which is put in
 abbrev pub PutsIn : Command → List ℕ → Batch → Batch → Type 0
 PutsIn command name old new =
-    (entry : Entry) × IsEntryOf command name entry × Notes (entry ∷ []) old new
+    (entry : Entry) × IsEntryOf command name old.locate entry × Notes (entry ∷ []) old new
+
+-- ---- what may be read before those that are held are saved
+
+-- a file that was changed may have one of these, too
+abbrev pub FileMayShare : Option ChangedFile → FoundFiles → Type 0
+FileMayShare None found = ⊥
+FileMayShare (Some file) found = MayHaveCommon file.found found
+
+abbrev pub MayShare : Result Made FileError → FoundFiles → Type 0
+MayShare (Ok made) found = FileMayShare made.file found
+MayShare (Err error) found = ⊥
+
+-- none of the files of these entries has one of these
+abbrev pub AreApart : List Entry → FoundFiles → Type 0
+AreApart [] found = Unit {0}
+AreApart (entry ∷ entries) found = ¬ (MayShare entry.made found) × AreApart entries found
+
+-- a file may be read: none is held, or none that is held has one of those that were found of it
+abbrev pub Admits : Batch → Type 0
+Admits batch =
+    (vec_len batch.entries ≡ 0)
+    ⊎ ((found : FoundFiles) × AreApart batch.entries.items found)
 
 -- ---- what is done on each file of a task
 
@@ -85,8 +110,10 @@ DoesCommand None name old new =
     (new.entries.items ≡ old.entries.items)
     × (met : Result FileOutcome FileError) × IsNoted met old.outcome new.outcome
 
+-- the action on the file of this name; whether errors are located stays
 abbrev pub DoesFile : Action → List ℕ → Batch → Batch → Type 0
-DoesFile action name old new = DoesCommand (file_command action name) name old new
+DoesFile action name old new =
+    DoesCommand (file_command action name) name old new × (new.locate ≡ old.locate)
 
 -- the action on the files of these names, one after another
 abbrev pub DoesEach : Action → List (Bor (List ℕ)) → Batch → Batch → Type 0
@@ -95,15 +122,15 @@ DoesEach action (name ∷ names) old new =
     (mid : Batch) × DoesFile action name.now old mid × DoesEach action names mid new
 
 -- nothing is held, and nothing has been met on any of this number of files
-abbrev pub IsStart : ℕ → Batch → Type 0
-IsStart count batch =
+abbrev pub IsStart : ℕ → Bool → Batch → Type 0
+IsStart count locate batch =
     (batch.entries.items ≡ []) × (batch.outcome.has_fault ≡ false)
     × (batch.outcome.has_issue ≡ false) × (batch.outcome.has_unformatted ≡ false)
-    × (batch.outcome.left ≡ count)
+    × (batch.outcome.left ≡ count) × (batch.locate ≡ locate)
 
 -- The action was done on each file, in the order given, and what then was held has been noted.
-abbrev pub RunsTask : Action → List (Bor (List ℕ)) → RunOutcome → Type 0
-RunsTask action names outcome =
-    (first : Batch) × IsStart (length names) first
+abbrev pub RunsTask : Action → Bool → List (Bor (List ℕ)) → RunOutcome → Type 0
+RunsTask action locate names outcome =
+    (first : Batch) × IsStart (length names) locate first
     × (last : Batch) × DoesEach action names first last
     × (end : Batch) × Notes [] last end × (end.entries.items ≡ []) × (outcome ≡ end.outcome)

@@ -20,7 +20,7 @@ IsStatusOfOutcome outcome status =
 -- the task's action was done on each of its files, and the status is that of what they have met
 abbrev pub IsStatusOfTask : Task → ℕ → Type 0
 IsStatusOfTask task status =
-    (outcome : RunOutcome) × RunsTask task.action task.files.items outcome
+    (outcome : RunOutcome) × RunsTask task.action task.locate task.files.items outcome
     × IsStatusOfOutcome outcome status
 
 -- the status of the task of these arguments; or they have none, and it is that of the reason

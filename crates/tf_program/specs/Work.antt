@@ -1,6 +1,6 @@
 -- What an action does to each file that it is given, and to standard input.
-use Rattle.std.specs.Prelude.{◌≡◌, ◌≤◌, ◌⊎◌, ℕ, true, List, [], ◌++◌, codes, Option, Some, None}
-use Rattle.std.specs.Prelude.{if◌then◌else◌, string_bytes}
+use Rattle.std.specs.Prelude.{◌≡◌, ◌≤◌, ◌⊎◌, ℕ, Bool, true, false, List, [], ◌++◌, codes, Option, Some, None}
+use Rattle.std.specs.Prelude.{if◌then◌else◌, string_bytes, IfSome}
 use Rattle.tf_cli.specs.Arguments.{is_dash}
 use Rattle.tf_cli.specs.declared.command_line.Exit.{Exit}
 use Rattle.tf_cli.specs.declared.options.Action.{Action}
@@ -12,12 +12,14 @@ use Rattle.tf_session.specs.declared.fault.RunFault.{RunFault}
 use Rattle.tf_session.specs.declared.fault.SessionPart.{SessionPart}
 use Rattle.tf_session.specs.LintStream.{LintStreamFault}
 use Rattle.tf_session.specs.Streaming.{StepStreamFault, CheckStreamFault}
-use Rattle.tf_session.specs.Streams.{IsWriteFault}
+use Rattle.tf_session.specs.Streams.{IsReadStreamFault, IsWriteFault}
 use Rattle.tf_files.specs.FileEffects.{HasEffectOnFile, HasNoEffectOnFile}
 use Rattle.tf_files.specs.Opening.{is_file_fault}
 use Rattle.tf_files.specs.declared.journaled_file.FileEffect.{FileEffect}
 use Rattle.tf_files.specs.declared.journaled_file.JournaledFile.{JournaledFile}
 use Rattle.tf_program.specs.Inputs.{IsOutcomeOf, Formats, Checks, Lints, Fixes, FixInputFault}
+use Rattle.tf_program.specs.Location.{IsLocationOf, byte_of}
+use Rattle.tf_program.specs.declared.file_error.FileError.{FileError}
 use Rattle.tf_program.specs.declared.files.Made.{Made}
 
 -- the exit status if there is nothing to be done: 1 if the arguments are wrong or memory ran out, 0
@@ -54,13 +56,21 @@ abbrev pub IsMade : Command → List ℕ → Made → Type 0
 IsMade command name made =
     (file : JournaledFile) × (string_bytes file.paths.text ≡ name) × IsMadeOf command file made
 
+-- an error of this text: it has its location there if errors are located, and else none
+abbrev pub IsLocatedIn : List ℕ → Bool → FileError → Type 0
+IsLocatedIn text locate error =
+    (locate ≡ true → IsLocationOf text (byte_of error.fault) error.location)
+    × (locate ≡ false → error.location ≡ None)
+
 -- why a command made nothing of a file with this name: the file and its journal were not opened,
--- for an error of files; or they were read, and the command has no effect on them
-abbrev pub IsNotMade : Command → List ℕ → RunFault → Type 0
-IsNotMade command name fault =
-    (is_file_fault fault ≡ true)
+-- for an error of files; or they were read, and the command has no effect on them, for an error that
+-- is located in the text that was read
+abbrev pub IsNotMade : Command → List ℕ → Bool → FileError → Type 0
+IsNotMade command name locate error =
+    ((is_file_fault error.fault ≡ true) × (error.location ≡ None))
     ⊎ ((file : JournaledFile) × (string_bytes file.paths.text ≡ name)
-    × HasNoEffectOnFile command file fault)
+    × HasNoEffectOnFile command file error.fault
+    × IsLocatedIn file.contents.text.items locate error)
 
 -- ---- the text of a reader alone: no file is changed
 
@@ -103,3 +113,26 @@ TextFault (Action.Fix rules) name fault source target left =
     FixInputFault name rules fault source target left
 TextFault (Action.Revert number) name fault source target left = ⊥
 TextFault Action.List name fault source target left = ⊥
+
+-- ---- a reader that is lent until its text has been worked on: only what it had left before is known
+
+-- the source had what the reader had left, if that is known
+abbrev pub HadUnread : Source → Option (List ℕ) → Type 0
+HadUnread source unread = IfSome unread (λ bytes. source.before ≡ Some bytes)
+
+-- the outcome of the action on what the reader had left
+abbrev pub HasOutcome : Action → List ℕ → FileOutcome → Option (List ℕ) → Type 0
+HasOutcome action name file_outcome unread =
+    (source : Source) × (target : Target) × (left : Target)
+    × HadUnread source unread × WorksOnText action name file_outcome source target left
+
+-- why what the reader had left was not read, or why the action on it failed
+abbrev pub HasFault : Action → List ℕ → RunFault → Option (List ℕ) → Type 0
+HasFault action name fault unread =
+    (source : Source) × (target : Target) × (left : Target) × HadUnread source unread
+    × (IsReadStreamFault fault source ⊎ TextFault action name fault source target left)
+
+-- the error is located in what the reader had left
+abbrev pub IsLocatedInUnread : Bool → FileError → Option (List ℕ) → Type 0
+IsLocatedInUnread locate error unread =
+    (text : List ℕ) × IfSome unread (λ bytes. text ≡ bytes) × IsLocatedIn text locate error

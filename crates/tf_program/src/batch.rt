@@ -1,9 +1,10 @@
 //! Files that a command changes: many are saved at once, and all are reported in the order in which
 //! they were given.
 
-ghost use Rattle.std.specs.Prelude.{◌≡◌, ◌+◌, ◌<◌, ◌≤◌, [], ◌∷◌, length, vec_len};
+ghost use Rattle.std.specs.Prelude.{◌≡◌, ◌+◌, ◌<◌, ◌≤◌, ◌↔◌, true, [], ◌∷◌, length, vec_len};
 ghost use Rattle.tf_program.specs.Batches.{IsNoted, IsEntryNoted, AreNoted, HasNext, ReportsRest};
 ghost use Rattle.tf_program.specs.Batches.{Notes, IsEntryOf, PutsIn, IsStart};
+ghost use Rattle.tf_program.specs.Batches.{MayShare, AreApart, Admits};
 
 use crate::file_error::FileError;
 use crate::files::{Made, change_file};
@@ -47,7 +48,7 @@ impl<'a> Batch<'a> {
     /// Returns a batch of no file, for the files of a task.
     pub fn new(alloc: Global, task: &Task<'_>) -> Batch<'a>
         ensures none { vec_len result.entries ≡ 0 }
-        ensures start { IsStart (length task.now.files.items) result }
+        ensures start { IsStart (length task.now.files.items) task.now.locate result }
     {
         Batch {
             alloc,
@@ -70,6 +71,7 @@ impl<'a> Batch<'a> {
         requires { HasNext self.old }
         ensures reported { ReportsRest 1 self.old self.new }
         ensures entries { PutsIn command name.now self.old self.new }
+        ensures locate { self.new.locate ≡ self.old.locate }
     {
         self.admit(rt, name, output, faults);
         let entry = self.make(rt, command, name, output, faults);
@@ -88,6 +90,8 @@ impl<'a> Batch<'a> {
         requires { vec_len self.old.entries ≤ self.old.outcome.left }
         ensures reported { ReportsRest 0 self.old self.new }
         ensures notes { Notes [] self.old self.new }
+        ensures locate { self.new.locate ≡ self.old.locate }
+        ensures apart { Admits self.new }
     {
         if self.admits(rt, name) {
             return;
@@ -96,23 +100,16 @@ impl<'a> Batch<'a> {
     }
 
     /// Returns whether a file of this name may be read before those that are held are saved.
-    fn admits<R: Files>(&self, rt: &R, name: &str) -> bool {
+    fn admits<R: Files>(&self, rt: &R, name: &str) -> bool
+        ensures { result ≡ true → Admits self.now }
+    {
         if self.entries.is_empty() {
             return true;
         }
         match FoundFiles::of_name(rt, self.alloc, name) {
-            Some(found) => !self.shares(&found),
+            Some(found) => are_apart(&self.entries, &found),
             None => false,
         }
-    }
-
-    fn shares(&self, found: &FoundFiles) -> bool {
-        for entry in &self.entries {
-            if entry.shares(found) {
-                return true;
-            }
-        }
-        false
     }
 
     /// Does a command on a file. If memory runs out while others are held, these are saved, and it
@@ -126,12 +123,15 @@ impl<'a> Batch<'a> {
         output: &mut O,
         faults: &mut F,
     ) -> Entry<'a>
-        requires { vec_len self.old.entries ≤ self.old.outcome.left }
-        ensures made { IsEntryOf command name.now result }
+        requires within { vec_len self.old.entries ≤ self.old.outcome.left }
+        requires apart { Admits self.old }
+        ensures made { IsEntryOf command name.now self.old.locate result }
         ensures reported { ReportsRest 0 self.old self.new }
         ensures notes { Notes [] self.old self.new }
+        ensures locate { self.new.locate ≡ self.old.locate }
     {
-        let made = change_file(rt, self.alloc, command, name, self.locate);
+        let locate = self.locate;
+        let made = change_file(rt, self.alloc, command, name, locate);
         if self.entries.is_empty() {
             return Entry { name, made };
         }
@@ -140,7 +140,7 @@ impl<'a> Batch<'a> {
         }
         // once those are saved there is more memory
         self.finish(rt, output, faults);
-        let made = change_file(rt, self.alloc, command, name, self.locate);
+        let made = change_file(rt, self.alloc, command, name, locate);
         Entry { name, made }
     }
 
@@ -155,6 +155,7 @@ impl<'a> Batch<'a> {
         requires { HasNext self.old }
         ensures reported { ReportsRest 1 self.old self.new }
         ensures notes { Notes (next.entry ∷ []) self.old self.new }
+        ensures locate { self.new.locate ≡ self.old.locate }
     {
         self.make_space(rt, next.size(), output, faults);
         if self.lets_wait(&next) {
@@ -175,6 +176,7 @@ impl<'a> Batch<'a> {
         requires { vec_len self.old.entries ≤ self.old.outcome.left }
         ensures reported { ReportsRest 0 self.old self.new }
         ensures notes { Notes [] self.old self.new }
+        ensures locate { self.new.locate ≡ self.old.locate }
     {
         if self.has_space(bytes) {
             return;
@@ -208,6 +210,7 @@ impl<'a> Batch<'a> {
         requires { HasNext self.old }
         ensures reported { ReportsRest 1 self.old self.new }
         ensures notes { Notes (next.entry ∷ []) self.old self.new }
+        ensures locate { self.new.locate ≡ self.old.locate }
     {
         let size = next.size();
         match self.entries.push(next) {
@@ -225,6 +228,7 @@ impl<'a> Batch<'a> {
         requires { vec_len self.old.entries ≤ self.old.outcome.left }
         ensures reported { ReportsRest 0 self.old self.new }
         ensures notes { Notes [] self.old self.new }
+        ensures locate { self.new.locate ≡ self.old.locate }
     {
         if self.may_hold_more() {
             return;
@@ -248,6 +252,7 @@ impl<'a> Batch<'a> {
         ensures reported { ReportsRest 1 self.old self.new }
         ensures entries { self.new.entries.items ≡ [] }
         ensures notes { Notes (next.now ∷ []) self.old self.new }
+        ensures locate { self.new.locate ≡ self.old.locate }
     {
         self.finish(rt, output, faults);
         self.finish_entry(rt, next, None, output, faults);
@@ -260,6 +265,7 @@ impl<'a> Batch<'a> {
         ensures none { vec_len self.new.entries ≡ 0 }
         ensures entries { self.new.entries.items ≡ [] }
         ensures notes { Notes [] self.old self.new }
+        ensures locate { self.new.locate ≡ self.old.locate }
     {
         let entries = self.take_entries();
         let attempts = save_entries(rt, self.alloc, &entries);
@@ -273,6 +279,7 @@ impl<'a> Batch<'a> {
         ensures none { vec_len self.new.entries ≡ 0 }
         ensures entries { self.new.entries.items ≡ [] }
         ensures outcome { self.new.outcome ≡ self.old.outcome }
+        ensures locate { self.new.locate ≡ self.old.locate }
     {
         self.bytes = 0;
         mem::replace(&mut self.entries, Vec::new(self.alloc))
@@ -292,6 +299,7 @@ impl<'a> Batch<'a> {
         ensures len { vec_len self.new.entries ≡ vec_len self.old.entries }
         ensures entries { self.new.entries.items ≡ self.old.entries.items }
         ensures noted { AreNoted entries.now self.old.outcome self.new.outcome }
+        ensures locate { self.new.locate ≡ self.old.locate }
     {
         let mut rest = attempts.into_iter();
         for entry in entries {
@@ -317,6 +325,7 @@ impl<'a> Batch<'a> {
         ensures len { vec_len self.new.entries ≡ vec_len self.old.entries }
         ensures entries { self.new.entries.items ≡ self.old.entries.items }
         ensures noted { IsEntryNoted entry.now.made self.old.outcome self.new.outcome }
+        ensures locate { self.new.locate ≡ self.old.locate }
     {
         match &entry.made {
             Ok(made) => {
@@ -340,6 +349,7 @@ impl<'a> Batch<'a> {
         ensures len { vec_len self.new.entries ≡ vec_len self.old.entries }
         ensures entries { self.new.entries.items ≡ self.old.entries.items }
         ensures noted { IsNoted met self.old.outcome self.new.outcome }
+        ensures locate { self.new.locate ≡ self.old.locate }
     {
         match met {
             Ok(file_outcome) => self.outcome = self.outcome.with_file(file_outcome),
@@ -368,12 +378,27 @@ impl<'a> Entry<'a> {
         }
     }
 
-    fn shares(&self, found: &FoundFiles) -> bool {
-        match self.changed_file() {
-            Some(file) => file.shares(found),
-            None => false,
+    /// Returns whether its file may have a file in common with another one.
+    fn shares(&self, found: &FoundFiles) -> bool
+        ensures { result ≡ true ↔ MayShare self.now.made found.now }
+    {
+        match &self.made {
+            Ok(made) => made.shares(found),
+            Err(_) => false,
         }
     }
+}
+
+/// Returns whether none of the files of entries may have a file in common with another one.
+fn are_apart(entries: &[Entry<'_>], found: &FoundFiles) -> bool
+    ensures { result ≡ true ↔ AreApart entries.now found.now }
+{
+    for entry in entries {
+        if entry.shares(found) {
+            return false;
+        }
+    }
+    true
 }
 
 fn is_out_of_memory(made: &Result<Made, FileError>) -> bool {

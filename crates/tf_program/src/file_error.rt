@@ -2,6 +2,7 @@
 
 ghost use Rattle.std.specs.Prelude.{◌≡◌};
 ghost use Rattle.tf_program.specs.Location.{byte_of, IsLocationOf};
+ghost use Rattle.tf_program.specs.Work.{IsLocatedIn};
 
 use crate::location::{Location, byte_of, location_of};
 use std::alloc::{AllocError, Global};
@@ -42,7 +43,8 @@ impl FileError {
 
     /// Returns the error of a command that did nothing to a file, located if `locate` says so.
     pub fn of_refused(refused: &FileFault, locate: bool) -> FileError
-        ensures { result.fault ≡ refused.now.fault }
+        ensures fault { result.fault ≡ refused.now.fault }
+        ensures location { IsLocatedIn refused.now.text.items locate result }
     {
         if locate {
             FileError::located(refused.fault, &refused.text)

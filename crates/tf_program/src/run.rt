@@ -100,7 +100,7 @@ fn run_task<R: Files, I: Read, O: Write, F: Write>(
     faults: &mut F,
 ) -> RunOutcome
     ensures left { result.left ≡ 0 }
-    ensures runs { RunsTask task.now.action task.now.files.items result }
+    ensures runs { RunsTask task.now.action task.now.locate task.now.files.items result }
 {
     let mut batch = Batch::new(alloc, task);
     for name in &task.files {

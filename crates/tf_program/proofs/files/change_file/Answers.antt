@@ -1,15 +1,15 @@
 -- The file that was opened has this name.
-use Rattle.std.proofs.Common.{◌≡◌, Err, None, inl, rules}
+use Rattle.std.proofs.Common.{◌≡◌, Err, None, inl, refl, rules}
 use Rattle.tf_program.proofs.Naming.{made_of, not_made_of}
 use Rattle.tf_program.proofs.files.change_file.Goals as goal
 
 pub returns-in_err-file-clause-fault : goal.returns-in_err-file-clause-fault
 returns-in_err-file-clause-fault g c =
     let answer : c.from_residual.result ≡ Err (record { fault = c.in_err-file.field-0.0; location = None }) = search rules in
-    rw answer (inl c.in_err-file.ensures.fault)
+    rw answer (inl (c.in_err-file.ensures.fault, refl))
 
 pub returns-clause-made : goal.returns-clause-made
 returns-clause-made g c = made_of c.args.command _ c.in_ok-file.file _ c.in_ok-file.ensures.name c.change_opened.ensures.made
 
 pub returns-clause-fault : goal.returns-clause-fault
-returns-clause-fault g c = not_made_of c.args.command _ c.in_ok-file.file _ c.in_ok-file.ensures.name c.change_opened.ensures.fault
+returns-clause-fault g c = not_made_of c.args.command _ c.args.locate c.in_ok-file.file _ c.in_ok-file.ensures.name c.change_opened.ensures.fault c.change_opened.ensures.location

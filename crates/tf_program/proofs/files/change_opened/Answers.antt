@@ -3,6 +3,7 @@ use Rattle.std.proofs.Common.{◌≡◌, refl, subst, sym}
 use Rattle.tf_session.specs.declared.fault.RunFault.{RunFault}
 use Rattle.tf_files.specs.FileEffects.{HasNoEffectOnFile}
 use Rattle.tf_program.proofs.Fixing.{outcome_is}
+use Rattle.tf_program.proofs.Refusing.{located_in_file}
 use Rattle.tf_program.proofs.files.change_opened.Goals as goal
 
 pub returns-in-Ok-clause-made : goal.returns-in-Ok-clause-made
@@ -13,4 +14,8 @@ returns-in-Ok-clause-made g c =
 
 pub returns-in-Err-clause-fault : goal.returns-in-Err-clause-fault
 returns-in-Err-clause-fault g c =
-    subst (λ (fault : RunFault). HasNoEffectOnFile c.args.command c.args.file fault) (sym c.of_refused.ensures) c.in-Err.ensures.fault
+    subst (λ (fault : RunFault). HasNoEffectOnFile c.args.command c.args.file fault) (sym c.of_refused.ensures.fault) c.in-Err.ensures.fault
+
+pub returns-in-Err-clause-location : goal.returns-in-Err-clause-location
+returns-in-Err-clause-location g c =
+    located_in_file c.args.file.contents.text.items _ c.args.locate _ c.of_refused.result c.of_refused.ensures.fault c.in-Err.ensures.text c.of_refused.ensures.location

@@ -7,5 +7,5 @@ use Rattle.tf_program.proofs.run.run_task.Given as goal
 abbrev pub invariant-loop-name : goal.invariant-loop-name
 invariant-loop-name g l = record {
   left : l.batch.outcome.left + l.name-index ≡ length l.name-items + vec_len l.batch.entries;
-  does : (first : Batch) × IsStart (length l.task.files.items) first × DoesEach l.task.action (take l.name-index l.name-items) first l.batch;
+  does : (first : Batch) × IsStart (length l.task.files.items) l.task.locate first × DoesEach l.task.action (take l.name-index l.name-items) first l.batch;
 }

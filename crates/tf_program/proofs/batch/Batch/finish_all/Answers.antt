@@ -12,4 +12,5 @@ loop-entry-preserved g c =
       len = c.finish_entry.ensures.len ∙ done.len;
       entries = c.finish_entry.ensures.entries ∙ done.entries;
       noted = rw more (one_more _ c.entry-item.result _ _ _ done.noted c.finish_entry.ensures.noted);
+      locate = c.finish_entry.ensures.locate ∙ done.locate;
     }

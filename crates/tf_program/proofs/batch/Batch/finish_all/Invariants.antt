@@ -9,4 +9,5 @@ invariant-loop-entry g l = record {
   len : vec_len l.self.entries ≡ vec_len l.fn.self.entries;
   entries : l.self.entries.items ≡ l.fn.self.entries.items;
   noted : AreNoted (take l.entry-index l.entries) l.fn.self.outcome l.self.outcome;
+  locate : l.self.locate ≡ l.fn.self.locate;
 }
