@@ -9,5 +9,5 @@ pub returns : goal.returns
 returns c =
     let rules = command_rules c.args.excludes c.args.subcommand in
     IfOk-weaker c.new_command.result _ _
-    (λ command new. subst (λ (name : List ℕ). IsCommand (with_rules (new_app name) rules) command) c.info.ensures.name (new rules c.in_ok-arguments.ensures))
+    (λ command new. subst (λ (name : List ℕ). IsCommand (with_rules (new_app name) rules) command) c.info-info.ensures.name (new rules c.in_ok-arguments.ensures))
     c.new_command.ensures

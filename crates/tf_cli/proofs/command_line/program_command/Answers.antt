@@ -22,7 +22,7 @@ returns c =
     let fix : app_of c.in_ok-with_fix.with_fix ≡ fix_app =
     command_added c.args.excludes Subcommand.Fix c.in_ok-with_lint.with_lint c.in_ok-with_fix.with_fix c.command_of-fix.result lint_app
     lint c.command_of-fix.ensures c.in_ok-with_fix.ensures in
-    IfOk-weaker c.add_command.result _ _
+    IfOk-weaker c.add_command-4.result _ _
     (λ program added. command_added c.args.excludes Subcommand.Revert c.in_ok-with_fix.with_fix program c.command_of-revert.result fix_app
     fix c.command_of-revert.ensures added)
-    c.add_command.ensures
+    c.add_command-4.ensures
