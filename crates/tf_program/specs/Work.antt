@@ -56,6 +56,10 @@ abbrev pub IsMade : Command → List ℕ → Made → Type 0
 IsMade command name made =
     (file : JournaledFile) × (string_bytes file.paths.text ≡ name) × IsMadeOf command file made
 
+-- the text of a file that was read
+abbrev pub text_of : JournaledFile → List ℕ
+text_of file = file.contents.text.items
+
 -- an error of this text: it has its location there if errors are located, and else none
 abbrev pub IsLocatedIn : List ℕ → Bool → FileError → Type 0
 IsLocatedIn text locate error =
@@ -69,8 +73,7 @@ abbrev pub IsNotMade : Command → List ℕ → Bool → FileError → Type 0
 IsNotMade command name locate error =
     ((is_file_fault error.fault ≡ true) × (error.location ≡ None))
     ⊎ ((file : JournaledFile) × (string_bytes file.paths.text ≡ name)
-    × HasNoEffectOnFile command file error.fault
-    × IsLocatedIn file.contents.text.items locate error)
+    × HasNoEffectOnFile command file error.fault × IsLocatedIn (text_of file) locate error)
 
 -- ---- the text of a reader alone: no file is changed
 
