@@ -1,11 +1,12 @@
 -- From clap's matches to the arguments: what clap has found is what it reads of them.
-use Rattle.std.proofs.Common.{◌≡◌, ◌∙◌, ℕ, Bool, true, false, List, [], ◌∷◌, Option, Some, None, option_map, unwrap_or, box_value, inl, inr, refl, sym, ap, ap₂}
+use Rattle.std.proofs.Common.{◌≡◌, ◌≢◌, ◌⊎◌, ◌∙◌, ℕ, Bool, true, false, List, Option, Some, None, option_map, unwrap_or, box_value, inl, inr, refl, sym, ap, ap₂, subst}
 use Rattle.clap.specs.Faults.{is_simple_and_free}
 use Rattle.clap.specs.Kinds.{IsAmong, Kinds}
 use Rattle.clap.specs.Matches.{found_of, subcommand_name_of}
 use Rattle.clap.specs.Simple.{is_simple, subcommand_of, subcommand_rows_of}
 use Rattle.clap.specs.Walk.{Row, rows_of}
 use Rattle.clap.specs.declared.error.kind.ErrorKind.{ErrorKind}
+use Rattle.clap.specs.declared.error.kind.ErrorKind.TheVariants.{DisplayHelp, DisplayVersion}
 use Rattle.clap.specs.declared.parser.matches.ArgMatches.{ArgMatches}
 use Rattle.clap.specs.declared.parser.matches.ArgMatches.TheViews.{out-ArgMatches, out-SubCommand}
 use Rattle.tf_cli.specs.Parsing.{program_app}
@@ -26,9 +27,14 @@ unfolding program_app
 program_is_free true is = cc
 program_is_free false is = refl
 
-pub not_empty : (kind : ErrorKind) (kinds : Kinds) → IsAmong kind kinds → kinds ≡ [] → ⊥
-not_empty kind [] among is = among
-not_empty kind (k ∷ kinds) among is = cc
+pub among_same : (kind : ErrorKind) (found kinds : Kinds) → IsAmong kind found → found ≡ kinds → IsAmong kind kinds
+among_same kind found kinds among same = subst (λ (ks : Kinds). IsAmong kind ks) same among
+
+-- what is not printed on standard error is the help or the version
+pub help_or_version : (kind : ErrorKind) → ((kind ≢ DisplayHelp) × (kind ≢ DisplayVersion) → ⊥) → (kind ≡ DisplayHelp) ⊎ (kind ≡ DisplayVersion)
+help_or_version DisplayHelp shown = inl refl
+help_or_version DisplayVersion shown = inr refl
+help_or_version kind shown = absurd (shown (λ is. cc, λ is. cc))
 
 -- two parts of what may be there, and both of them
 abbrev both : {X : Type 0} → (X → List ℕ) → (X → List Row) → X → List ℕ × List Row
@@ -65,8 +71,8 @@ task_found excludes matches args task found no_error is =
     (is.0, is.1, sym found ∙ command_found matches is.0 is.1 is.2, is.3, no_error)
 
 pub fault_found : (excludes : Bool) (matches : ArgMatches) (args : List (List ℕ)) (exit : Exit) → subcommand_rows_of matches ≡ subcommand_of (program_app excludes) args
-    → IsTaskOfFault matches exit → IsArgumentsFault excludes args exit
-fault_found excludes matches args exit found (inl is) =
-    inl (is.0, is.1, sym found ∙ command_found matches is.0 is.1 is.2, is.3)
-fault_found excludes matches args exit found (inr is) =
-    inr (inl (sym found ∙ no_command_found matches is.0, is.1))
+    → HasNoError excludes args → IsTaskOfFault matches exit → IsArgumentsFault excludes args exit
+fault_found excludes matches args exit found no_error (inl is) =
+    inl (is.0, is.1, sym found ∙ command_found matches is.0 is.1 is.2, is.3, no_error)
+fault_found excludes matches args exit found no_error (inr is) =
+    inr (inl (sym found ∙ no_command_found matches is.0, is.1, no_error))

@@ -1,13 +1,16 @@
 -- The task of a list of arguments: as clap reads them by the program's table, and no other way.
-use Rattle.std.specs.Prelude.{◌≡◌, ◌⊎◌, ℕ, Bool, false, List, [], Some, None, map, codes}
+use Rattle.std.specs.Prelude.{◌≡◌, ◌≢◌, ◌⊎◌, ℕ, Bool, false, List, [], Some, None, map, codes, ⊤}
 use Rattle.clap.specs.Faults.{fault_of}
+use Rattle.clap.specs.Kinds.{IsAmong}
 use Rattle.clap.specs.Simple.{subcommand_of}
 use Rattle.clap.specs.Walk.{Row}
+use Rattle.clap.specs.declared.error.kind.ErrorKind.{ErrorKind}
+use Rattle.clap.specs.declared.error.kind.ErrorKind.TheVariants.{DisplayHelp, DisplayVersion}
 use Rattle.tf_cli.specs.Parsing.{program_app}
 use Rattle.tf_cli.specs.Tasks.{IsTaskOfName, IsTaskOfNameFault, SaysUsage}
 use Rattle.tf_cli.specs.declared.command_line.CommandLine.{CommandLine}
 use Rattle.tf_cli.specs.declared.command_line.Exit.{Exit}
-use Rattle.tf_cli.specs.declared.command_line.Exit.TheVariants.{Memory}
+use Rattle.tf_cli.specs.declared.command_line.Exit.TheVariants.{Help, UsageError, Memory}
 use Rattle.tf_cli.specs.declared.command_line.Task.{Task}
 
 -- the arguments as they are read, after the name of the program
@@ -33,17 +36,28 @@ IsTaskOfArguments excludes args task =
     (name : List ℕ) × (rows : List Row) × ReadsCommand excludes args name rows
     × IsTaskOfName name rows task × HasNoError excludes args
 
--- memory ran out, or clap refuses some of the arguments; of revert, this says nothing
+-- The end after an error of this kind: a text for standard output if it is help or the version, else
+-- one for standard error, as clap's `use_stderr` says; or there is no memory for the text.
+abbrev pub IsExitOfKind : ErrorKind → Exit → Type 0
+IsExitOfKind kind (Help text) = (kind ≡ DisplayHelp) ⊎ (kind ≡ DisplayVersion)
+IsExitOfKind kind (UsageError text) = (kind ≢ DisplayHelp) × (kind ≢ DisplayVersion)
+IsExitOfKind kind Memory = ⊤
+
+-- Memory ran out; or clap finds an error in the arguments, and the end is that of its kind. The word
+-- help may have either kind, by clap's definitions. Of revert, this says nothing.
 abbrev pub IsRefused : Bool → List (List ℕ) → Exit → Type 0
 IsRefused excludes args exit =
-    excludes ≡ false → (exit ≡ Memory) ⊎ ¬ (fault_of (program_app excludes) args ≡ [])
+    excludes ≡ false
+    → (exit ≡ Memory)
+    ⊎ ((kind : ErrorKind) × IsAmong kind (fault_of (program_app excludes) args)
+    × IsExitOfKind kind exit)
 
--- Why the arguments have no task: what clap reads of them has none; or they name no command; or
--- clap refuses them.
+-- Why the arguments have no task: clap finds no error in them, but what it reads has none, or they
+-- name no command; or clap refuses them.
 abbrev pub IsArgumentsFault : Bool → List (List ℕ) → Exit → Type 0
 IsArgumentsFault excludes args exit =
     ((name : List ℕ) × (rows : List Row) × ReadsCommand excludes args name rows
-    × IsTaskOfNameFault name rows exit)
+    × IsTaskOfNameFault name rows exit × HasNoError excludes args)
     ⊎ ((subcommand_of (program_app excludes) args ≡ None)
-    × SaysUsage (codes "tfk: no command\n") exit)
+    × SaysUsage (codes "tfk: no command\n") exit × HasNoError excludes args)
     ⊎ IsRefused excludes args exit

@@ -3,5 +3,5 @@ use Rattle.std.proofs.Common.{◌∙◌, sym}
 use Rattle.std.proofs.lemmas.Bool.{false≢true}
 use Rattle.tf_cli.proofs.command_line.exit_for.Goals as goal
 
-pub returns : goal.returns
-returns c = λ memory. absurd (false≢true (sym c.if-is_out_of_memory.false ∙ c.is_out_of_memory.ensures.1 memory))
+pub returns-clause-memory : goal.returns-clause-memory
+returns-clause-memory c = λ memory. absurd (false≢true (sym c.if-is_out_of_memory.false ∙ c.is_out_of_memory.ensures.1 memory))

@@ -7,7 +7,7 @@ use Rattle.clap.specs.Values.{kind_of}
 use Rattle.tf_cli.specs.Parsing.{program_app}
 use Rattle.tf_cli.specs.Reading.{HasNoError, arguments_of}
 use Rattle.tf_cli.specs.declared.command_line.Exit.TheVariants.{Memory}
-use Rattle.tf_cli.proofs.Reading.{fault_found, not_empty, program_is_free, program_is_simple, task_found}
+use Rattle.tf_cli.proofs.Reading.{among_same, fault_found, program_is_free, program_is_simple, task_found}
 use Rattle.tf_cli.proofs.command_line.CommandLine.task.Goals as goal
 
 pub returns-in_err-command-clause-fault : goal.returns-in_err-command-clause-fault
@@ -37,7 +37,9 @@ returns-in-Ok-clause-fault c =
     let met = c.in-Ok.ensures.matches (ap is_simple program ∙ program_is_simple excludes) in
     let found : subcommand_rows_of c.in-Ok.matches ≡ subcommand_of (program_app excludes) (arguments_of c.args.self.now) =
     met.1 ∙ ap₂ subcommand_of program args in
-    IfErr-weaker c.task_of.result _ _ (λ exit is. fault_found excludes c.in-Ok.matches (arguments_of c.args.self.now) exit found is) c.task_of.ensures.fault
+    let no_error : HasNoError excludes (arguments_of c.args.self.now) =
+    (λ free. sym (ap₂ fault_of program args) ∙ c.in-Ok.ensures.kinds (ap is_simple_and_free program ∙ program_is_free excludes free)) in
+    IfErr-weaker c.task_of.result _ _ (λ exit is. fault_found excludes c.in-Ok.matches (arguments_of c.args.self.now) exit found no_error is) c.task_of.ensures.fault
 
 pub returns-in-Err-clause-fault : goal.returns-in-Err-clause-fault
 returns-in-Err-clause-fault c =
@@ -47,6 +49,10 @@ returns-in-Err-clause-fault c =
     ap (map (λ (arg : Bor (List ℕ)). arg.now)) c.as_slice.ensures.value in
     inr (inr (λ free.
     elim (c.in-Err.ensures.kinds (ap is_simple_and_free program ∙ program_is_free excludes free)) [
-      | inl memory ↦ inl (c.exit_for.ensures memory)
-      | inr among ↦ inr (λ none. not_empty (kind_of c.in-Err.error) _ among (ap₂ fault_of program args ∙ none))
+      | inl memory ↦ inl (c.exit_for.ensures.memory memory)
+      | inr among ↦ inr (
+        kind_of c.in-Err.error,
+        among_same (kind_of c.in-Err.error) _ (fault_of (program_app excludes) (arguments_of c.args.self.now)) among (ap₂ fault_of program args),
+        c.exit_for.ensures.kind,
+      )
     ]))
