@@ -1,7 +1,7 @@
 // Two web servers.
 variable "region" {
   type=string      // a name, as "eu-west-1"
-    description = "Where the servers stand"
+    description = "Where the servers are"
 }
 
 resource "aws_instance" "web" {
@@ -11,7 +11,7 @@ count=2
 
   user_data = <<-EOT
     #!/bin/sh
-    // no comment: it stands in a heredoc
+    // no comment: it is in a heredoc
       echo   ${ var.region }
   EOT
 }
