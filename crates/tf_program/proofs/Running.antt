@@ -1,5 +1,5 @@
 -- The files of a task, one after another.
-use Rattle.std.proofs.Common.{◌≡◌, ℕ, List, [], ◌∷◌, ◌++◌, refl, subst}
+use Rattle.std.proofs.Common.{ℕ, List, [], ◌∷◌, ◌++◌, refl, subst}
 use Rattle.std.specs.Borrow.{Bor}
 use Rattle.tf_cli.specs.declared.options.Action.{Action}
 use Rattle.tf_program.specs.declared.batch.Batch.{Batch}

@@ -1,5 +1,5 @@
 -- What the change made, or why it made nothing, is kept.
-use Rattle.std.proofs.Common.{◌≡◌, refl, subst, sym}
+use Rattle.std.proofs.Common.{refl, subst, sym}
 use Rattle.tf_session.specs.declared.fault.RunFault.{RunFault}
 use Rattle.tf_files.specs.FileEffects.{HasNoEffectOnFile}
 use Rattle.tf_program.specs.Work.{text_of}

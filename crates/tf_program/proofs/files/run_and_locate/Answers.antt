@@ -22,13 +22,13 @@ returns-in-Ok-clause-done g c =
     outcome_of_text c.args.action c.args.name.now c.in-Ok.outcome _ c.in_ok-text.text.items _ _ _ _ c.in_ok-text.ensures.text c.in-Ok.ensures.done
     (first_of (search rules, cc, grind (arith, common_steps))) (first_of (search rules, cc, grind (arith, common_steps)))
 
-pub returns-in-Err-clause-fault : goal.returns-in-Err-clause-fault
-returns-in-Err-clause-fault g c =
+pub returns-clause-fault : goal.returns-clause-fault
+returns-clause-fault g c =
     fault_of_text c.args.action c.args.name.now c.in-Err.fault _ c.in_ok-text.text.items _ _ _ _ c.located.result c.in_ok-text.ensures.text c.in-Err.ensures.fault
     c.located.ensures.fault (first_of (search rules, cc, grind (arith, common_steps))) (first_of (search rules, cc, grind (arith, common_steps)))
 
-pub returns-in-Err-clause-location : goal.returns-in-Err-clause-location
-returns-in-Err-clause-location g c =
+pub returns-clause-location : goal.returns-clause-location
+returns-clause-location g c =
     let text = c.in_ok-text.text.items in
     let located = is_located text c.deref.result.now true c.in-Err.fault c.located.result refl c.deref.ensures.value c.located.ensures.fault c.located.ensures.location in
     located_in_text _ text _ c.located.result c.in_ok-text.ensures.text located (first_of (search rules, cc, grind (arith, common_steps)))
