@@ -100,7 +100,7 @@ pub shorter_last_line : (t : List ℕ) → list_any is_lf t ≡ true → length 
 shorter_last_line [] h = absurd (cc)
 shorter_last_line (b ∷ t) h = rw h (omega (arith, length-last_line t))
 
--- what a search for the last LF tells
+-- what a search for the last LF returns
 pub last_part : (t : List ℕ) (k : ℕ) → slice_range t (k + 1) (length t) ≡ drop (suc k) t
 last_part t k =
     let more : k + 1 ≡ suc k = omega arith in
@@ -117,7 +117,7 @@ none_after t k h =
 pub last_line_found : (t : List ℕ) (k : ℕ) → NoneAfter (Passes (is_byte 10) t) 0 (length t) k × Passes (is_byte 10) t k → drop (suc k) t ≡ last_line t
 last_line_found t k h = sym (last_line-after t k h.1 (none_after t k h.0))
 
--- what a search tells that finds none
+-- what a search returns that finds none
 pub none_found : (t : List ℕ) → Nowhere (Passes (is_byte 10) t) 0 (length t) → list_any is_lf t ≡ false
 none_found t h =
     list_any_none is_lf t (λ i d inside.

@@ -56,7 +56,7 @@ last_line_pieces-none (piece ∷ pieces) h =
     let parts = or_parts (list_any is_lf piece) (list_any is_lf (concat pieces)) (sym (list_any-append is_lf piece (concat pieces)) ∙ h) in
     rw parts.1 (ap (λ (x : List ℕ). x ∷ pieces) (last_line-none piece parts.0))
 
--- from the front of the text on
+-- from the start of the text on
 column-start : (pieces : List (List ℕ)) → (after_pieces first_place pieces).column ≡ 1 + sum_by clusters (last_line_pieces pieces)
 column-start pieces =
     elim (list_any is_lf (concat pieces)) as (λ v. list_any is_lf (concat pieces) ≡ v → (after_pieces first_place pieces).column ≡ 1 + sum_by clusters (last_line_pieces pieces)) [

@@ -2,8 +2,9 @@
 
 /// What a token is. Each operator has a kind of its own.
 ///
-/// The kinds from `OpenBrace` on can open or close something. They are the last ones, so that one
-/// comparison tells them apart from the others.
+/// Tokens of the kinds from `OpenBrace` on can change the openings of the scanner
+/// (`can_change_openings` of hcl_scan). They are the last ones, so that one comparison tells them
+/// apart from the others.
 ///
 /// HCL native syntax specification, Lexical Elements and Templates.
 #[derive(Clone, Copy, Debug, PartialEq, Eq)]
