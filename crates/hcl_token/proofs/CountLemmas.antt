@@ -4,9 +4,9 @@ use Rattle.std.proofs.lemmas.List.Elements.{All-drop, All-head, All-tail, All-ta
 use Rattle.hcl_token.specs.declared.place.Place.{Place}
 use Rattle.hcl_token.specs.declared.span.Span.{Span}
 use Rattle.hcl_token.specs.Tokens.{Pair, whole_text}
-use Rattle.hcl_token.specs.Pairs.{pair_at, pairs_from, pairs_of}
+use Rattle.hcl_token.specs.Pairs.{pair_at, pairs_from, pairs_of, gap_at}
 use Rattle.hcl_token.specs.Place.{MarksHaveNoLf, is_lf, is_mark, line_of}
-use Rattle.hcl_token.specs.Inner.LineColumn.{IsOnLine, place_after_pair, place_after_pairs, first_place, gap_at}
+use Rattle.hcl_token.specs.Inner.LineColumn.{IsOnLine, place_after_pair, place_after_pairs, first_place}
 use Rattle.hcl_token.proofs.OrderLemmas.{order-slice, pairs-drop, pairs-take, text_is-slice}
 use Rattle.hcl_token.proofs.LineLemmas.{count-append}
 use Rattle.hcl_token.proofs.PlaceLemmas.{place_found}

@@ -1,13 +1,13 @@
--- How far a place can be from the front, and the places that are kept.
+-- How far a place can be from the start of a text.
 use Rattle.std.proofs.Common.{◌≡◌, ℕ, ◌+◌, ◌-◌, ◌<◌, ◌≤◌, true, false, List, [], ◌∷◌, length, take, slice_range, IsUtf8, count_by, refl, sym, ap, subst, ◌∙◌, arith}
 use Rattle.std.specs.List.{list_any}
 use Rattle.std.proofs.lemmas.List.Sums.{count_by-le-length}
 use Rattle.hcl_token.specs.declared.place.Place.{Place}
 use Rattle.hcl_token.specs.declared.span.Span.{Span}
 use Rattle.hcl_token.specs.Tokens.{Pair, whole_text}
-use Rattle.hcl_token.specs.Pairs.{pair_at, pairs_from, pairs_of}
+use Rattle.hcl_token.specs.Pairs.{pair_at, pairs_from, pairs_of, gap_at}
 use Rattle.hcl_token.specs.Place.{clusters, is_lf, is_mark, last_line}
-use Rattle.hcl_token.specs.Inner.LineColumn.{IsWellFormed, IsPlaceBounded, IsTokenRange, place_after_piece, place_after_pair, place_after_pairs, first_place, gap_at, has_mark}
+use Rattle.hcl_token.specs.Inner.LineColumn.{IsWellFormed, IsPlaceBounded, IsTokenRange, place_after_piece, place_after_pair, place_after_pairs, first_place, has_mark}
 use Rattle.hcl_token.specs.Inner.AsciiText.{is_ascii_without_cr}
 use Rattle.hcl_token.proofs.ClusterLemmas.{clusters-le}
 use Rattle.hcl_token.proofs.OrderLemmas.{text_is-slice, length-range, gap-first, gap-le, order-le, order-slice, pairs-take, utf8-slice}

@@ -5,9 +5,9 @@ use Rattle.std.proofs.lemmas.List.Folds.{drop_split}
 use Rattle.hcl_token.specs.declared.item.Item.{Item}
 use Rattle.hcl_token.specs.declared.span.Span.{Span}
 use Rattle.hcl_token.specs.Tokens.{Pair, whole_text}
-use Rattle.hcl_token.specs.Pairs.{pair_at, pairs_from, pairs_of, spans_from, InOrder}
+use Rattle.hcl_token.specs.Pairs.{pair_at, pairs_from, pairs_of, spans_from, InOrder, gap_at, gap_from}
 use Rattle.hcl_token.specs.TokenizedText.{AreUtf8, item_after}
-use Rattle.hcl_token.specs.Inner.LineColumn.{gap_at, gap_from, IsWellFormed}
+use Rattle.hcl_token.specs.Inner.LineColumn.{IsWellFormed}
 
 pub order-le : (tokens : List Span) (from last : ℕ) → InOrder from tokens last → from ≤ last
 order-le [] from last o = omega arith

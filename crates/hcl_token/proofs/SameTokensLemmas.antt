@@ -5,10 +5,10 @@ use Rattle.hcl_token.specs.declared.kind.Kind.{Kind}
 use Rattle.hcl_token.specs.declared.span.Span.{Span}
 use Rattle.hcl_token.specs.declared.limit.TheConstants.{MAX_TEXT}
 use Rattle.hcl_token.specs.Tokens.{Pair, whole_text}
-use Rattle.hcl_token.specs.Pairs.{pair_at, pairs_from, InOrder}
+use Rattle.hcl_token.specs.Pairs.{pair_at, pairs_from, InOrder, gap_at, IsTokenRun, token_run}
 use Rattle.hcl_token.specs.TokenizedText.{TokenizedText, pairs_in_range, without_first_gap}
-use Rattle.hcl_token.specs.Inner.LineColumn.{IsWellFormed, gap_at}
-use Rattle.hcl_token.specs.Inner.SameTokens.{none, IsShiftedBy, AreShiftedBy, AreWordsShiftedBy, IsTokenRun, token_run}
+use Rattle.hcl_token.specs.Inner.LineColumn.{IsWellFormed}
+use Rattle.hcl_token.specs.Inner.SameTokens.{none, IsShiftedBy, AreShiftedBy, AreWordsShiftedBy}
 use Rattle.hcl_token.specs.Inner.TokenWord.{number_of}
 use Rattle.hcl_token.proofs.TokenWordLemmas.{kind_same, number_below, words_alike, words_apart}
 use Rattle.hcl_token.proofs.OrderLemmas.{order-le, order-slice, gap-le, pairs-take, pairs-drop, length-range, text_is-slice}

@@ -5,10 +5,10 @@ use Rattle.std.proofs.lemmas.List.{drop_more, drop_all}
 use Rattle.hcl_token.specs.declared.place.Place.{Place}
 use Rattle.hcl_token.specs.declared.span.Span.{Span}
 use Rattle.hcl_token.specs.Tokens.{whole_text}
-use Rattle.hcl_token.specs.Pairs.{pair_at, pairs_from}
+use Rattle.hcl_token.specs.Pairs.{pair_at, pairs_from, gap_from}
 use Rattle.hcl_token.specs.Place.{is_mark}
 use Rattle.hcl_token.specs.Inner.AsciiText.{is_ascii_without_cr}
-use Rattle.hcl_token.specs.Inner.LineColumn.{IsPlaceBounded, IsTokenRange, place_after_piece, place_after_pair, place_after_pairs, gap_from, has_mark}
+use Rattle.hcl_token.specs.Inner.LineColumn.{IsPlaceBounded, IsTokenRange, place_after_piece, place_after_pair, place_after_pairs, has_mark}
 use Rattle.hcl_token.proofs.ClusterLemmas.{ascii-append}
 use Rattle.hcl_token.proofs.OrderLemmas.{order-le, pairs-take}
 use Rattle.hcl_token.proofs.PlaceLemmas.{place_after_piece-nil, place_after_piece-append}
@@ -32,7 +32,7 @@ range_others text x tokens from to at following s reached = record {
   bounded = reached;
 }
 
--- the tokens from number i on are still to go over: the gap before them begins at `from`, which is this place
+-- the tokens from number i on are left: the gap before them begins at `from`, which is this place
 pub record IsAlong (text : List ℕ) (tokens : List Span) (begin : ℕ) (start : Place) (i from : ℕ) (at : Place) : Type 0 where
   pub rest : (to : ℕ) × IsTokenRange text (drop i tokens) from to at
   pub value : place_after_pairs at (pairs_from text from (drop i tokens)) ≡ place_after_pairs start (pairs_from text begin tokens)

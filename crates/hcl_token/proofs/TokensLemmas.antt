@@ -3,9 +3,9 @@ use Rattle.std.proofs.Common.{◌≡◌, ℕ, ◌<◌, ◌==◌, ◌↔◌, Bool
 use Rattle.std.specs.Option.{option_map}
 use Rattle.hcl_token.specs.declared.item.Item.{Item}
 use Rattle.hcl_token.specs.declared.span.Span.{Span}
-use Rattle.hcl_token.specs.Pairs.{tokenized_text, pair_at, pairs_of}
+use Rattle.hcl_token.specs.Pairs.{tokenized_text, pair_at, pairs_of, gap_at}
 use Rattle.hcl_token.specs.TokenizedText.{TokenizedText, item_of}
-use Rattle.hcl_token.specs.Inner.LineColumn.{IsWellFormed, gap_at}
+use Rattle.hcl_token.specs.Inner.LineColumn.{IsWellFormed}
 use Rattle.hcl_token.proofs.OrderLemmas.{IsTokenAt, token_at, item_is, length-pairs}
 
 -- the value is a view of a text with its tokens

@@ -1,5 +1,5 @@
 -- Which gaps and tokens are meant by a text and by where its tokens start and stop.
-use Rattle.std.specs.Prelude.{◌≡◌, ℕ, ◌+◌, ◌≤◌, List, [], ◌∷◌, length, drop, slice_range}
+use Rattle.std.specs.Prelude.{◌≡◌, ℕ, zero, suc, ◌+◌, ◌<◌, ◌≤◌, List, [], ◌∷◌, length, drop, slice_range}
 use Rattle.hcl_token.specs.declared.span.Span.{Span}
 use Rattle.hcl_token.specs.declared.limit.TheConstants.{MAX_TEXT}
 use Rattle.hcl_token.specs.TokenizedText.{TokenizedText, AreUtf8}
@@ -34,6 +34,16 @@ spans_from at (p ∷ ps) =
     }
     ∷ spans_from (at + length p.gap + length p.spelling) ps
 
+-- where the gap before token i begins, or the gap after the last token, if the first gap begins at
+-- a place
+abbrev pub gap_from : ℕ → List Span → ℕ → ℕ
+gap_from at [] i = at
+gap_from at (token ∷ tokens) zero = at
+gap_from at (token ∷ tokens) (suc i) = gap_from token.stop tokens i
+
+abbrev pub gap_at : List Span → ℕ → ℕ
+gap_at tokens i = gap_from 0 tokens i
+
 -- the text with its tokens, and with what follows the last of them
 abbrev pub tokenized_text : List ℕ → List Span → ℕ → TokenizedText
 tokenized_text text tokens last_gap_at =
@@ -52,3 +62,14 @@ pub record IsWellFormed (text : List ℕ) (tokens : List Span) (last_gap_at : �
   pub within : last_gap_at ≤ length text
   pub short : length text ≤ MAX_TEXT
   pub utf8 : AreUtf8 (pairs_of text tokens)
+
+-- consecutive tokens of a text, at least one
+pub record IsTokenRun (text : List ℕ) (tokens : List Span) : Type 0 where
+  pub some : 0 < length tokens
+  pub order : (at : ℕ) × (last : ℕ) × InOrder at tokens last × (last ≤ length text)
+  pub short : length text ≤ MAX_TEXT
+
+-- the tokens with the gaps between them
+abbrev pub token_run : List ℕ → List Span → List Pair
+token_run text [] = []
+token_run text (x ∷ tokens) = pairs_from text x.start (x ∷ tokens)

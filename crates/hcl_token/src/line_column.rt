@@ -2,10 +2,10 @@
 
 ghost use Rattle.std.specs.Prelude.{◌≡◌, ℕ, true, ◌+◌, ◌^◌, ◌<◌, ◌≤◌, [], ◌∷◌, length, slice_range, take};
 ghost use Rattle.std.specs.Prelude.{count_by, IsUtf8};
-ghost use Rattle.hcl_token.specs.Pairs.{pair_at, pairs_from, pairs_of};
+ghost use Rattle.hcl_token.specs.Pairs.{pair_at, pairs_from, pairs_of, gap_at};
 ghost use Rattle.hcl_token.specs.Inner.LineColumn.{IsGapPlace, IsOnLine, IsPlaceBounded, IsTokenRange};
 ghost use Rattle.hcl_token.specs.Inner.LineColumn.{place_after_pair, place_after_piece, place_after_pairs};
-ghost use Rattle.hcl_token.specs.Inner.LineColumn.{first_place, gap_at, has_mark};
+ghost use Rattle.hcl_token.specs.Inner.LineColumn.{first_place, has_mark};
 ghost use Rattle.hcl_token.specs.Inner.AsciiText.{is_ascii_without_cr};
 ghost use Rattle.hcl_token.specs.Place.{is_lf, is_mark, last_line, line_of, place_of};
 

@@ -2,7 +2,8 @@
 
 ghost use Rattle.std.specs.Prelude.{◌≡◌, ◌≤◌, ◌+◌, ◌-◌, ◌*◌, ◌%◌, ◌^◌, ◌↔◌, [], IsTrue, length};
 ghost use Rattle.hcl_token.specs.declared.limit.TheConstants.{MAX_TEXT};
-ghost use Rattle.hcl_token.specs.Inner.SameTokens.{AreWordsShiftedBy, IsTokenRun, IsWordShiftedBy, token_run};
+ghost use Rattle.hcl_token.specs.Pairs.{IsTokenRun, token_run};
+ghost use Rattle.hcl_token.specs.Inner.SameTokens.{AreWordsShiftedBy, IsWordShiftedBy};
 ghost use Rattle.hcl_token.specs.Tokens.{whole_text};
 
 use crate::line_column::slice;

@@ -1,5 +1,5 @@
 -- Places found by going forward over the tokens.
-use Rattle.std.specs.Prelude.{◌≡◌, ℕ, zero, suc, ◌+◌, ◌≤◌, ◌==◌, Bool, List, [], ◌∷◌, length, take, count_by}
+use Rattle.std.specs.Prelude.{◌≡◌, ℕ, ◌+◌, ◌≤◌, ◌==◌, Bool, List, [], ◌∷◌, length, take, count_by}
 use Rattle.std.specs.Prelude.{if◌then◌else◌}
 use Rattle.std.specs.List.{list_any}
 use Rattle.hcl_token.specs.declared.place.Place.{Place}
@@ -48,16 +48,6 @@ pub record IsTokenRange (text : List ℕ) (tokens : List Span) (from to : ℕ) (
   pub short : length text ≤ MAX_TEXT
   pub utf8 : AreUtf8 (pairs_from text from tokens)
   pub bounded : IsPlaceBounded at from
-
--- where the gap before token i begins, or the gap after the last token, if the first gap begins at
--- a place
-abbrev pub gap_from : ℕ → List Span → ℕ → ℕ
-gap_from at [] i = at
-gap_from at (token ∷ tokens) zero = at
-gap_from at (token ∷ tokens) (suc i) = gap_from token.stop tokens i
-
-abbrev pub gap_at : List Span → ℕ → ℕ
-gap_at tokens i = gap_from 0 tokens i
 
 -- the place of the gap before a token, counted from the start of the text
 pub record IsGapPlace (text : List ℕ) (tokens : List Span) (last_gap_at from : ℕ) (at : Place) : Type 0 where

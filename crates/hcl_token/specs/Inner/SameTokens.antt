@@ -1,10 +1,7 @@
 -- Tokens that lie alike in two texts.
-use Rattle.std.specs.Prelude.{◌≡◌, ℕ, ◌+◌, ◌-◌, ◌%◌, ◌^◌, ◌<◌, ◌≤◌, List, [], ◌∷◌, length, slice_index_or}
+use Rattle.std.specs.Prelude.{◌≡◌, ℕ, ◌+◌, ◌-◌, ◌%◌, ◌^◌, ◌<◌, List, length, slice_index_or}
 use Rattle.hcl_token.specs.declared.kind.Kind.TheVariants.{Mark}
 use Rattle.hcl_token.specs.declared.span.Span.{Span}
-use Rattle.hcl_token.specs.declared.limit.TheConstants.{MAX_TEXT}
-use Rattle.hcl_token.specs.Tokens.{Pair}
-use Rattle.hcl_token.specs.Pairs.{pairs_from, InOrder}
 use Rattle.hcl_token.specs.Inner.TokenWord.{word_of}
 
 -- what a look-up names where there is no token
@@ -29,14 +26,3 @@ IsWordShiftedBy shift x y = (word_of x + 2 ^ 64 - word_of y) % 2 ^ 64 ≡ shift
 abbrev pub AreWordsShiftedBy : ℕ → List Span → List Span → Type 0
 AreWordsShiftedBy shift xs ys =
     (k : ℕ) → k < length xs → IsWordShiftedBy shift (slice_index_or xs k none) (slice_index_or ys k none)
-
--- consecutive tokens of a text, at least one
-pub record IsTokenRun (text : List ℕ) (tokens : List Span) : Type 0 where
-  pub some : 0 < length tokens
-  pub order : (at : ℕ) × (last : ℕ) × InOrder at tokens last × (last ≤ length text)
-  pub short : length text ≤ MAX_TEXT
-
--- the tokens with the gaps between them
-abbrev pub token_run : List ℕ → List Span → List Pair
-token_run text [] = []
-token_run text (x ∷ tokens) = pairs_from text x.start (x ∷ tokens)

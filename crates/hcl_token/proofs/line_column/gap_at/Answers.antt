@@ -1,6 +1,6 @@
 use Rattle.std.proofs.Common.{◌≡◌, ◌-◌, suc, sym, ap, ◌∙◌, arith}
 use Rattle.hcl_token.specs.declared.span.Span.{Span}
-use Rattle.hcl_token.specs.Inner.LineColumn.{gap_at}
+use Rattle.hcl_token.specs.Pairs.{gap_at}
 use Rattle.hcl_token.proofs.OrderLemmas.{gap-first, gap-after}
 use Rattle.hcl_token.proofs.line_column.gap_at.Goals as goal
 

@@ -1,6 +1,6 @@
 use Rattle.std.proofs.Common.{ap, ap₂, ◌∙◌, arith, slice_range, count_by, length}
 use Rattle.hcl_token.specs.Place.{is_lf}
-use Rattle.hcl_token.specs.Inner.LineColumn.{gap_at}
+use Rattle.hcl_token.specs.Pairs.{gap_at}
 use Rattle.hcl_token.proofs.CountLemmas.{line_over, line_reached}
 use Rattle.hcl_token.proofs.OrderLemmas.{gap-le, length-range, order-le, order-slice}
 use Rattle.hcl_token.proofs.line_column.gap_line.Goals as goal

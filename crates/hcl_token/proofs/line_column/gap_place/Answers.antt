@@ -1,8 +1,8 @@
 use Rattle.std.proofs.Common.{◌≡◌, ◌+◌, ◌-◌, List, sym, ap, subst, ◌∙◌, arith, slice_range, take}
 use Rattle.hcl_token.specs.declared.place.Place.{Place}
 use Rattle.hcl_token.specs.declared.span.Span.{Span}
-use Rattle.hcl_token.specs.Pairs.{pairs_from, pairs_of}
-use Rattle.hcl_token.specs.Inner.LineColumn.{IsPlaceBounded, place_after_pairs, first_place, gap_at}
+use Rattle.hcl_token.specs.Pairs.{pairs_from, pairs_of, gap_at}
+use Rattle.hcl_token.specs.Inner.LineColumn.{IsPlaceBounded, place_after_pairs, first_place}
 use Rattle.hcl_token.proofs.TokenRangeLemmas.{place_after_pairs-slice}
 use Rattle.hcl_token.proofs.LineColumnLemmas.{start_bounded, pairs_in_range}
 use Rattle.hcl_token.proofs.line_column.gap_place.Goals as goal

@@ -1,8 +1,8 @@
 use Rattle.std.proofs.Common.{length, sym, ap, ap₂, subst, ◌∙◌, arith, slice_range, IsUtf8}
 use Rattle.hcl_token.specs.declared.place.Place.{Place}
 use Rattle.hcl_token.specs.declared.span.Span.{Span}
-use Rattle.hcl_token.specs.Pairs.{pair_at, pairs_of}
-use Rattle.hcl_token.specs.Inner.LineColumn.{IsPlaceBounded, place_after_piece, gap_at}
+use Rattle.hcl_token.specs.Pairs.{pair_at, pairs_of, gap_at}
+use Rattle.hcl_token.specs.Inner.LineColumn.{IsPlaceBounded, place_after_piece}
 use Rattle.hcl_token.proofs.OrderLemmas.{token_at, length-range}
 use Rattle.hcl_token.proofs.PlaceLemmas.{place_found}
 use Rattle.hcl_token.proofs.LineColumnLemmas.{start_bounded}

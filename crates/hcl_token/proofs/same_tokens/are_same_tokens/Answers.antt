@@ -1,6 +1,7 @@
 use Rattle.std.proofs.Common.{◌≡◌, true, List, [], sym, ap, ap₂, subst, ◌∙◌, arith}
 use Rattle.hcl_token.specs.Tokens.{Pair, whole_text}
-use Rattle.hcl_token.specs.Inner.SameTokens.{token_run, AreWordsShiftedBy}
+use Rattle.hcl_token.specs.Pairs.{token_run}
+use Rattle.hcl_token.specs.Inner.SameTokens.{AreWordsShiftedBy}
 use Rattle.hcl_token.proofs.SameTokensLemmas.{begin_of, begins_at, run_within, same_pairs, same_places, shift_between}
 use Rattle.hcl_token.proofs.same_tokens.are_same_tokens.Goals as goal
 

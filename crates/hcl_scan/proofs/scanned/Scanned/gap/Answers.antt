@@ -2,7 +2,7 @@ use Rattle.std.proofs.Common.{List, Some, sym, ap, ap₂, subst, ◌∙◌, arit
 use Rattle.std.specs.Option.{option_map}
 use Rattle.hcl_token.specs.declared.span.Span.{Span}
 use Rattle.hcl_token.specs.Tokens.{Pair}
-use Rattle.hcl_token.specs.Inner.LineColumn.{gap_at}
+use Rattle.hcl_token.specs.Pairs.{gap_at}
 use Rattle.hcl_token.proofs.TokensLemmas.{known_token, known_pair, number_is}
 use Rattle.hcl_scan.proofs.scanned.Scanned.gap.Goals as goal
 

@@ -1,6 +1,6 @@
 use Rattle.std.proofs.Common.{List, ap, ◌∙◌, arith}
 use Rattle.hcl_token.specs.declared.span.Span.{Span}
-use Rattle.hcl_token.specs.Inner.LineColumn.{gap_at}
+use Rattle.hcl_token.specs.Pairs.{gap_at}
 use Rattle.hcl_token.proofs.TokensLemmas.{known_token, known_place, number_is}
 use Rattle.hcl_scan.proofs.scanned.Scanned.item.Goals as goal
 
