@@ -37,7 +37,11 @@ impl<T, A: Allocator> Boxed<T, A> {
 }
 
 impl<T: Drop, A: Allocator> Boxed<T, A> {
-    /// Puts a value into memory of its own. Where that can't be allocated, the value is dropped.
+    /// Puts a value into memory of its own.
+    ///
+    /// # Errors
+    ///
+    /// Returns `AllocError` if memory runs out, and drops the value.
     pub fn new(alloc: A, value: T) -> Result<Boxed<T, A>, AllocError>
         ensures { IfOk result (λ b. b ≡ value) }
     {

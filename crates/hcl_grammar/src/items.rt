@@ -36,6 +36,10 @@ impl<T, A: Allocator> Items<T, A> {
     }
 
     /// Returns an empty list with capacity for `count` elements.
+    ///
+    /// # Errors
+    ///
+    /// Returns `AllocError` if memory runs out.
     pub fn with_capacity(alloc: A, count: usize) -> Result<Items<T, A>, AllocError>
         ensures { IfOk result (λ it. it ≡ []) }
     {
@@ -88,8 +92,12 @@ impl<T: Drop, A: Allocator + Copy> Items<T, A> {
         Ok(())
     }
 
-    /// Adds an element at the end. Where memory for it can't be allocated, the element is dropped
-    /// and the list stays as it was.
+    /// Adds an element at the end.
+    ///
+    /// # Errors
+    ///
+    /// Returns `AllocError` if memory runs out. The element is dropped, and the list stays as it
+    /// was.
     pub fn push(&mut self, item: T) -> Result<(), AllocError>
         ensures ok { OnOk result (self.new ≡ self.old ++ item ∷ []) }
         ensures err { OnErr result (self.new ≡ self.old) }

@@ -51,6 +51,10 @@ pub fn elem(key: Expr, value: Expr) -> Elem
 }
 
 /// Returns an operand followed by operators; with none, the operand alone.
+///
+/// # Errors
+///
+/// Returns `Memory` if memory runs out. It takes none if there is no operator.
 pub fn binary(
     alloc: Global,
     first: u32,
@@ -90,6 +94,10 @@ pub fn postfix(first: u32, past: u32, head: Boxed<Term>, tails: Boxed<Items<Tail
 }
 
 /// Returns a call of a function.
+///
+/// # Errors
+///
+/// Returns `AllocError` if memory runs out.
 #[tactic(auto, unfolding(crate::specs::Nodes::call))]
 pub fn call(
     alloc: Global,
@@ -122,6 +130,10 @@ pub fn intro(first: u32, past: u32, name: u32, second_name: Option<u32>, collect
 }
 
 /// Returns a `for` in brackets.
+///
+/// # Errors
+///
+/// Returns `AllocError` if memory runs out.
 #[tactic(auto, unfolding(crate::specs::Nodes::for_tuple))]
 pub fn for_tuple(
     alloc: Global,
@@ -140,6 +152,10 @@ pub fn for_tuple(
 }
 
 /// Returns a `for` in braces.
+///
+/// # Errors
+///
+/// Returns `AllocError` if memory runs out.
 #[tactic(auto, unfolding(crate::specs::Nodes::for_object))]
 pub fn for_object(
     alloc: Global,
@@ -170,6 +186,10 @@ pub fn template(first: u32, past: u32, parts: Items<Part>) -> Template
 }
 
 /// Returns an `if` directive.
+///
+/// # Errors
+///
+/// Returns `AllocError` if memory runs out.
 #[tactic(auto, unfolding(crate::specs::Nodes::if_part))]
 pub fn if_part(
     alloc: Global,
@@ -192,6 +212,10 @@ pub fn if_part(
 }
 
 /// Returns a `for` directive.
+///
+/// # Errors
+///
+/// Returns `AllocError` if memory runs out.
 #[tactic(auto, unfolding(crate::specs::Nodes::for_part))]
 pub fn for_part(
     alloc: Global,
@@ -225,6 +249,10 @@ pub fn attribute(first: u32, past: u32, value: Boxed<Expr>) -> Attribute
 }
 
 /// Returns the content of a block with one attribute, on one line.
+///
+/// # Errors
+///
+/// Returns `AllocError` if memory runs out.
 pub fn one_line(alloc: Global, attribute: Attribute) -> Result<Content, AllocError>
     ensures { IfOk result (λ c. c ≡ content.OneLine (Some attribute)) }
 {
@@ -232,6 +260,10 @@ pub fn one_line(alloc: Global, attribute: Attribute) -> Result<Content, AllocErr
 }
 
 /// Returns the content of a block with a body, on lines of its own.
+///
+/// # Errors
+///
+/// Returns `AllocError` if memory runs out.
 pub fn block_body(alloc: Global, body: Body) -> Result<Content, AllocError>
     ensures { IfOk result (λ c. c ≡ content.Body body) }
 {
