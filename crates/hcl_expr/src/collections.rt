@@ -13,6 +13,10 @@ use hcl_token::Kind;
 impl<'s, 't> Reader<'s, 't> {
     /// Takes the arguments of a call and the parenthesis after them. The flag says whether `...`
     /// follows the last.
+    ///
+    /// # Errors
+    ///
+    /// The first error, reading from left to right; `Memory` if an allocation fails before that.
     #[cycle(nest)]
     pub fn arguments(&self, at: &mut u32) -> Result<(Items<Expr>, bool), TokenFault>
         ensures { Reads (spec.arguments self.now at.old) result at.new }
@@ -113,6 +117,10 @@ impl<'s, 't> Reader<'s, 't> {
     }
 
     /// Takes what a `for` begins with, up to the colon, and puts it in memory of its own.
+    ///
+    /// # Errors
+    ///
+    /// The first error, reading from left to right; `Memory` if an allocation fails before that.
     #[cycle(nest)]
     pub fn boxed_intro(&self, at: &mut u32) -> Result<Boxed<Intro>, TokenFault>
         ensures { Reads (spec.intro self.now at.old) result at.new }
@@ -138,6 +146,10 @@ impl<'s, 't> Reader<'s, 't> {
     }
 
     /// Takes the rest of a tuple, after its bracket.
+    ///
+    /// # Errors
+    ///
+    /// The first error, reading from left to right; `Memory` if an allocation fails before that.
     #[cycle(nest)]
     #[tactic(auto, unfolding(hcl_grammar::specs::Pure::Parser::tuple))]
     pub fn tuple(&self, first: u32, at: &mut u32) -> Result<Term, TokenFault>
@@ -149,6 +161,10 @@ impl<'s, 't> Reader<'s, 't> {
     }
 
     /// Takes the rest of an object, after its brace.
+    ///
+    /// # Errors
+    ///
+    /// The first error, reading from left to right; `Memory` if an allocation fails before that.
     #[cycle(nest)]
     #[tactic(auto, unfolding(hcl_grammar::specs::Pure::Parser::object))]
     pub fn object(&self, first: u32, at: &mut u32) -> Result<Term, TokenFault>
@@ -161,6 +177,10 @@ impl<'s, 't> Reader<'s, 't> {
     }
 
     /// Takes the rest of a `for` in brackets, after the bracket.
+    ///
+    /// # Errors
+    ///
+    /// The first error, reading from left to right; `Memory` if an allocation fails before that.
     #[cycle(nest)]
     #[tactic(auto, unfolding(hcl_grammar::specs::Pure::Parser::for_tuple))]
     pub fn for_tuple(&self, first: u32, at: &mut u32) -> Result<Term, TokenFault>
@@ -198,6 +218,10 @@ impl<'s, 't> Reader<'s, 't> {
     }
 
     /// Takes the rest of a `for` in braces, after the brace.
+    ///
+    /// # Errors
+    ///
+    /// The first error, reading from left to right; `Memory` if an allocation fails before that.
     #[cycle(nest)]
     #[tactic(auto, unfolding(hcl_grammar::specs::Pure::Parser::for_object))]
     pub fn for_object(&self, first: u32, at: &mut u32) -> Result<Term, TokenFault>

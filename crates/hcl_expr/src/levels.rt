@@ -60,6 +60,10 @@ impl<'s, 't> Reader<'s, 't> {
     }
 
     /// Takes an expression, or an operand.
+    ///
+    /// # Errors
+    ///
+    /// The first error, reading from left to right; `Memory` if an allocation fails before that.
     #[cycle(nest)]
     pub fn expr(&self, goal: Goal, at: &mut u32) -> Result<Expr, TokenFault>
         ensures { Reads (spec.expr self.now goal at.old) result at.new }
@@ -71,6 +75,10 @@ impl<'s, 't> Reader<'s, 't> {
     }
 
     /// Takes an expression, or an operand, and puts it in memory of its own.
+    ///
+    /// # Errors
+    ///
+    /// The first error, reading from left to right; `Memory` if an allocation fails before that.
     #[cycle(nest)]
     pub fn boxed_expr(&self, goal: Goal, at: &mut u32) -> Result<Boxed<Expr>, TokenFault>
         ensures { Reads (spec.expr self.now goal at.old) result at.new }
@@ -214,6 +222,10 @@ impl<'s, 't> Reader<'s, 't> {
 
     /// Takes an operand: a term with its tails, or one with an operator before it. Its first token
     /// is looked at once. (Inlined, so that its answer is not copied once more.)
+    ///
+    /// # Errors
+    ///
+    /// The first error, reading from left to right; `Memory` if an allocation fails before that.
     #[cycle(nest)]
     #[inline(always)]
     #[tactic(auto, unfolding(hcl_grammar::specs::Pure::Parser::unary, hcl_grammar::specs::Pure::Parser::eat_unary_operator, hcl_grammar::specs::Pure::Parser::post, hcl_grammar::specs::Pure::Parser::term, hcl_grammar::specs::Pure::Reading::bump, hcl_grammar::specs::Tokens::after_next))]

@@ -35,6 +35,10 @@ impl<'s, 't> Reader<'s, 't> {
 
     /// Takes a line end with the comment before it, if one of them comes next. A comment must
     /// be followed by a line end.
+    ///
+    /// # Errors
+    ///
+    /// `Syntax` if no line end follows the comment.
     #[tactic(auto, unfolding(hcl_grammar::specs::Pure::Parser::eat_inner_newline))]
     pub fn eat_inner_newline(&self, at: &mut u32) -> Result<bool, TokenFault>
         ensures { ReadsExactly (spec.eat_inner_newline self.now at.old) result at.new }
@@ -48,6 +52,10 @@ impl<'s, 't> Reader<'s, 't> {
     }
 
     /// Takes the line ends that come next.
+    ///
+    /// # Errors
+    ///
+    /// `Syntax` if no line end follows a comment.
     pub fn skip_newlines(&self, at: &mut u32) -> Result<(), TokenFault>
         ensures { ReadsExactly (spec.skip_newlines self.now at.old) result at.new }
     {
@@ -73,6 +81,10 @@ impl<'s, 't> Reader<'s, 't> {
     }
 
     /// Takes a separator, else the closing brace.
+    ///
+    /// # Errors
+    ///
+    /// `Syntax` if neither comes next, or no line end follows a comment.
     #[tactic(auto, unfolding(hcl_grammar::specs::Pure::Parser::eat_separator_or_brace))]
     pub fn eat_separator_or_brace(&self, at: &mut u32) -> Result<bool, TokenFault>
         ensures { ReadsExactly (spec.eat_separator_or_brace self.now at.old) result at.new }
@@ -85,6 +97,10 @@ impl<'s, 't> Reader<'s, 't> {
     }
 
     /// Returns an error if a token comes next.
+    ///
+    /// # Errors
+    ///
+    /// `Syntax`, with the number of the token that comes next.
     pub fn expect_end(&self, at: &mut u32) -> Result<(), TokenFault>
         ensures { ReadsExactly (spec.expect_end self.now at.old) result at.new }
     {
@@ -97,6 +113,10 @@ impl<'s, 't> Reader<'s, 't> {
 
     /// Takes the end of a line: a line end with the comment before it, or the end of the text after
     /// a comment or none.
+    ///
+    /// # Errors
+    ///
+    /// `Syntax` if another token comes next.
     #[tactic(auto, unfolding(hcl_grammar::specs::Pure::BodyParser::eol))]
     pub fn eol(&self, at: &mut u32) -> Result<(), TokenFault>
         ensures { ReadsExactly (spec.eol self.now at.old) result at.new }

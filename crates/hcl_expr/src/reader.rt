@@ -134,6 +134,10 @@ impl<'s, 't> Reader<'s, 't> {
     }
 
     /// Takes a token of this kind, which must come next.
+    ///
+    /// # Errors
+    ///
+    /// `Syntax`, with the next token's number, if another token or none comes next.
     #[tactic(auto, unfolding(hcl_grammar::specs::Pure::Reading::expect, hcl_grammar::specs::Pure::Reading::after_if_next))]
     pub fn expect(&self, kind: Kind, at: &mut u32) -> Result<(), TokenFault>
         ensures { ReadsExactly (spec.expect self.now kind at.old) result at.new }
@@ -158,6 +162,10 @@ impl<'s, 't> Reader<'s, 't> {
     }
 
     /// Opens a construct at this token, if one more may nest.
+    ///
+    /// # Errors
+    ///
+    /// `TooDeep`, with this token, if no more may nest.
     pub fn enter(&self, opening: u32, at: &mut u32) -> Result<Reader<'s, 't>, TokenFault>
         ensures { Enters self.now opening at.old result at.new }
     {
@@ -185,6 +193,10 @@ impl<'s, 't> Reader<'s, 't> {
     }
 
     /// Opens a directive and its braces at this token, if two more constructs may nest.
+    ///
+    /// # Errors
+    ///
+    /// `TooDeep`, with this token, if fewer than two more may nest.
     pub fn enter_two(
         &self,
         opening: u32,

@@ -124,6 +124,10 @@ impl<'s, 't> Reader<'s, 't> {
 
     /// Takes a term with its tails, after its first token, which is `first`. Most have none, as one
     /// look after it shows.
+    ///
+    /// # Errors
+    ///
+    /// The first error, reading from left to right; `Memory` if an allocation fails before that.
     #[cycle(nest)]
     pub fn post(&self, first: u32, kind: Kind, at: &mut u32) -> Result<Expr, TokenFault>
         ensures { Reads (spec.post_by self.now first kind at.old) result at.new }

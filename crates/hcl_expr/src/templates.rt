@@ -46,6 +46,10 @@ impl<'s, 't> Reader<'s, 't> {
     }
 
     /// Takes the parts of a template, and this token after them.
+    ///
+    /// # Errors
+    ///
+    /// The first error, reading from left to right; `Memory` if an allocation fails before that.
     #[cycle(nest)]
     #[tactic(auto, unfolding(hcl_grammar::specs::Pure::Parser::template_until))]
     pub fn template_until(&self, close: Kind, at: &mut u32) -> Result<Template, TokenFault>
@@ -187,6 +191,10 @@ impl<'s, 't> Reader<'s, 't> {
     }
 
     /// Takes the parts of a template, up to what ends them.
+    ///
+    /// # Errors
+    ///
+    /// The first error, reading from left to right; `Memory` if an allocation fails before that.
     #[cycle(nest)]
     pub fn parts(&self, at: &mut u32) -> Result<Items<Part>, TokenFault>
         ensures { Reads (spec.parts self.now at.old) result at.new }

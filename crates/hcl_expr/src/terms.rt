@@ -122,6 +122,10 @@ impl<'s, 't> Reader<'s, 't> {
     }
 
     /// Takes the rest of a term, after its first token, which is `first`.
+    ///
+    /// # Errors
+    ///
+    /// The first error, reading from left to right; `Memory` if an allocation fails before that.
     #[cycle(nest)]
     pub fn term(&self, first: u32, kind: Kind, at: &mut u32) -> Result<Term, TokenFault>
         ensures { Reads (spec.term_by self.now first kind at.old) result at.new }

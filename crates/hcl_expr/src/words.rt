@@ -24,6 +24,10 @@ impl<'s, 't> Reader<'s, 't> {
     }
 
     /// Takes this word, which must come next.
+    ///
+    /// # Errors
+    ///
+    /// `Syntax`, with the next token's number, if another token or none comes next.
     #[tactic(auto, unfolding(hcl_grammar::specs::Pure::Reading::expect_word, hcl_grammar::specs::Pure::Reading::next_is_word, hcl_grammar::specs::Tokens::next_token, hcl_grammar::specs::Tokens::after_next))]
     pub fn expect_word(&self, word: &[u8], at: &mut u32) -> Result<(), TokenFault>
         ensures { ReadsExactly (spec.expect_word self.now word.now at.old) result at.new }
@@ -62,6 +66,10 @@ impl<'s, 't> Reader<'s, 't> {
     }
 
     /// Takes the second name of a `for`, if it has one.
+    ///
+    /// # Errors
+    ///
+    /// `Syntax` if no name follows the comma.
     #[tactic(auto, unfolding(hcl_grammar::specs::Pure::Parser::second_name))]
     pub fn second_name(&self, at: &mut u32) -> Result<Option<u32>, TokenFault>
         ensures { ReadsExactly (spec.second_name self.now at.old) result at.new }
@@ -76,6 +84,10 @@ impl<'s, 't> Reader<'s, 't> {
     }
 
     /// Takes the rest of a function's names, after the first, which was read; returns them all.
+    ///
+    /// # Errors
+    ///
+    /// `Syntax` if no name follows a `::`; `Memory` if an allocation fails before that.
     pub fn names(&self, first: u32, at: &mut u32) -> Result<Items<u32>, TokenFault>
         ensures first { IfOk result (λ names. names ≡ first ∷ drop 1 names) }
         ensures reads { Reads (spec.names self.now at.old)

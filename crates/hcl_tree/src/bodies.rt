@@ -136,6 +136,10 @@ pub fn members(reader: &Reader<'_, '_>, at: &mut u32) -> Result<Items<Member>, T
 /// Takes the next member of a text's body, if one comes next.
 ///
 /// Line ends before it are not taken. `parse` makes its tree of a text's members in order.
+///
+/// # Errors
+///
+/// The first error, reading from left to right; `Memory` if an allocation fails before that.
 pub fn member(reader: &Reader<'_, '_>, at: &mut u32) -> Result<Option<Member>, TokenFault>
     ensures derived { IsMemberResult reader.now.tokens reader.now.depth at.old result at.new }
     ensures reads { Reads (spec.member reader.now at.old) result at.new }
