@@ -20,14 +20,14 @@ use Rattle.hcl_token.specs.declared.kind.Kind.{Kind}
 use Rattle.hcl_token.specs.declared.kind.Kind.TheVariants as k
 use Rattle.hcl_grammar.specs.declared.tree.Elem.{Elem}
 use Rattle.hcl_grammar.specs.declared.tree.Expr.{Expr}
-use Rattle.hcl_grammar.specs.declared.tree.ExprKind.TheVariants as form
+use Rattle.hcl_grammar.specs.declared.tree.ExprKind.TheVariants as expr_kind
 use Rattle.hcl_grammar.specs.declared.tree.Intro.{Intro}
 use Rattle.hcl_grammar.specs.declared.tree.Operation.{Operation}
 use Rattle.hcl_grammar.specs.declared.tree.BinaryOperator.{BinaryOperator}
 use Rattle.hcl_grammar.specs.declared.tree.Part.{Part}
 use Rattle.hcl_grammar.specs.declared.tree.Part.TheVariants as part
 use Rattle.hcl_grammar.specs.declared.tree.UnaryOperator.{UnaryOperator}
-use Rattle.hcl_grammar.specs.declared.tree.Primary.TheVariants as shape
+use Rattle.hcl_grammar.specs.declared.tree.Primary.TheVariants as primary
 use Rattle.hcl_grammar.specs.declared.tree.Tail.{Tail}
 use Rattle.hcl_grammar.specs.declared.tree.Tail.TheVariants as tail
 use Rattle.hcl_grammar.specs.declared.tree.Template.{Template}
@@ -50,7 +50,7 @@ mutual
         → NextIs ts m k.Question j → IsExpr ts d m then_branch (after_next ts m j) n
         → NextIs ts m k.Colon n → IsExpr ts d m else_branch (after_next ts m n) l
         → IsExpr ts (suc d) m
-        (node.expr (next_index ts m i) l (form.Conditional c then_branch else_branch)) i l
+        (node.expr (next_index ts m i) l (expr_kind.Conditional c then_branch else_branch)) i l
 
   -- Or = And (two bars And)*
   --
@@ -86,7 +86,7 @@ mutual
   pub data IsUnary (ts : List Token) : ℕ → Bool → Expr → ℕ → ℕ → Type 0 where
     with_operator : {d : ℕ} {m : Bool} {t : Kind} {op : UnaryOperator} {e : Expr} {i j : ℕ}
         → NextIs ts m t i → unary_operator t ≡ Some op → IsUnary ts d m e (after_next ts m i) j
-        → IsUnary ts (suc d) m (node.expr (next_index ts m i) j (form.Unary op e)) i j
+        → IsUnary ts (suc d) m (node.expr (next_index ts m i) j (expr_kind.Unary op e)) i j
     -- Post = Term Tail*
     post : {d : ℕ} {m : Bool} {head : Term} {tails : List Tail} {i j l : ℕ}
         → IsTerm ts d m head i j → IsTails ts d m tails j l
@@ -119,13 +119,14 @@ mutual
   -- Term = Number | Identifier | Call | Tuple | Object | For | Quoted | Heredoc | "(" Expr ")"
   pub data IsTerm (ts : List Token) : ℕ → Bool → Term → ℕ → ℕ → Type 0 where
     number : {d : ℕ} {m : Bool} {i : ℕ} → NextIs ts m k.Number i
-        → IsTerm ts d m (node.term (next_index ts m i) (after_next ts m i) shape.Number) i (after_next ts m i)
+        → IsTerm ts d m
+        (node.term (next_index ts m i) (after_next ts m i) primary.Number) i (after_next ts m i)
     -- a Term that is an Identifier is not followed by `(` or `::`
     identifier : {d : ℕ} {m : Bool} {i : ℕ} → NextIs ts m k.Identifier i
         → next_kind ts m (after_next ts m i) ≢ Some k.OpenParen
         → next_kind ts m (after_next ts m i) ≢ Some k.DoubleColon
         → IsTerm ts d m
-        (node.term (next_index ts m i) (after_next ts m i) shape.Identifier) i (after_next ts m i)
+        (node.term (next_index ts m i) (after_next ts m i) primary.Identifier) i (after_next ts m i)
     -- Call = Identifier ("::" Identifier)* "(" (Expr ("," Expr)* (","|"...")?)? ")"
     call : {d : ℕ} {m : Bool} {names : List ℕ} {es : List Expr} {expand_final : Bool} {i j l : ℕ}
         → NextIs ts m k.Identifier i
@@ -137,13 +138,13 @@ mutual
     tuple : {d : ℕ} {m : Bool} {es : List Expr} {i j : ℕ} → NextIs ts m k.OpenBracket i
         → NextIsNotWord ts true for_word (after_next ts m i)
         → IsItems ts d es (after_next ts m i) j
-        → IsTerm ts (suc d) m (node.term (next_index ts m i) j (shape.Tuple es)) i j
+        → IsTerm ts (suc d) m (node.term (next_index ts m i) j (primary.Tuple es)) i j
     -- Object = "{" nl* (Elem (Sep Elem)* Sep?)? "}", and no "for" follows the `{` and line ends
     -- and comments
     object : {d : ℕ} {m : Bool} {xs : List Elem} {i j l : ℕ} → NextIs ts m k.OpenBrace i
         → NextIsNotWord ts true for_word (after_next ts m i)
         → IsNewlines ts (after_next ts m i) j → IsElems ts d xs j l
-        → IsTerm ts (suc d) m (node.term (next_index ts m i) l (shape.Object xs)) i l
+        → IsTerm ts (suc d) m (node.term (next_index ts m i) l (primary.Object xs)) i l
     -- For = "[" Intro ":" Expr ("if" Expr)? "]"
     for_tuple : {d : ℕ} {m : Bool} {x : Intro} {value : Expr} {filter : Option Expr} {i j n l : ℕ}
         → NextIs ts m k.OpenBracket i
@@ -166,19 +167,19 @@ mutual
         → IsParts ts d m ps (after_next ts m i) j → NextIs ts m k.QuoteClose j
         → IsTerm ts (suc d) m
         (node.term (next_index ts m i) (after_next ts m j)
-        (shape.Quoted (node.template (first_token_in ts m (after_next ts m i) j) j ps))) i
+        (primary.Quoted (node.template (first_token_in ts m (after_next ts m i) j) j ps))) i
         (after_next ts m j)
     -- Heredoc = HereOpen Parts HereClose
     heredoc : {d : ℕ} {m : Bool} {ps : List Part} {i j : ℕ} → NextIs ts m k.HereOpen i
         → IsParts ts d m ps (after_next ts m i) j → NextIs ts m k.HereClose j
         → IsTerm ts (suc d) m
         (node.term (next_index ts m i) (after_next ts m j)
-        (shape.Heredoc (node.template (first_token_in ts m (after_next ts m i) j) j ps))) i
+        (primary.Heredoc (node.template (first_token_in ts m (after_next ts m i) j) j ps))) i
         (after_next ts m j)
     -- "(" Expr ")"
     parens : {d : ℕ} {m : Bool} {e : Expr} {i j : ℕ} → NextIs ts m k.OpenParen i
         → IsExpr ts d true e (after_next ts m i) j → NextIs ts true k.CloseParen j
-        → IsTerm ts (suc d) m (node.term (next_index ts m i) (after_next ts true j) (shape.Parens e)) i
+        → IsTerm ts (suc d) m (node.term (next_index ts m i) (after_next ts true j) (primary.Parens e)) i
         (after_next ts true j)
 
   -- (Expr ("," Expr)* (","|"...")?)? and `)`; whether `...` is there

@@ -12,7 +12,7 @@ use Rattle.hcl_grammar.specs.declared.tree.ForDirective.{roll-ForDirective}
 use Rattle.hcl_grammar.specs.declared.tree.ForObject.{roll-ForObject}
 use Rattle.hcl_grammar.specs.declared.tree.ForTuple.{roll-ForTuple}
 use Rattle.hcl_grammar.specs.declared.tree.ExprKind.{ExprKind}
-use Rattle.hcl_grammar.specs.declared.tree.ExprKind.TheVariants as form
+use Rattle.hcl_grammar.specs.declared.tree.ExprKind.TheVariants as expr_kind
 use Rattle.hcl_grammar.specs.declared.tree.IfDirective.{roll-IfDirective}
 use Rattle.hcl_grammar.specs.declared.tree.Intro.{Intro, roll-Intro}
 use Rattle.hcl_grammar.specs.declared.tree.Label.{Label}
@@ -23,7 +23,7 @@ use Rattle.hcl_grammar.specs.declared.tree.BinaryOperator.{BinaryOperator}
 use Rattle.hcl_grammar.specs.declared.tree.Part.{Part}
 use Rattle.hcl_grammar.specs.declared.tree.Part.TheVariants as part
 use Rattle.hcl_grammar.specs.declared.tree.Primary.{Primary}
-use Rattle.hcl_grammar.specs.declared.tree.Primary.TheVariants as shape
+use Rattle.hcl_grammar.specs.declared.tree.Primary.TheVariants as primary
 use Rattle.hcl_grammar.specs.declared.tree.Tail.{Tail}
 use Rattle.hcl_grammar.specs.declared.tree.Template.{Template, roll-Template}
 use Rattle.hcl_grammar.specs.declared.tree.Term.{Term, roll-Term}
@@ -48,17 +48,17 @@ elem key value = roll-Elem (record { key = key; value = value })
 -- an operand, followed by operators of one level, if there are any
 abbrev pub binary : ℕ → ℕ → Expr → List Operation → Expr
 binary first past head [] = head
-binary first past head (x ∷ xs) = expr first past (form.Binary head (x ∷ xs))
+binary first past head (x ∷ xs) = expr first past (expr_kind.Binary head (x ∷ xs))
 
 -- a term, with its tails, if there are any
 abbrev pub postfix : ℕ → ℕ → Term → List Tail → Expr
-postfix first past head [] = expr first past (form.Term head)
-postfix first past head (x ∷ xs) = expr first past (form.Postfix head (x ∷ xs))
+postfix first past head [] = expr first past (expr_kind.Term head)
+postfix first past head (x ∷ xs) = expr first past (expr_kind.Postfix head (x ∷ xs))
 
 -- a call: the numbers of its names, its arguments, and whether `...` follows the last
 unfoldable pub call : List ℕ → List Expr → Bool → Primary
 call names arguments expand_final =
-    shape.Call (roll-Call (record { names = names; arguments = arguments; expand_final = expand_final }))
+    primary.Call (roll-Call (record { names = names; arguments = arguments; expand_final = expand_final }))
 
 -- what begins a `for`: the numbers of its names, and what is gone through
 unfoldable pub intro : ℕ → ℕ → ℕ → Option ℕ → Expr → Intro
@@ -74,12 +74,12 @@ intro first past name second collection =
 -- a `for` in brackets, perhaps with a filter
 unfoldable pub for_tuple : Intro → Expr → Option Expr → Primary
 for_tuple i value filter =
-    shape.ForTuple (roll-ForTuple (record { intro = i; value = value; filter = filter }))
+    primary.ForTuple (roll-ForTuple (record { intro = i; value = value; filter = filter }))
 
 -- a `for` in braces; whether `...` follows its value; perhaps with a filter
 unfoldable pub for_object : Intro → Expr → Expr → Bool → Option Expr → Primary
 for_object i key value grouped filter =
-    shape.ForObject (roll-ForObject
+    primary.ForObject (roll-ForObject
     (record { intro = i; key = key; value = value; grouped = grouped; filter = filter }))
 
 -- a template, by its parts
