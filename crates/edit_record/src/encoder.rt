@@ -267,6 +267,10 @@ fn copy_text(out: &mut Vec<u8>, text: &[u8]) -> Result<(), AllocError>
 ///
 /// The capacity is reserved once, so only that allocation can fail. The text of an empty journal
 /// has no bytes. The text of records that [`decode_owned`](crate::decode_owned) read is copied.
+///
+/// # Errors
+///
+/// Returns `AllocError` if memory runs out; never for a journal without records.
 pub fn encode(alloc: Global, journal: &Journal) -> Result<Vec<u8>, AllocError>
     ensures text { IfOk result (λ text. IsCurrentText text.items journal.now) }
     ensures allocates { IfErr result (λ _. 0 < length journal.now) }
@@ -276,6 +280,10 @@ pub fn encode(alloc: Global, journal: &Journal) -> Result<Vec<u8>, AllocError>
 
 /// Returns the text of a journal as [`encode`] does, where its length is known: `len` is what
 /// [`encoded_len`] returns for it.
+///
+/// # Errors
+///
+/// Returns `AllocError` if memory runs out; never for a journal without records.
 pub fn encode_with_len(alloc: Global, journal: &Journal, len: usize) -> Result<Vec<u8>, AllocError>
     requires { len ≡ min (length (journal_text journal.now)) (2 ^ 64 - 1) }
     ensures text { IfOk result (λ text. IsCurrentText text.items journal.now) }
@@ -292,6 +300,10 @@ pub fn encode_with_len(alloc: Global, journal: &Journal, len: usize) -> Result<V
 /// that [`decode_owned`](crate::decode_owned) kept is not copied to another list, but the other
 /// records are written after it. The capacity can be up to four times the length, if records were
 /// removed.
+///
+/// # Errors
+///
+/// Returns `AllocError` if memory runs out; never for a journal without records.
 pub fn encode_owned(journal: Journal, len: usize) -> Result<Vec<u8>, AllocError>
     requires { len ≡ min (length (journal_text journal)) (2 ^ 64 - 1) }
     ensures text { IfOk result (λ text. IsCurrentText text.items journal) }

@@ -1,3 +1,5 @@
+//! Changes of a text that can be applied and undone, and why one is refused.
+
 ghost use Rattle.std.specs.Prelude.{◌≡◌, ◌≢◌, ◌↔◌, List, ℕ, Result, Ok, Err};
 ghost use Rattle.edit_record.specs.declared.lists.change.Refused.TheVariants.{Memory};
 ghost use Rattle.edit_record.specs.declared.lists.change.Refused.{Refused};
@@ -52,10 +54,18 @@ pub trait Change {
     ghost backward: { Self → List ℕ → Result (List ℕ) Refused };
 
     /// Returns the new text of this old one.
+    ///
+    /// # Errors
+    ///
+    /// `Length` or `Differs` if there is none; `Memory` if an allocation fails.
     fn apply(&self, alloc: Global, text: &[u8]) -> Result<Vec<u8>, Refused>
         ensures { AgreesWith result (forward self.now text.now) };
 
     /// Returns the old text of this new one.
+    ///
+    /// # Errors
+    ///
+    /// `Length` or `Differs` if there is none; `Memory` if an allocation fails.
     fn undo(&self, alloc: Global, text: &[u8]) -> Result<Vec<u8>, Refused>
         ensures { AgreesWith result (backward self.now text.now) };
 

@@ -1,3 +1,5 @@
+//! One exact edit of a text.
+
 ghost use Rattle.std.specs.Prelude.{◌≡◌, ◌+◌, ◌≤◌, ◌<◌, length, take, drop, IfOk, IfErr, IfSome};
 ghost use Rattle.edit_record.specs.Lists.Inner.Storage.{removed_of, added_of, IsValidStorage};
 ghost use Rattle.edit_record.specs.declared.lists.edit.TheConstants.{INLINE_CAPACITY};
@@ -56,6 +58,11 @@ impl Model for Edit {
 
 impl Edit {
     /// Makes the edit that removes `removed` at `at`, and adds `added` there.
+    ///
+    /// # Errors
+    ///
+    /// Returns `AllocError` if memory runs out; never for two texts that together have at most
+    /// `INLINE_CAPACITY` bytes.
     pub fn new(alloc: Global, at: usize, removed: &[u8], added: &[u8]) -> Result<Self, AllocError>
         ensures edit { IfOk result
             (λ e. e ≡ record { at = at; removed = removed.now; added = added.now }) }

@@ -1,3 +1,5 @@
+//! A list of exact edits of texts of one length.
+
 ghost use Rattle.std.specs.Prelude.{◌≡◌, ◌+◌};
 
 use crate::lists::direction::Direction;

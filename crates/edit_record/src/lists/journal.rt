@@ -1,3 +1,5 @@
+//! The records of the commands that changed a text.
+
 ghost use Rattle.std.specs.Prelude.{◌≡◌, ◌≤◌, ◌+◌, [], ◌∷◌, ◌++◌, length, take, drop, OnOk, OnErr, IfErr};
 ghost use Rattle.std.specs.Prelude.{IsNone, option_to_list};
 ghost use Rattle.edit_record.specs.Text.{IsCurrentText};

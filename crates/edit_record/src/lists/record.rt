@@ -1,3 +1,5 @@
+//! The change that one command made to a text.
+
 ghost use Rattle.std.specs.Prelude.{◌≡◌};
 ghost use Rattle.edit_record.specs.Lists.Equality.{is_same_word};
 

@@ -10,8 +10,11 @@ ghost use Rattle.edit_record.specs.declared.lists.direction.Direction.TheVariant
 use crate::lists::{Change, Record, Refused};
 use std::alloc::Global;
 
-/// Applies the changes in order, each to what the one before made. The first that has no new text
-/// refuses.
+/// Applies the changes in order, each to what the one before made.
+///
+/// # Errors
+///
+/// The error of the first change that has no new text; `Memory` if an allocation fails before that.
 pub fn apply_all<C: Change>(alloc: Global, changes: &[C], text: &[u8]) -> Result<Vec<u8>, Refused>
     ensures { AgreesWith result (forward_all C.forward changes.now text.now) }
 {
@@ -22,8 +25,12 @@ pub fn apply_all<C: Change>(alloc: Global, changes: &[C], text: &[u8]) -> Result
     Ok(now)
 }
 
-/// Undoes the changes from the last to the first. The first in that order that has no old text
-/// refuses.
+/// Undoes the changes from the last to the first.
+///
+/// # Errors
+///
+/// The error of the first change in that order that has no old text; `Memory` if an allocation
+/// fails before that.
 pub fn undo_all<C: Change>(alloc: Global, changes: &[C], text: &[u8]) -> Result<Vec<u8>, Refused>
     ensures { AgreesWith result (backward_all C.backward changes.now text.now) }
 {

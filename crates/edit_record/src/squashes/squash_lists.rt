@@ -1,3 +1,5 @@
+//! Squashing two lists of edits.
+
 ghost use Rattle.std.specs.Prelude.{◌≡◌, ◌+◌, ◌<◌, length, IfErr};
 ghost use Rattle.edit_record.specs.Lists.Validity.{new_len};
 ghost use Rattle.edit_record.specs.Squashes.Inner.MergeResult.{IsMergeResult};
@@ -42,6 +44,12 @@ impl From<AllocError> for Unmet {
 ///
 /// It takes one pass over both lists, and builds no text. If neither has an edit it allocates
 /// nothing.
+///
+/// # Errors
+///
+/// `LengthsDiffer` if the texts that `first` makes have another length than those that `second`
+/// applies to; `Contradicts`, with the lowest such edit, if an edit of `second` removes bytes that
+/// `first` did not add there; `Memory` if an allocation fails before that.
 pub fn squash(alloc: Global, first: &Edits, second: &Edits) -> Result<Edits, Unmet>
     ensures { IsSquashResult first.now second.now result }
 {

@@ -61,9 +61,11 @@ impl<T: Drop> From<AllocFailed<T>> for SwapFault {
 ///
 /// # Errors
 ///
-/// If an edit of the one list overlaps or touches one of the other in the text between, `Meets`
-/// names the two, each numbered from 0 in its list. `TooLong` means that the text between would
-/// have more than [`MAX_TEXT`] bytes in the other order.
+/// `LengthsDiffer` means that the texts that `first` makes have another length than those that
+/// `second` applies to. If an edit of the one list overlaps or touches one of the other in the text
+/// between, `Meets` names the two, each numbered from 0 in its list. `TooLong` means that the text
+/// between would have more than [`MAX_TEXT`] bytes in the other order, `Memory` that an allocation
+/// failed.
 pub fn swap(alloc: Global, first: &Edits, second: &Edits) -> Result<(Edits, Edits), SwapFault>
     ensures { IsSwapResult first.now second.now result }
 {
