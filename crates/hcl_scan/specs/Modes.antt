@@ -27,7 +27,7 @@ abbrev pub mode_of : List Mode → Mode
 mode_of [] = Expression
 mode_of (mode ∷ modes) = mode
 
--- literal text, in which every blank counts
+-- literal text, in which whitespace belongs to the tokens
 abbrev pub is_literal : Mode → Bool
 is_literal Quoted = true
 is_literal (Heredoc marker at_line_start) = true

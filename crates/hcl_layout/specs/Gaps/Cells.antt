@@ -20,7 +20,7 @@ abbrev pub index_of_first : (Pair → Bool) → List Pair → Option ℕ
 index_of_first test [] = None
 index_of_first test (p ∷ ps) = if test p then Some 0 else option_map suc (index_of_first test ps)
 
--- the same, where the first of the tokens does not count
+-- how many tokens are before the first that meets the test; the list's first token is not tested
 abbrev pub index_after_first : (Pair → Bool) → List Pair → Option ℕ
 index_after_first test [] = None
 index_after_first test (p ∷ ps) = option_map suc (index_of_first test ps)

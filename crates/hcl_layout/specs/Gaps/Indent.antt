@@ -15,8 +15,8 @@ openings pairs = count_by (λ (p : Pair). is_opening p.kind) pairs
 abbrev pub closings : List Pair → ℕ
 closings pairs = count_by (λ (p : Pair). is_closing p.kind) pairs
 
--- The first of these lines is open at each of them: up to each, more has opened than closed, where
--- so much opened and closed before them.
+-- The first of these lines is open at each of them: up to the end of each, more tokens open than
+-- close. `opened` and `closed` count those before the lines.
 abbrev pub stays_open : ℕ → ℕ → List Line → Bool
 stays_open opened closed [] = true
 stays_open opened closed (line ∷ lines) =

@@ -199,7 +199,7 @@ pub(crate) fn is_equal(kind: Kind) -> bool
     matches!(kind, Kind::Equal)
 }
 
-/// Whether the spacing passes over a token of this kind when it looks for the tokens before a gap.
+/// Whether the spacing ignores a token of this kind when it looks for the tokens before a gap.
 pub(crate) fn is_skipped_by_spacing(kind: Kind) -> bool
     ensures { result ≡ is_skipped_by_spacing kind }
 {

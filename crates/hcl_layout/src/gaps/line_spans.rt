@@ -77,7 +77,8 @@ fn can_last_be_joined(spans: &[LineSpan]) -> bool
     can_be_joined(spans[count - 1])
 }
 
-/// Returns whether neither a span nor the last before it can have a cell.
+/// Returns whether neither a span nor the last before it can have a cell; false if there is none
+/// before it.
 fn joins_last(spans: &[LineSpan], span: LineSpan) -> bool
     ensures { result ≡ (can_be_joined span && can_last_be_joined spans.now) }
 {
