@@ -261,7 +261,7 @@ module _ (ts : List Token) where
   no_mark_before (block {i} q ls br nl bs cl el ms) l = sees-other ts false k.Identifier k.Mark i q refl
   no_mark_before (line_block {i} q ls br x cl el ms) l = sees-other ts false k.Identifier k.Mark i q refl
 
-  -- what the file is parsed from: past a byte order mark
+  -- what the file is parsed from: after a byte order mark
   after-mark : {d : ℕ} {ms : List Member} {i j : ℕ} → IsOptionalMark ts i → IsMembers ts d ms i j → IsFileEnd ts j → after_if_next ts false k.Mark 0 ≡ i
   after-mark no_mark ms l = if_next-no ts false k.Mark 0 (no_mark_before ms l)
   after-mark (mark q) ms l = if_next-yes ts false k.Mark 0 q

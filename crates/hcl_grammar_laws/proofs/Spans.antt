@@ -1,4 +1,4 @@
--- A derivation goes forward, and not past the tokens.
+-- A derivation goes forward, and ends within the tokens.
 use Rattle.std.proofs.Common.{◌≡◌, ℕ, zero, suc, ◌<◌, ◌≤◌, max, Bool, List, [], ◌∷◌, length, slice_get, Option, Some, None, refl, arith}
 use Rattle.std.specs.Option.{option_map}
 use Rattle.hcl_token.specs.declared.kind.Kind.{Kind}

@@ -44,7 +44,7 @@ module _ (ts : List Token) (b : ℕ) (r : Result Tree TokenFault) (new : ℕ) (h
   pub only : (t : Tree) → IsFile ts b t → MatchResult r (λ x. x ≡ t) IsMemory
   only t w = found_or r new (omega arith) (file_answers ts b b t w).1 h
 
-  -- at whatever nesting: it is found, or that is the fault
+  -- at whatever nesting: it is found, or that is the error
   pub deeper_only : (d : ℕ) (t : Tree) → IsFile ts d t → MatchResult r (λ x. x ≡ t) IsMemoryOrDeep
   deeper_only d t w = deep_or r new (file_answers ts b d t w).1 h
 
