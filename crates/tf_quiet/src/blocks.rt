@@ -1,7 +1,7 @@
 //! Blocks that must have some attributes, and blocks whose attributes declare names.
 
 ghost use Rattle.std.specs.Prelude.{◌≡◌, ◌<◌, ◌≤◌, ◌+◌, ◌-◌, ◌^◌, ◌||◌};
-ghost use Rattle.std.specs.Prelude.{true, length, codes, Some, IfOk, IfSome};
+ghost use Rattle.std.specs.Prelude.{true, length, codes, Some, IfOk};
 ghost use Rattle.hcl_grammar.specs.Tokens.{is_kind};
 ghost use Rattle.hcl_token.specs.TokenizedText.{kind_of};
 ghost use Rattle.hcl_token.specs.declared.kind.Kind.TheVariants.{CloseBrace, Identifier, LineEnd};
@@ -43,6 +43,7 @@ fn is_comment_line(scanned: &Scanned<'_>, n: usize) -> bool
     if !is_kind(scanned, n, Kind::LineComment) {
         return false;
     }
+    // for the proof: the second call of `is_kind` has a name of its own
     let is_end = is_kind(scanned, n + 1, Kind::LineEnd);
     is_end
 }
@@ -172,6 +173,7 @@ fn members(scanned: &Scanned<'_>, from: usize, limit: usize, names: bool) -> Res
         typed: false,
         described: false,
     };
+    // for the proof: the label names the loop's invariant
     'members: while seen.end < limit {
         if is_kind(scanned, seen.end, Kind::CloseBrace) {
             return Ok(seen);
@@ -305,13 +307,4 @@ pub fn quiet_block_end_within(
         return quiet_locals_end(scanned, from, limit);
     }
     quiet_declaration_end(scanned, from, limit, word)
-}
-
-/// Returns what [`quiet_block_end_within`] finds where the limit is the number of tokens.
-pub fn quiet_block_end(scanned: &Scanned<'_>, from: usize) -> Option<usize>
-    ensures quiet { IfSome result (λ to. AreQuiet scanned.now.pairs from to) }
-    ensures line { IfSome result (λ to. kind_of scanned.now.pairs (to - 1) ≡ Some LineEnd) }
-    ensures nothing { IfSome result (λ to. HasNoBlockFindings scanned.now.pairs from) }
-{
-    quiet_block_end_within(scanned, from, scanned.len()).ok()
 }

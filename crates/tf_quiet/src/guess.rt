@@ -73,6 +73,7 @@ pub fn is_loud_block(scanned: &Scanned<'_>, from: usize) -> bool {
     let mut depth = 0usize;
     let mut line = from;
     let mut n = from;
+    // for the proof: the label names the loop's measure
     'block: while n < scanned.len() {
         match scanned.kind(n) {
             Kind::DotIndex => return true,

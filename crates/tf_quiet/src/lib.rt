@@ -7,7 +7,7 @@ mod heads;
 pub mod laws;
 mod tokens;
 
-pub use blocks::{quiet_block_end, quiet_block_end_within};
+pub use blocks::quiet_block_end_within;
 pub use guess::is_loud_block;
 pub use heads::is_quiet_head;
-pub use tokens::{Stop, quiet_line_end, quiet_line_end_within};
+pub use tokens::{Stop, quiet_line_end_within};

@@ -1,7 +1,7 @@
 //! Which tokens are quiet.
 
 ghost use Rattle.std.specs.Prelude.{◌≡◌, ◌<◌, ◌≤◌, ◌+◌, ◌-◌, ◌^◌, true, false, length, drop};
-ghost use Rattle.std.specs.Prelude.{Some, IfOk, IfErr, IfSome};
+ghost use Rattle.std.specs.Prelude.{Some, IfOk, IfErr};
 ghost use Rattle.hcl_scan.specs.Follows.{tokens_of};
 ghost use Rattle.hcl_token.specs.declared.kind.Kind.TheVariants.{LineEnd};
 ghost use Rattle.hcl_token.specs.TokenizedText.{kind_of, spelling_of};
@@ -34,6 +34,7 @@ fn continues_after(scanned: &Scanned<'_>, from: usize) -> bool
     ensures { result ≡ continues_after (drop from scanned.now.pairs) }
 {
     let mut n = from;
+    // for the proof: the label names the loop's invariant
     'inside: while n < scanned.len() {
         match scanned.kind(n) {
             Kind::SeqClose => return continues(scanned, n + 1),
@@ -195,7 +196,8 @@ fn class_of(kind: Kind) -> Class
 }
 
 /// Returns the place after the first line end that is outside of brackets, if it is found before
-/// token `limit` and all tokens from number `from` up to there are quiet.
+/// token `limit` and all tokens from number `from` up to there are quiet. There a member ends that
+/// begins at `from`, if one does.
 ///
 /// # Errors
 ///
@@ -214,6 +216,7 @@ pub fn quiet_line_end_within(
 {
     let mut depth = 0;
     let mut n = from;
+    // for the proof: the label names the loop's invariant
     'quiet: while n < limit {
         let kind = scanned.kind(n);
         // Arms that leave `depth` as it is end in `continue`: LLVM makes a shorter loop of them.
@@ -242,15 +245,4 @@ pub fn quiet_line_end_within(
         }
     }
     Err(stop_at(scanned, limit))
-}
-
-/// Returns what [`quiet_line_end_within`] finds where the limit is the number of tokens. There a
-/// member ends that begins at `from`, if one does.
-pub fn quiet_line_end(scanned: &Scanned<'_>, from: usize) -> Option<usize>
-    ensures quiet { IfSome result (λ to. AreQuiet scanned.now.pairs from to) }
-    ensures line { IfSome result (λ to. kind_of scanned.now.pairs (to - 1) ≡ Some LineEnd) }
-    ensures first { IfSome result
-        (λ to. line_end_from (tokens_of scanned.now.pairs) 0 from ≡ Some to) }
-{
-    quiet_line_end_within(scanned, from, scanned.len()).ok()
 }
