@@ -233,7 +233,8 @@ fn walk_filter(
     }
 }
 
-/// Adds what the rules find at a term, and then inside of it. `role` is as for `check_term`.
+/// Adds what the rules find at a term, and then inside of it. `role` is as for
+/// `check_term_beyond`.
 #[cycle(expressions)]
 fn walk_term(
     cx: &WalkContext<'_, '_>,

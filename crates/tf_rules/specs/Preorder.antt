@@ -136,6 +136,6 @@ pub data IsPreorder : List Node → List Node → Type 0 where
   visit : {n : Node} {ns inside others : List Node} → IsPreorder (children n) inside → IsPreorder ns others
       → IsPreorder (n ∷ ns) (n ∷ (inside ++ others))
 
--- there is one list of the nodes inside of some nodes
+-- there is at most one list of the nodes inside of some nodes
 abbrev pub PreorderIsUnique : Type 0
 PreorderIsUnique = (ns xs ys : List Node) → IsPreorder ns xs → IsPreorder ns ys → xs ≡ ys

@@ -18,6 +18,10 @@ pub struct LintContext<'s, 't> {
 impl<'s, 't> LintContext<'s, 't> {
     /// Adds what a rule finds at the tokens from number `first` to number `past` (exclusive), if it
     /// is valid in the text.
+    ///
+    /// # Errors
+    ///
+    /// `AllocError` if memory runs out.
     pub fn report(
         &self,
         rule: Rule,

@@ -23,7 +23,7 @@ mod unbroken;
 pub use context::LintContext;
 pub use finding::{Finding, Message, NameKind, add_finding, is_valid_is_exact};
 pub use fix::{Fix, Insertion, KeptTokens};
-pub use node::{check_expr, check_tail, check_term, check_term_beyond};
+pub use node::{check_expr, check_tail, check_term_beyond};
 pub use role::Role;
 pub use rule::{Rule, RuleInfo, Severity};
 pub use rule_set::RuleSet;

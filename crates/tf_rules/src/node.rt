@@ -15,6 +15,10 @@ use hcl_grammar::tree::{Expr, Tail, Term};
 use std::alloc::AllocError;
 
 /// Adds what the rules find at an expression in this role.
+///
+/// # Errors
+///
+/// `AllocError` if memory runs out.
 pub fn check_expr(
     cx: &LintContext<'_, '_>,
     role: Role,
@@ -30,24 +34,12 @@ pub fn check_expr(
 }
 
 /// Adds what the rules find at a term. `role` is the role of the expression if it is this term
-/// alone, else `Elsewhere`.
-pub fn check_term(
-    cx: &LintContext<'_, '_>,
-    role: Role,
-    t: &Term,
-    found: &mut Vec<Finding>,
-) -> Result<(), AllocError>
-    ensures { OnOk result
-        (found.new.items ≡ found.old.items
-        ++ valid_findings (length cx.now.scanned.now.pairs)
-        (node_findings cx.now.rules cx.now.scanned.now.pairs (term role t.now))) }
-{
-    let mut unbroken = Unbroken::none();
-    check_term_beyond(cx, &mut unbroken, role, t, found)
-}
-
-/// `check_term`, and what is found out for it of the tokens, so that the terms inside this one need
-/// not look at them again.
+/// alone, else `Elsewhere`. `unbroken` has what is known of the tokens, and takes what is found out
+/// of them here, so that the terms inside this one need not look at them again.
+///
+/// # Errors
+///
+/// `AllocError` if memory runs out.
 pub fn check_term_beyond(
     cx: &LintContext<'_, '_>,
     unbroken: &mut Unbroken,
@@ -69,6 +61,10 @@ pub fn check_term_beyond(
 
 /// Adds what the rules find at a tail of a term. `splat` says that `.*` precedes it, with only
 /// attribute names and legacy indices in between.
+///
+/// # Errors
+///
+/// `AllocError` if memory runs out.
 pub fn check_tail(
     cx: &LintContext<'_, '_>,
     splat: bool,

@@ -40,6 +40,7 @@ fn past_whole_units(name: &[u8]) -> usize
     ensures valid { AreValid name.now 1 result }
 {
     let mut at = 1;
+    // for the proof: the label names the loop's invariant
     'units: while name.len() - at >= UNIT {
         if !is_valid_unit(name, at) {
             return at;

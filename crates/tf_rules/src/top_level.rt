@@ -63,9 +63,12 @@ fn check_members(
 }
 
 /// Adds what the rules of the set find at the blocks of a text's body, from the first to the last.
-/// Returns `AllocError` if memory runs out.
 ///
 /// TFLint ruleset for the Terraform language.
+///
+/// # Errors
+///
+/// `AllocError` if memory runs out.
 pub fn add_top_level_findings(
     scanned: &Scanned<'_>,
     tree: &Tree,
@@ -85,9 +88,13 @@ pub fn add_top_level_findings(
 }
 
 /// Adds what the rules of the set find at an attribute or a block of a text's body, as
-/// `add_top_level_findings` adds it for all of them. Returns `AllocError` if memory runs out.
+/// `add_top_level_findings` adds it for all of them.
 ///
 /// TFLint ruleset for the Terraform language.
+///
+/// # Errors
+///
+/// `AllocError` if memory runs out.
 pub fn add_top_level_member_findings(
     scanned: &Scanned<'_>,
     rules: RuleSet,

@@ -49,6 +49,10 @@ fn add_comment_finding(
 }
 
 /// Adds token `i`, if it is a comment that begins with `//` and the rule is in the set.
+///
+/// # Errors
+///
+/// `AllocError` if memory runs out.
 pub fn check_comment(
     scanned: &Scanned<'_>,
     rules: RuleSet,

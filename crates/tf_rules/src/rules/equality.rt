@@ -65,7 +65,7 @@ fn is_empty_list(e: &Expr) -> bool
     }
 }
 
-/// `length(`, the tokens of the operand, `) == 0` or `) > 0`
+/// Returns the fix that writes `length(`, the tokens of the operand, and `) == 0` or `) > 0`.
 fn length_fix(from: u32, to: u32, is_zero_test: bool) -> Fix
     ensures { result ≡ length_fix from to is_zero_test }
 {
@@ -81,7 +81,7 @@ fn length_fix(from: u32, to: u32, is_zero_test: bool) -> Fix
     }
 }
 
-/// The comparison at an operator, with the expressions beside it.
+/// Adds the comparison at an operator, if an expression next to it is an empty list.
 fn check_operation(
     cx: &LintContext<'_, '_>,
     first: u32,
@@ -115,7 +115,7 @@ fn check_operation(
     Ok(())
 }
 
-/// A comparison of the tokens of `operand` with an empty list.
+/// Adds a comparison of the tokens of `operand` with an empty list.
 fn add_comparison(
     cx: &LintContext<'_, '_>,
     first: u32,
@@ -187,7 +187,7 @@ fn check_kind(
     }
 }
 
-/// At an expression, if the rule is chosen.
+/// Adds the comparisons with an empty list in an expression, if the rule is enabled.
 pub fn check(cx: &LintContext<'_, '_>, e: &Expr, found: &mut Vec<Finding>) -> Result<(), AllocError>
     ensures { OnOk result
         (found.new.items ≡ found.old.items

@@ -57,7 +57,7 @@ fn check_legacy_index(
     cx.report(Rule::DeprecatedIndex, n, n + 1, Message::PLAIN, fix, found)
 }
 
-/// At a tail, if the rule is chosen.
+/// Adds a tail that is a legacy index, if the rule is enabled. `splat` says that it follows `.*`.
 pub fn check(
     cx: &LintContext<'_, '_>,
     splat: bool,

@@ -212,7 +212,7 @@ fn has_line_break_inside(
     has_line_break_beyond(unbroken, cx.scanned, false, first + 2, past - 2)
 }
 
-/// At a term, if the rule is chosen.
+/// Adds a term that is quoted text with one interpolation and nothing else, if the rule is enabled.
 pub fn check(
     cx: &LintContext<'_, '_>,
     unbroken: &mut Unbroken,

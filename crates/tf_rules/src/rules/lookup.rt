@@ -197,7 +197,7 @@ fn check_arguments(
     cx.report(rule, first, past, Message::PLAIN, fix, found)
 }
 
-/// At a term, if the rule is chosen.
+/// Adds a term that is a call of `lookup` with two arguments, if the rule is enabled.
 pub fn check(
     cx: &LintContext<'_, '_>,
     unbroken: &mut Unbroken,

@@ -110,7 +110,7 @@ fn check_labelled(
     Ok(())
 }
 
-/// At a block of a text's body, what the rules that are chosen find: a type, a description.
+/// Adds what a block of a text's body lacks by the rules that are enabled: a type, a description.
 pub fn check(
     cx: &LintContext<'_, '_>,
     b: &Block,

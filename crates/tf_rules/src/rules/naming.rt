@@ -204,7 +204,7 @@ fn check_locals(
     check_local_attributes(cx, b, found)
 }
 
-/// What the rule on names finds in a block.
+/// Adds the names in a block that are not in snake_case.
 fn check_block(
     cx: &LintContext<'_, '_>,
     b: &Block,
@@ -220,7 +220,7 @@ fn check_block(
     Ok(())
 }
 
-/// At a block of a text's body, if the rule is chosen.
+/// Adds the names in a block of a text's body that are not in snake_case, if the rule is enabled.
 pub fn check(
     cx: &LintContext<'_, '_>,
     b: &Block,
