@@ -45,12 +45,14 @@ pub data IsAmong (n : grammar.Node) : List Node → Type 0 where
   here : {m : Node} {ms : List Node} → IsSameNode n m → IsAmong n (m ∷ ms)
   there : {m : Node} {ms : List Node} → IsAmong n ms → IsAmong n (m ∷ ms)
 
--- the nodes of a body in the grammar's list are in the rules' list
+-- Each expression, term, directive, attribute and block in the grammar's list of a body is in the
+-- rules' list.
 abbrev pub EveryNodeIsVisited : Type 0
 EveryNodeIsVisited = (b : Body) (ns : List Node) → IsPreorder (map member b.members) ns
     → (n : grammar.Node) → is_in_both n ≡ true → grammar.IsWithin n (grammar.body b) → IsAmong n ns
 
--- the nodes of a body in the rules' list are in the grammar's list
+-- Each expression, term, directive, attribute and block in the rules' list of a body is in the
+-- grammar's list. Tails, literals and interpolations have no node there (`IsSameNode`).
 abbrev pub EveryVisitedNodeIsInGrammar : Type 0
 EveryVisitedNodeIsInGrammar = (b : Body) (ns : List Node) → IsPreorder (map member b.members) ns
     → (n : grammar.Node) → IsAmong n ns → grammar.IsWithin n (grammar.body b)

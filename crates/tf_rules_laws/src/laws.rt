@@ -17,12 +17,14 @@ pub fn preorder_determines_tree()
     ensures { PreorderDeterminesTree }
 {}
 
-/// The nodes of a body in the grammar's list are in the rules' list: the rules visit each node.
+/// Each expression, term, directive, attribute and block in the grammar's list of a body is in the
+/// rules' list: the rules visit it.
 pub fn every_node_is_visited()
     ensures { EveryNodeIsVisited }
 {}
 
-/// Every node of a body that the rules visit is a node of the grammar's list.
+/// Each expression, term, directive, attribute and block of a body that the rules visit is in the
+/// grammar's list. Tails, literals and interpolations have no node there.
 pub fn every_visited_node_is_in_grammar()
     ensures { EveryVisitedNodeIsInGrammar }
 {}
