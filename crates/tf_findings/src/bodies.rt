@@ -87,10 +87,13 @@ fn walk_optional_attribute(
     }
 }
 
-/// Returns what the rules of the set on expressions find in a tree, in preorder. Returns
-/// `AllocError` if memory runs out.
+/// Returns what the rules of the set on expressions find in a tree, in preorder.
 ///
 /// TFLint ruleset for the Terraform language.
+///
+/// # Errors
+///
+/// `AllocError` if memory runs out.
 pub fn tree_findings(
     alloc: Global,
     scanned: &Scanned<'_>,
@@ -111,9 +114,13 @@ pub fn tree_findings(
 }
 
 /// Adds what the rules of the set find in an attribute or a block, as `tree_findings` finds it in a
-/// whole tree. Returns `AllocError` if memory runs out.
+/// whole tree.
 ///
 /// TFLint ruleset for the Terraform language.
+///
+/// # Errors
+///
+/// `AllocError` if memory runs out.
 pub fn add_node_findings(
     scanned: &Scanned<'_>,
     rules: RuleSet,
