@@ -60,6 +60,10 @@ pub fn fix_step(
 
 /// Returns the edits of one rule's fix of a text, and how many findings they fix. `found` is what
 /// the rules of a set find in the text, which has the rule.
+///
+/// # Errors
+///
+/// `TooLong` if the new text would have more than `MAX_TEXT` bytes, and `Memory`.
 pub fn fix_step_of_findings(
     alloc: Global,
     scanned: &Scanned<'_>,

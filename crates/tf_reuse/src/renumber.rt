@@ -82,6 +82,10 @@ fn renumber_finding(finding: &Finding, from: u32, to: u32) -> Finding
 }
 
 /// Returns the findings in tokens that were moved from number `from` to number `to`.
+///
+/// # Errors
+///
+/// `AllocError` if memory runs out.
 pub fn renumber_findings(
     alloc: Global,
     findings: &[Finding],
