@@ -71,8 +71,9 @@ fn merge_member(body: &mut BodyFindings, x: LintedMember) -> Result<(), AllocErr
 /// In a member that is kept no more is found than this.
 const MAX_KEPT_FINDINGS: usize = 4096;
 
-/// Whether a member is worth keeping. Where very much is found in one, a fix changes it in nearly
-/// each step, so that it is read again; and a second list of that would be most of the memory.
+/// Returns whether a member is worth keeping. Where very much is found in one, a fix changes it in
+/// nearly each step, so that it is read again; and a second list of that would be most of the
+/// memory.
 fn is_worth_keeping(x: &LintedMember) -> bool {
     x.node_findings.len() <= MAX_KEPT_FINDINGS && x.block_findings.len() <= MAX_KEPT_FINDINGS
 }
@@ -95,6 +96,10 @@ fn add_member(
 }
 
 /// Reads the members of a body and returns what the rules find in them.
+///
+/// # Errors
+///
+/// That of the parser at the first member that has one, and `Memory`.
 pub fn lint_body(
     alloc: Global,
     search: &Search<'_, '_, '_>,

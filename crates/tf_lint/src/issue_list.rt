@@ -18,7 +18,11 @@ use tf_fix::LintFault;
 use tf_rules::{Finding, RuleSet};
 
 /// Returns the issues of the rules in the set, by place, then by rule, then the longer first;
-/// without what comments silence. The tree is that of the text. The only error is `Memory`.
+/// without what comments silence. The tree is that of the text.
+///
+/// # Errors
+///
+/// `Memory`.
 pub fn issues(
     alloc: Global,
     scanned: &Scanned<'_>,
@@ -34,8 +38,12 @@ pub fn issues(
     Ok(issues)
 }
 
-/// Returns the issue of each of these findings in a text, in their order. The only error is
-/// `Memory`; for no findings nothing is allocated.
+/// Returns the issue of each of these findings in a text, in their order. For no findings nothing
+/// is allocated.
+///
+/// # Errors
+///
+/// `Memory`.
 pub fn issues_of(
     alloc: Global,
     scanned: &Scanned<'_>,
@@ -90,8 +98,13 @@ fn next_place(places: &mut Places<'_>, last: u32, place: Place, first: u32) -> P
     places.of(first as usize)
 }
 
-/// A report on the file of this name: the line of the issue of each of these findings in a text, in
-/// their order, each followed by LF. No issue is made for it.
+/// Returns a report on the file of this name: the line of the issue of each of these findings in a
+/// text, in their order, each followed by LF. No issue is made for it, and for no findings nothing
+/// is allocated.
+///
+/// # Errors
+///
+/// `AllocError` if memory runs out.
 pub fn lines_of_findings(
     alloc: Global,
     name: &str,
@@ -121,7 +134,11 @@ pub fn lines_of_findings(
 }
 
 /// Returns a report on the file of this name: the line of each of these issues, in their order,
-/// each followed by LF.
+/// each followed by LF. For no issues nothing is allocated.
+///
+/// # Errors
+///
+/// `AllocError` if memory runs out.
 pub fn lines_of_issues(alloc: Global, name: &str, found: &[Issue]) -> Result<String, AllocError>
     ensures lines { IfOk result
         (λ lines. string_bytes lines ≡ report_lines name.now (reports found.now)) }

@@ -131,7 +131,7 @@ fn lint_next_member(
 }
 
 /// Returns whether the tokens of a member of the old text are in the new one from number `at` on.
-/// The last member of a text is read again: what ends it may be the end of the text.
+/// One that no token follows is read again: what ends it may be the end of the text.
 fn is_unchanged(
     alloc: Global,
     old: &Scanned<'_>,
@@ -218,6 +218,10 @@ fn reuse_member_at(
 
 /// Returns the next member, if there is one: that of the old text with this index, if its tokens
 /// are here, else as it is read.
+///
+/// # Errors
+///
+/// That of the parser at the member, if it has one, and `Memory`.
 pub fn next_member(
     alloc: Global,
     search: &Search<'_, '_, '_>,

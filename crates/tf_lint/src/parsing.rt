@@ -12,7 +12,11 @@ use hcl_tree::parse;
 use std::alloc::Global;
 use tf_fix::Parsed;
 
-/// The tokens and the tree of a text, if it parses.
+/// Returns the tokens and the tree of a text, if it parses.
+///
+/// # Errors
+///
+/// `Scan` if the text has no tokens; `Parse` if these have no tree within `MAX_NESTING`; `Memory`.
 pub fn parse_text<'t>(alloc: Global, text: &'t [u8]) -> Result<Parsed<'t>, FixFault>
     ensures reads { IfOk result (λ parsed. IsParseOf text.now parsed) }
     ensures fault { IfErr result (λ fault. IsReadFault text.now fault) }
@@ -22,7 +26,11 @@ pub fn parse_text<'t>(alloc: Global, text: &'t [u8]) -> Result<Parsed<'t>, FixFa
     Ok(Parsed { scanned, tree })
 }
 
-/// The tokens of a text, if it parses. No tree of it is kept.
+/// Returns the tokens of a text, if it parses. No tree of it is kept.
+///
+/// # Errors
+///
+/// `Scan` if the text has no tokens; `Parse` if these have no tree within `MAX_NESTING`; `Memory`.
 pub fn check_syntax<'t>(alloc: Global, text: &'t [u8]) -> Result<Scanned<'t>, FixFault>
     ensures reads { IfOk result
         (λ scanned. (t : tree.Tree) × IsParseOf text.now (record { scanned = scanned; tree = t })) }

@@ -22,10 +22,14 @@ use hcl_text_laws::laws::parsed_tokens_are_apart;
 use std::alloc::{AllocError, Global};
 use tf_rules::{Finding, Rule, RuleSet};
 
-/// The tokens of a text, if it parses, and what the rules of the set find in it.
+/// Returns the tokens of a text, if it parses, and what the rules of the set find in it.
 ///
 /// The text is read once, and no tree of it is kept. Its attributes and blocks are kept where the
 /// steps of a fix will make another text of it.
+///
+/// # Errors
+///
+/// `Scan` if the text has no tokens; `Parse` if these have no tree within `MAX_NESTING`; `Memory`.
 pub fn lint_text<'t>(
     alloc: Global,
     text: &'t [u8],
@@ -83,7 +87,7 @@ fn replaced_range(edit: &Edit) -> ReplacedRange
     }
 }
 
-/// The pieces of a text that edits replace, for `rescan`.
+/// Returns the pieces of a text that edits replace, for `rescan`.
 pub fn replaced_ranges(alloc: Global, edits: &Edits) -> Result<Vec<ReplacedRange>, AllocError> {
     let all = edits.edits();
     let mut pieces = Vec::with_capacity(alloc, all.len())?;
@@ -246,6 +250,10 @@ fn name_broken_step(
 }
 
 /// Lints the text that the step of this rule made of the source's, which was linted.
+///
+/// # Errors
+///
+/// `FixBroken` if the text does not parse, and `Memory`.
 pub fn relint_step<'t>(
     alloc: Global,
     text: &'t [u8],

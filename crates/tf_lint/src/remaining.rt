@@ -21,7 +21,7 @@ pub struct Remaining {
 }
 
 impl Remaining {
-    /// How many issues are left.
+    /// Returns how many issues are left.
     pub fn len(&self) -> usize
         ensures { result ≡ remaining_count self.now }
     {
@@ -30,6 +30,10 @@ impl Remaining {
 
     /// Returns the line of each issue that is left, in a report on the file of this name, each
     /// followed by LF. The text is the new one. If nothing is left, nothing is allocated.
+    ///
+    /// # Errors
+    ///
+    /// `AllocError` if memory runs out.
     pub fn lines(self, alloc: Global, name: &str, text: &[u8]) -> Result<String, AllocError>
         requires { (rules : RuleSet) × IsRemaining rules text.now self }
         ensures lines { (rules : RuleSet) → IsRemaining rules text.now self

@@ -59,6 +59,10 @@ fn is_without_edits(edits: &Edits) -> bool
 }
 
 /// Makes the step of a rule over a text that was linted with a set that has it.
+///
+/// # Errors
+///
+/// `TooLong` if the new text would have more than `MAX_TEXT` bytes, and `Memory`.
 pub fn apply_step(
     alloc: Global,
     linted: &LintedText<'_>,

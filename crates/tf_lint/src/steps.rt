@@ -338,11 +338,16 @@ fn run_all_steps(
     }
 }
 
-/// The text fixed by the rules of the set, in the order of their table,
-/// each over the text that the one before left.
+/// Returns the text fixed by the rules of the set, in the order of their table, each over the text
+/// that the one before left.
 ///
-/// A text is read once for each rule that changes it, and once more. `FixBroken` where what a rule
-/// makes does not parse; `TooLong` where it would have more than `MAX_TEXT` bytes.
+/// A text is read once for each rule that changes it, and once more.
+///
+/// # Errors
+///
+/// `Scan` if the text has no tokens; `Parse` if these have no tree within `MAX_NESTING`;
+/// `FixBroken` if what a rule makes does not parse; `TooLong` if it would have more than
+/// `MAX_TEXT` bytes; `Memory`.
 pub fn fix_text(alloc: Global, text: &[u8], rules: RuleSet) -> Result<FixResult, FixFault>
     ensures made { IfOk result (λ fixed. Fixes rules text.now (rewrite_of text.now fixed)) }
     ensures transforms { IfOk result
@@ -375,8 +380,11 @@ pub fn fix_text(alloc: Global, text: &[u8], rules: RuleSet) -> Result<FixResult,
     }
 }
 
-/// Fixes a text like [`fix_text`], but does not keep the edits, and so needs less memory. It fails
-/// in the same cases.
+/// Fixes a text like [`fix_text`], but does not keep the edits, and so needs less memory.
+///
+/// # Errors
+///
+/// Those of [`fix_text`].
 pub fn fix_without_edits(alloc: Global, text: &[u8], rules: RuleSet) -> Result<FixedText, FixFault>
     ensures made { IfOk result (FixesTo rules text.now) }
     ensures left { IfOk result

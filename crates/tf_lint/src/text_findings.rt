@@ -125,12 +125,16 @@ fn finish_body(
 }
 
 /// Returns what the rules of the set find in a text, if it parses, as `tf_findings::findings` finds
-/// it in its tree; or why it does not parse, as `hcl_tree::parse` says it.
+/// it in its tree.
 ///
 /// The text is read once, from left to right. Of its tree no more is kept at a time than one
 /// attribute or block of its body. If the tokens of the next of the old members are here too, its
 /// findings are reused, with their numbers moved, and it is not read again. The members are kept for
 /// a next text, or freed, and then their findings are not copied.
+///
+/// # Errors
+///
+/// Why the text does not parse, as `hcl_tree::parse` says it, and `Memory`.
 pub fn lint_tokens(alloc: Global, search: &Search<'_, '_, '_>) -> Result<TextFindings, ParseFault>
     requires { AreLintedMembers search.now.rules search.now.old.now.pairs search.now.old_members.now }
     // The text parses, and this is what the rules find in its tree.
