@@ -1,4 +1,5 @@
--- The machine has one reply to each command, and leaves one stack.
+-- The machine has at most one reply to each command, but for which `Parse` error it is, and leaves
+-- at most one stack.
 use Rattle.std.specs.Prelude.{◌≡◌, ◌⊎◌, Result, Err}
 use Rattle.hcl_text_laws.specs.declared.fault.ParseFault.{ParseFault}
 use Rattle.tf_session.specs.declared.command.Command.{Command}
@@ -14,7 +15,8 @@ AreSameUpToParseFault a b = (a ≡ b)
     ⊎ ((fault : ParseFault) × (other : ParseFault) × (a ≡ Err (Parse fault))
     × (b ≡ Err (Parse other)))
 
--- a command over a stack has one reply and one new stack
+-- a command over a stack has at most one reply, but for which `Parse` error it is, and at most one
+-- new stack
 abbrev pub CommandResultIsUnique : Type 0
 CommandResultIsUnique =
     (command : Command) (old : Stack) (reply other : Result Done Fault) (new another : Stack)

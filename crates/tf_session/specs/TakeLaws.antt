@@ -28,7 +28,8 @@ OutOfMemoryChangesNothingOverLayers =
     → HistoryRun old commands replies new
     → HistoryRunWithMemory old (completed_commands commands replies) (completed_replies replies) new
 
--- a command over a history has one reply and leaves one history
+-- a command over a history has at most one reply, but for which `Parse` error it is, and leaves at
+-- most one history
 abbrev pub CommandResultIsUniqueOverLayers : Type 0
 CommandResultIsUniqueOverLayers =
     (command : Command) (old : History) (reply other : Result Done Fault) (new another : History)
@@ -66,8 +67,8 @@ JournalSquashesToOneAfterTakes =
     → (first : EditList) (others : List EditList)
     → edits_of (records_in end.layers) ≡ first ∷ others → SquashToOne text (top_text end) first others
 
--- A take has one reply and leaves one history. So Blocked, TooLong, NoRecord and Done exclude each
--- other, and each is the reply if and only if it holds.
+-- A take has at most one reply and leaves at most one history. So Blocked, TooLong, NoRecord and
+-- Done exclude each other, and each is the reply if and only if it holds.
 abbrev pub TakeResultIsUnique : Type 0
 TakeResultIsUnique = (n : ℕ) (old : History) (reply other : Result Done Fault)
     (new another : History) → TakeStep n old reply new → TakeStep n old other another

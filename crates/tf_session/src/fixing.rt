@@ -45,6 +45,7 @@ pub fn fix_without_session(
     Ok((new, done_of(changed, fixed, count), left))
 }
 
+/// Returns the reply to a fix, by what it changed, fixed and left.
 fn done_of(changed: bool, fixed: usize, left: usize) -> Done
     ensures { result ≡ done changed fixed left }
 {

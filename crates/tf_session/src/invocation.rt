@@ -151,6 +151,7 @@ fn report_fmt(alloc: Global, session: &mut Session, name: &str) -> Result<StepRe
     })
 }
 
+/// Returns a line with this name.
 fn name_line(alloc: Global, name: &str) -> Result<String, AllocError>
     ensures { IfOk result (λ line. string_bytes line ≡ name.now ++ codes "\n") }
 {

@@ -37,7 +37,8 @@ pub fn reverts_restore_the_first_text()
     ensures { RevertsRestoreTheFirst }
 {}
 
-/// A command over a stack of texts has one reply, and leaves one stack.
+/// A command over a stack of texts has at most one reply, but for which `Parse` error it is, and
+/// leaves at most one stack.
 pub fn command_result_is_unique()
     ensures { CommandResultIsUnique }
 {
@@ -87,7 +88,7 @@ pub fn take_preserves_history()
     apply_is_deterministic();
 }
 
-/// A take has one reply, and leaves one history.
+/// A take has at most one reply, and leaves at most one history.
 pub fn take_result_is_unique()
     ensures { TakeResultIsUnique }
 {
@@ -106,7 +107,8 @@ pub fn take_result_is_unique_over_records()
     change_result_is_unique();
 }
 
-/// A command over a first text with its layers of edits has one reply, and leaves one history.
+/// A command over a first text with its layers of edits has at most one reply, but for which
+/// `Parse` error it is, and leaves at most one history.
 pub fn command_result_is_unique_over_layers()
     ensures { CommandResultIsUniqueOverLayers }
 {

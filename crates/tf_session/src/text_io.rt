@@ -65,6 +65,7 @@ pub fn put_journal<W: Write>(bytes: &[u8], writer: &mut Told<W>) -> Result<(), R
     write_part(SessionPart::Journal, bytes, writer)
 }
 
+/// Writes all bytes of a part and flushes. An error is `Write` of that part.
 fn write_part<W: Write>(
     part: SessionPart,
     bytes: &[u8],
