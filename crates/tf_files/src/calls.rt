@@ -133,6 +133,7 @@ pub fn make<R: Files>(
     }
 }
 
+/// Returns the reply to a call by what the system answered.
 pub fn reply_to<T: Drop>(answer: io::Result<T>) -> Reply {
     match answer {
         Ok(_) => Reply::Done,
@@ -153,6 +154,7 @@ fn open<R: Files>(rt: &R, name: &str) -> Reply {
     }
 }
 
+/// Writes the bytes of the part into its new file, and keeps in `sent` how many were written.
 fn write<R: Files>(rt: &R, part: SavedFile, file: &mut PartFile<'_, R::File>) -> Reply {
     let NewFile::Created(created) = &mut file.new_file else {
         return Reply::Failed;
@@ -229,6 +231,8 @@ fn compare_new<R: Files>(rt: &R, file: &mut PartFile<'_, R::File>) -> Reply {
     }
 }
 
+/// Looks whether the file and its journal are as they were read. If another program has changed one
+/// of them, nothing of what was written is to be reported.
 fn compare<R: Files>(rt: &R, file: &mut PartFile<'_, R::File>) -> Reply {
     let now = Snapshots::of(rt, file.paths);
     if now.is_some() && now == file.read {
@@ -239,6 +243,7 @@ fn compare<R: Files>(rt: &R, file: &mut PartFile<'_, R::File>) -> Reply {
     }
 }
 
+/// Looks whether the new journal can be adopted: `Done` if it can, `NotFound` if not.
 fn adopt<R: Files>(rt: &R, alloc: Global, journal: &mut PartFile<'_, R::File>) -> Reply {
     match can_adopt(rt, alloc, &journal.paths.text, journal.own, journal.new) {
         Ok(true) => Reply::Done,

@@ -77,6 +77,11 @@ impl FilePaths {
     }
 }
 
+/// Returns whether there is a file of this name.
+///
+/// # Errors
+///
+/// `Read` if the system does not report it.
 fn is_found<R: Files>(rt: &R, name: &str) -> Result<bool, RunFault> {
     match fs::symlink_metadata(rt, name) {
         Ok(_) => Ok(true),

@@ -78,6 +78,7 @@ impl FoundFiles {
             || others.has_too(self.new_journal)
     }
 
+    /// Returns whether one of these files has this id.
     fn has(&self, id: FileId) -> bool
         ensures { result ≡ true ↔ IsFound id self.now }
     {
@@ -87,6 +88,7 @@ impl FoundFiles {
             || self.new_journal == Some(id)
     }
 
+    /// Returns whether there is an id, and one of these files has it.
     fn has_too(&self, id: Option<FileId>) -> bool
         ensures { result ≡ true ↔ IsFoundToo id self.now }
     {
@@ -97,6 +99,7 @@ impl FoundFiles {
     }
 }
 
+/// Returns the id of the file that this name leads to, if it is a regular one.
 fn regular_file<R: Files>(rt: &R, name: &str) -> Option<FileId> {
     match fs::metadata(rt, name) {
         Ok(found) if found.is_file() => Some(FileId::of(&found)),

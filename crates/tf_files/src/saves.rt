@@ -257,6 +257,7 @@ fn attempt_of(end: End, outcome: Result<bool, RunFault>) -> Attempt
     }
 }
 
+/// Returns how an attempt without an error has ended.
 fn ended_attempt(is_replaced: bool) -> Attempt
     ensures { result ≡ ended_attempt is_replaced }
 {
@@ -267,6 +268,7 @@ fn ended_attempt(is_replaced: bool) -> Attempt
     }
 }
 
+/// Returns how an attempt with this error has ended.
 fn failed_attempt(end: End, fault: RunFault) -> Attempt
     ensures { result ≡ failed_attempt end fault }
 {

@@ -54,6 +54,7 @@ impl Snapshot {
         Snapshot::of_opened(file) == Some(*self)
     }
 
+    /// Returns whether it is of a regular file.
     pub fn is_regular(&self) -> bool
         ensures { result ≡ is_some self.now.regular }
     {

@@ -417,6 +417,7 @@ fn save_entries<R: Files>(rt: &R, alloc: Global, entries: &[Entry<'_>]) -> Vec<A
     }
 }
 
+/// Saves the files of entries together, if there are two or more. Returns how far each has come.
 fn save_several<R: Files>(
     rt: &R,
     alloc: Global,

@@ -71,6 +71,8 @@ impl FileError {
         }
     }
 
+    /// Returns the line `tfk: NAME: ERROR` and, if the error is located, one that begins with
+    /// `NAME:LINE:COLUMN`.
     fn lines(&self, alloc: Global, name: &str) -> Result<String, AllocError> {
         let fault = self.fault;
         match self.location {
@@ -84,6 +86,7 @@ impl FileError {
     }
 }
 
+/// Returns where an error is in this text, if it is at a byte.
 fn location_in(fault: &RunFault, text: &[u8]) -> Option<Location>
     ensures { IsLocationOf text.now (byte_of fault.now) result }
 {

@@ -37,18 +37,21 @@ fn text_before(text: &[u8], at: usize) -> &[u8]
     without_mark(prefix(text, at))
 }
 
+/// Returns the first `at` bytes of a text, or all of it if it has fewer.
 fn prefix(text: &[u8], at: usize) -> &[u8]
     ensures { result.now ≡ take at text.now }
 {
     if at < text.len() { &text[..at] } else { text }
 }
 
+/// Returns a text without the byte order mark that it may begin with.
 fn without_mark(text: &[u8]) -> &[u8]
     ensures { result.now ≡ without_mark text.now }
 {
     if has_mark(text) { &text[3..] } else { text }
 }
 
+/// Returns whether a text begins with a byte order mark.
 fn has_mark(text: &[u8]) -> bool
     ensures { result ≡ is_prefix_of byte_order_mark text.now }
 {
@@ -75,6 +78,7 @@ fn count_line_feeds(text: &[u8]) -> usize
     count
 }
 
+/// Returns what follows the last line feed of a text; all of it if there is none.
 fn last_line(text: &[u8]) -> &[u8]
     ensures { result.now ≡ last_line text.now }
 {
@@ -107,6 +111,7 @@ pub fn byte_of(fault: &RunFault) -> Option<usize>
     }
 }
 
+/// Returns the byte at which tokenizing failed, if it failed at one.
 fn byte_of_scan_fault(fault: &ScanFault) -> Option<usize>
     ensures { result ≡ byte_of_scan_fault fault.now }
 {
@@ -122,6 +127,7 @@ fn byte_of_scan_fault(fault: &ScanFault) -> Option<usize>
     }
 }
 
+/// Returns the byte at which parsing failed, if it failed at one.
 fn byte_of_parse_fault(fault: &ParseFault) -> Option<usize>
     ensures { result ≡ byte_of_parse_fault fault.now }
 {

@@ -54,6 +54,7 @@ fn run_command_line<R: Files, I: Read, O: Write, F: Write>(
     }
 }
 
+/// Prints the help, or why there is no task, and returns the exit status.
 fn exit_with<O: Write, F: Write>(stop: &Exit, output: &mut O, faults: &mut F) -> u8
     ensures { IsStatusOf stop.now result }
 {
@@ -64,7 +65,8 @@ fn exit_with<O: Write, F: Write>(stop: &Exit, output: &mut O, faults: &mut F) ->
     }
 }
 
-/// If standard error takes nothing, the exit status still reports the error.
+/// Prints an error and returns its exit status, which still reports the error if standard error
+/// takes nothing.
 fn exit_with_fault<F: Write>(faults: &mut F, text: &str) -> u8
     ensures { result ≡ 1 }
 {
@@ -72,6 +74,7 @@ fn exit_with_fault<F: Write>(faults: &mut F, text: &str) -> u8
     1
 }
 
+/// Prints a help and returns the exit status.
 fn print_help<O: Write, F: Write>(output: &mut O, faults: &mut F, text: &str) -> u8
     ensures { result ≤ 1 }
 {
