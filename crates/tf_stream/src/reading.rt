@@ -35,6 +35,7 @@ pub fn read_to_limit<R: Read>(
 {
     let mut text = Vec::new(alloc);
     let mut chunk = [0u8; CHUNK_LEN];
+    // for the proof: the label names the loop's invariant
     'chunks: loop {
         let allowed = limit - text.len();
         match reader.read(&mut chunk[..CHUNK_LEN.min(allowed + 1)]) {
