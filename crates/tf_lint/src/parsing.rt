@@ -16,7 +16,8 @@ use tf_fix::Parsed;
 ///
 /// # Errors
 ///
-/// `Scan` if the text has no tokens; `Parse` if these have no tree within `MAX_NESTING`; `Memory`.
+/// `Scan` if the text can't be tokenized; `Parse` if its tokens have no tree within `MAX_NESTING`;
+/// `Memory`.
 pub fn parse_text<'t>(alloc: Global, text: &'t [u8]) -> Result<Parsed<'t>, FixFault>
     ensures reads { IfOk result (λ parsed. IsParseOf text.now parsed) }
     ensures fault { IfErr result (λ fault. IsReadFault text.now fault) }
@@ -30,7 +31,8 @@ pub fn parse_text<'t>(alloc: Global, text: &'t [u8]) -> Result<Parsed<'t>, FixFa
 ///
 /// # Errors
 ///
-/// `Scan` if the text has no tokens; `Parse` if these have no tree within `MAX_NESTING`; `Memory`.
+/// `Scan` if the text can't be tokenized; `Parse` if its tokens have no tree within `MAX_NESTING`;
+/// `Memory`.
 pub fn check_syntax<'t>(alloc: Global, text: &'t [u8]) -> Result<Scanned<'t>, FixFault>
     ensures reads { IfOk result
         (λ scanned. (t : tree.Tree) × IsParseOf text.now (record { scanned = scanned; tree = t })) }

@@ -29,7 +29,8 @@ use tf_rules::{Finding, Rule, RuleSet};
 ///
 /// # Errors
 ///
-/// `Scan` if the text has no tokens; `Parse` if these have no tree within `MAX_NESTING`; `Memory`.
+/// `Scan` if the text can't be tokenized; `Parse` if its tokens have no tree within `MAX_NESTING`;
+/// `Memory`.
 pub fn lint_text<'t>(
     alloc: Global,
     text: &'t [u8],

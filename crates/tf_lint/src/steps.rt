@@ -345,7 +345,7 @@ fn run_all_steps(
 ///
 /// # Errors
 ///
-/// `Scan` if the text has no tokens; `Parse` if these have no tree within `MAX_NESTING`;
+/// `Scan` if the text can't be tokenized; `Parse` if its tokens have no tree within `MAX_NESTING`;
 /// `FixBroken` if what a rule makes does not parse; `TooLong` if it would have more than
 /// `MAX_TEXT` bytes; `Memory`.
 pub fn fix_text(alloc: Global, text: &[u8], rules: RuleSet) -> Result<FixResult, FixFault>

@@ -46,7 +46,7 @@ pub data IsAmong (n : grammar.Node) : List Node → Type 0 where
   there : {m : Node} {ms : List Node} → IsAmong n ms → IsAmong n (m ∷ ms)
 
 -- Each expression, term, directive, attribute and block in the grammar's list of a body is in the
--- rules' list.
+-- rules' list; of the attribute of a block on one line only the value is.
 abbrev pub EveryNodeIsVisited : Type 0
 EveryNodeIsVisited = (b : Body) (ns : List Node) → IsPreorder (map member b.members) ns
     → (n : grammar.Node) → is_in_both n ≡ true → grammar.IsWithin n (grammar.body b) → IsAmong n ns

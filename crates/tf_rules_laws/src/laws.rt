@@ -18,7 +18,8 @@ pub fn preorder_determines_tree()
 {}
 
 /// Each expression, term, directive, attribute and block in the grammar's list of a body is in the
-/// rules' list: the rules visit it.
+/// rules' list: the rules visit it. Of the attribute of a block on one line they visit only the
+/// value.
 pub fn every_node_is_visited()
     ensures { EveryNodeIsVisited }
 {}

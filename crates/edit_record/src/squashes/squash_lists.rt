@@ -18,8 +18,8 @@ pub enum Unmet {
     /// to.
     #[error("the lengths of the two lists of edits do not follow")]
     LengthsDiffer,
-    /// This edit of the second list, counted from 0, removes bytes that the first did not add
-    /// there. It is the lowest such edit.
+    /// This edit of the second list, counted from 0, removes bytes that differ from those that the
+    /// first added there. It is the lowest such edit.
     #[error("edit {edit} of the second list contradicts the first")]
     Contradicts { edit: usize },
     /// Memory for the edits ran out.
@@ -49,7 +49,7 @@ impl From<AllocError> for Unmet {
 ///
 /// `LengthsDiffer` if the texts that `first` makes have another length than those that `second`
 /// applies to; `Contradicts`, with the lowest such edit, if an edit of `second` removes bytes that
-/// `first` did not add there; `Memory` if an allocation fails before that.
+/// differ from those that `first` added there; `Memory` if an allocation fails before that.
 pub fn squash(alloc: Global, first: &Edits, second: &Edits) -> Result<Edits, Unmet>
     ensures { IsSquashResult first.now second.now result }
 {

@@ -81,7 +81,8 @@ fn length_fix(from: u32, to: u32, is_zero_test: bool) -> Fix
     }
 }
 
-/// Adds the comparison at an operator, if an expression next to it is an empty list.
+/// Adds the comparison at an operator, if it is `==` or `!=` and the operand on its right is an
+/// empty list, or, at the first operator of a chain, the one on its left.
 fn check_operation(
     cx: &LintContext<'_, '_>,
     first: u32,
@@ -187,7 +188,8 @@ fn check_kind(
     }
 }
 
-/// Adds the comparisons with an empty list in an expression, if the rule is enabled.
+/// Adds the comparisons with an empty list at the operators of an expression, if the rule is
+/// enabled.
 pub fn check(cx: &LintContext<'_, '_>, e: &Expr, found: &mut Vec<Finding>) -> Result<(), AllocError>
     ensures { OnOk result
         (found.new.items ≡ found.old.items

@@ -108,7 +108,8 @@ fn report(
     cx.report(rule, first, past, Message::PLAIN, fix, found)
 }
 
-/// Adds a term that is quoted text with one interpolation and nothing else.
+/// Adds a term that is quoted text with one interpolation and nothing else, but for the key of an
+/// object.
 fn check_term(
     cx: &LintContext<'_, '_>,
     unbroken: &mut Unbroken,
@@ -212,7 +213,8 @@ fn has_line_break_inside(
     has_line_break_beyond(unbroken, cx.scanned, false, first + 2, past - 2)
 }
 
-/// Adds a term that is quoted text with one interpolation and nothing else, if the rule is enabled.
+/// Adds a term that is quoted text with one interpolation and nothing else, but for the key of an
+/// object, if the rule is enabled.
 pub fn check(
     cx: &LintContext<'_, '_>,
     unbroken: &mut Unbroken,

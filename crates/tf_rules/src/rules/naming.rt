@@ -204,7 +204,7 @@ fn check_locals(
     check_local_attributes(cx, b, found)
 }
 
-/// Adds the names in a block that are not in snake_case.
+/// Adds the names that a block declares and that are not in snake_case.
 fn check_block(
     cx: &LintContext<'_, '_>,
     b: &Block,
@@ -220,7 +220,8 @@ fn check_block(
     Ok(())
 }
 
-/// Adds the names in a block of a text's body that are not in snake_case, if the rule is enabled.
+/// Adds the names that a block of a text's body declares and that are not in snake_case, if the
+/// rule is enabled.
 pub fn check(
     cx: &LintContext<'_, '_>,
     b: &Block,
