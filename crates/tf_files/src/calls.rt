@@ -80,7 +80,7 @@ impl<'a, F: Drop> PartFile<'a, F> {
         }
     }
 
-    /// Returns the journal's file, likewise.
+    /// Returns the journal's file. `read` is what both files were before they were read.
     pub fn journal(
         paths: &'a FilePaths,
         bytes: &'a [u8],
@@ -178,6 +178,7 @@ fn write<R: Files>(rt: &R, part: SavedFile, file: &mut PartFile<'_, R::File>) ->
     }
 }
 
+/// Waits until the new file is durable; `Failed` if this command has created none.
 fn sync<F: OpenFile + Drop>(file: &mut PartFile<'_, F>) -> Reply {
     match &file.new_file {
         NewFile::Created(created) => reply_to(created.sync_all()),
@@ -243,7 +244,8 @@ fn compare<R: Files>(rt: &R, file: &mut PartFile<'_, R::File>) -> Reply {
     }
 }
 
-/// Looks whether the new journal can be adopted: `Done` if it can, `NotFound` if not.
+/// Looks whether the new journal can be adopted: `Done` if it can, `NotFound` if not, and `Failed`
+/// after an error. Then `is_out_of_memory` says whether memory ran out.
 fn adopt<R: Files>(rt: &R, alloc: Global, journal: &mut PartFile<'_, R::File>) -> Reply {
     match can_adopt(rt, alloc, &journal.paths.text, journal.own, journal.new) {
         Ok(true) => Reply::Done,
@@ -264,7 +266,8 @@ fn rename<R: Files>(rt: &R, file: &PartFile<'_, R::File>) -> Reply {
     }
 }
 
-/// Renames no journal that another command is known to have created since.
+/// Renames the new journal to the journal; `Failed` if the new one is known to be gone or another
+/// command's: no journal that another command is known to have created since is renamed.
 fn rename_journal<R: Files>(rt: &R, journal: &PartFile<'_, R::File>) -> Reply {
     match find_own_new(rt, journal) {
         Reply::NotFound => Reply::Failed,
@@ -272,7 +275,8 @@ fn rename_journal<R: Files>(rt: &R, journal: &PartFile<'_, R::File>) -> Reply {
     }
 }
 
-/// Removes no file that another command is known to have created since.
+/// Removes the new file; `NotFound` if it is known to be gone or another command's: no file that
+/// another command is known to have created since is removed.
 fn remove<R: Files>(rt: &R, file: &PartFile<'_, R::File>) -> Reply {
     match find_own_new(rt, file) {
         Reply::NotFound => Reply::NotFound,

@@ -45,6 +45,7 @@ impl ChangedFile {
         }
     }
 
+    /// Returns the bytes that the file and its journal are to have.
     fn contents(&self) -> NewContents<'_>
         ensures text { result.text.now ≡ self.now.text.items }
         ensures journal { result.journal.now ≡ self.now.journal.items }
@@ -108,6 +109,11 @@ impl ChangedFile {
         }
     }
 
+    /// Writes text and journal in place, over the old ones.
+    ///
+    /// # Errors
+    ///
+    /// Those of [`overwrite`].
     fn overwrite<R: Files>(&self, rt: &R, alloc: Global) -> Result<(), RunFault> {
         overwrite(rt, alloc, &self.paths, self.contents(), self.read)
     }

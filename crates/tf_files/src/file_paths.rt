@@ -119,6 +119,7 @@ fn resolve<R: Files>(rt: &R, alloc: Global, name: String) -> Result<String, RunF
     }
 }
 
+/// Returns a name with the suffix added.
 fn with_suffix(alloc: Global, name: &str, suffix: &str) -> Result<String, AllocError> {
     let mut joined = String::from_str(alloc, name)?;
     joined.push_str(suffix)?;

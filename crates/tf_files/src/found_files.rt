@@ -45,8 +45,9 @@ pub struct FoundFiles {
 }
 
 impl FoundFiles {
-    /// Returns the files of a file with this name. None where the text or its journal is no regular
-    /// file, or the system does not say: then it may have anything in common with others.
+    /// Returns the files of a file with this name. None where the text, or a journal that is there,
+    /// is no regular file, or the system does not say, or memory runs out: then it may have
+    /// anything in common with others.
     pub fn of_name<R: Files>(rt: &R, alloc: Global, name: &str) -> Option<FoundFiles> {
         match FilePaths::of(rt, alloc, name) {
             Ok(paths) => FoundFiles::of(rt, &paths),
@@ -54,7 +55,8 @@ impl FoundFiles {
         }
     }
 
-    /// Returns the files at these paths, or none as `of_name` does.
+    /// Returns the files at these paths. None where the text, or a journal that is there, is no
+    /// regular file, or the system does not say.
     pub fn of<R: Files>(rt: &R, paths: &FilePaths) -> Option<FoundFiles> {
         let text = regular_file(rt, &paths.text)?;
         let journal = journal_file(rt, &paths.journal)?;
@@ -107,7 +109,8 @@ fn regular_file<R: Files>(rt: &R, name: &str) -> Option<FileId> {
     }
 }
 
-/// Returns the id of a journal, if it's there; none where something else is, as a link to nothing.
+/// Returns the id of a journal, or `Some(None)` if nothing has its name; none where something else
+/// has, such as a link to nothing, or the system does not say.
 fn journal_file<R: Files>(rt: &R, name: &str) -> Option<Option<FileId>> {
     if is_absent(rt, name) {
         Some(None)
@@ -116,7 +119,8 @@ fn journal_file<R: Files>(rt: &R, name: &str) -> Option<Option<FileId>> {
     }
 }
 
-/// Returns the id of what an interrupted command has left under this name, if it has left anything.
+/// Returns the id of what an interrupted command has left under this name, or `Some(None)` if it
+/// has left nothing; none if the system does not say.
 fn new_file<R: Files>(rt: &R, name: &str) -> Option<Option<FileId>> {
     match fs::symlink_metadata(rt, name) {
         Ok(found) => Some(Some(FileId::of(&found))),

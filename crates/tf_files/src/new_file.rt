@@ -135,6 +135,8 @@ fn journal_permissions(text: &Metadata) -> Permissions
     Permissions::from_mode(text.permissions().mode() & 0o666)
 }
 
+/// Gives the new file these permissions; `CannotReplace` if it can't have them, `Failed` after any
+/// other error.
 fn set_permissions<F: OpenFile>(created: &F, permissions: Permissions) -> Reply {
     match created.set_permissions(permissions) {
         Ok(()) => Reply::Done,

@@ -50,6 +50,8 @@ fn set_owner<R: Files>(rt: &R, id: FileId, old: &Metadata) -> Reply {
     otherwise
 }
 
+/// Gives the file of this name the owner and group of the old one; `CannotReplace` if it can't have
+/// them, `Failed` after any other error.
 fn set_owner_by_name<R: Files>(rt: &R, name: &str, old: &Metadata) -> Reply {
     match chown(rt, name, Some(old.uid()), Some(old.gid())) {
         Ok(()) => Reply::Done,

@@ -278,7 +278,8 @@ fn failed_attempt(end: End, fault: RunFault) -> Attempt
     }
 }
 
-/// Returns the error if it is not known what the next recovery will find.
+/// Returns the error if it is not known what the next recovery will find: `Memory` if memory ran
+/// out, else `Read`.
 fn unknown_fault(is_out_of_memory: bool) -> RunFault
     ensures value { result ≡ unknown_fault is_out_of_memory }
     ensures fault { is_file_fault result ≡ true }

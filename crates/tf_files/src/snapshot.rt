@@ -112,6 +112,7 @@ impl Snapshots {
 }
 
 impl State {
+    /// Returns the state of a file of which this was found.
     fn of(found: &Metadata) -> State {
         State {
             size: found.len(),
