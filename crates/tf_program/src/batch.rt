@@ -236,6 +236,8 @@ impl<'a> Batch<'a> {
         self.finish(rt, output, faults);
     }
 
+    /// Returns whether another entry may be held: fewer than `MOST_FILES` are, with fewer than
+    /// `MOST_BYTES` bytes.
     fn may_hold_more(&self) -> bool {
         self.entries.len() < MOST_FILES && self.bytes < MOST_BYTES
     }
@@ -401,6 +403,7 @@ fn are_apart(entries: &[Entry<'_>], found: &FoundFiles) -> bool
     true
 }
 
+/// Returns whether a command on a file ran out of memory.
 fn is_out_of_memory(made: &Result<Made, FileError>) -> bool {
     match made {
         Ok(_) => false,
@@ -409,7 +412,7 @@ fn is_out_of_memory(made: &Result<Made, FileError>) -> bool {
 }
 
 /// Saves the files of entries, and returns how far each has come. None was saved if the answer is
-/// empty: there is only one, or no memory for more.
+/// empty: fewer than two have changed, or there is no memory to save them together.
 fn save_entries<R: Files>(rt: &R, alloc: Global, entries: &[Entry<'_>]) -> Vec<Attempt> {
     match save_several(rt, alloc, entries) {
         Ok(attempts) => attempts,
@@ -417,7 +420,12 @@ fn save_entries<R: Files>(rt: &R, alloc: Global, entries: &[Entry<'_>]) -> Vec<A
     }
 }
 
-/// Saves the files of entries together, if there are two or more. Returns how far each has come.
+/// Saves the files of entries that have changed together, and returns how far each has come, in
+/// their order. If there are fewer than two, none is saved, and the list is empty.
+///
+/// # Errors
+///
+/// Out of memory: none is saved.
 fn save_several<R: Files>(
     rt: &R,
     alloc: Global,

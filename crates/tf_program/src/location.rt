@@ -18,8 +18,10 @@ pub struct Location {
     pub column: usize,
 }
 
-/// Returns where a byte of a text is. The byte order mark at the start of a text takes no column.
-/// It is one pass over the text before the byte and another over the line, and takes no memory.
+/// Returns the line and the column of the byte `at` of a text, which is counted from 0; where the
+/// text has no such byte, those of its end. The byte order mark at the start of a text takes no
+/// column. It is one pass over the text before the byte and another over the line, and takes no
+/// memory.
 pub fn location_of(text: &[u8], at: usize) -> Location
     ensures { IsLocation text.now at result }
 {
@@ -65,6 +67,7 @@ fn byte_at(text: &[u8], at: usize) -> u8
     if at < text.len() { text[at] } else { 0 }
 }
 
+/// Returns how many line feeds a text has.
 fn count_line_feeds(text: &[u8]) -> usize
     ensures count { result ≡ count_by is_lf text.now }
     ensures within { result ≤ length text.now }

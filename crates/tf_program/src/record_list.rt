@@ -23,6 +23,11 @@ pub fn record_lines(alloc: Global, records: &[Record]) -> Result<String, AllocEr
     Ok(lines)
 }
 
+/// Returns the line of the record of this number, with the line feed that ends it.
+///
+/// # Errors
+///
+/// Out of memory.
 fn record_line(alloc: Global, number: usize, word: Word, edits: usize) -> Result<String, AllocError>
     ensures { IfOk result (λ line. string_bytes line ≡ record_line number word edits) }
 {
@@ -31,6 +36,7 @@ fn record_line(alloc: Global, number: usize, word: Word, edits: usize) -> Result
     format!(in alloc; "{number} {word} {edits} {unit}\n")
 }
 
+/// Returns the name by which a command is listed.
 fn command_name(word: Word) -> &'static str
     ensures { result.now ≡ command_name word }
 {
@@ -40,6 +46,7 @@ fn command_name(word: Word) -> &'static str
     }
 }
 
+/// Returns what follows the number of edits: `edit` after 1, else `edits`.
 fn edit_unit(count: usize) -> &'static str
     ensures { result.now ≡ edit_unit count }
 {

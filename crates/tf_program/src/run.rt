@@ -37,7 +37,8 @@ pub fn work<R: Files, I: Read, O: Write, F: Write>(
     }
 }
 
-/// For the proof: the command line is lent to a function that has its ways out.
+/// Does the task of a command line, or prints why there is none, and returns the exit status. For
+/// the proof: the command line is lent to a function that has its ways out.
 fn run_command_line<R: Files, I: Read, O: Write, F: Write>(
     rt: &R,
     alloc: Global,
@@ -137,7 +138,8 @@ fn run_on_file<'a, R: Files, I: Read, O: Write, F: Write>(
     }
 }
 
-/// Returns the command that the action does to the file of this name, if it changes files.
+/// Returns the command that the action does to the file of this name; none if the action changes no
+/// files, or the name is that of standard input.
 fn file_command(action: Action, name: &str) -> Option<Command>
     ensures { result ≡ file_command action name.now }
 {
@@ -148,7 +150,7 @@ fn file_command(action: Action, name: &str) -> Option<Command>
     }
 }
 
-/// Returns the command of an action that changes files.
+/// Returns the command of an action that changes files; none for any other action.
 fn command_of(action: Action) -> Option<Command>
     ensures { result ≡ command_of action }
 {
