@@ -7,6 +7,8 @@ use std::process::ExitCode;
 use std::{env, io};
 use tf_program::work;
 
+/// Runs the program, and returns its exit status: that of [`work`], or 1 if the arguments can't be
+/// read.
 fn main(rt: HostRuntime) -> ExitCode {
     match args_of(&rt) {
         Ok(args) => ExitCode::from(work(
