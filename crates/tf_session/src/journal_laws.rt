@@ -35,7 +35,8 @@ pub fn invocations_are_stack_run()
     change_result_is_unique();
 }
 
-/// With takes among them they are one run of the layers of edits.
+/// Fmt, fix, revert and take on a file that has no journal, each on what the one before it saved,
+/// are one run of the layers of edits.
 pub fn invocations_are_history_run()
     ensures { InvocationsAreHistoryRun }
 {

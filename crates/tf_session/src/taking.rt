@@ -53,7 +53,7 @@ pub fn without_record(
     without_existing_record(alloc, text, records, number)
 }
 
-/// Returns them if there is a record of this number.
+/// Returns the text and its records without the record of this number, which there is.
 fn without_existing_record(
     alloc: Global,
     text: &[u8],
