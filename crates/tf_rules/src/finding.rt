@@ -133,7 +133,7 @@ impl Finding {
         }
     }
 
-    /// The rule that found it.
+    /// Returns the rule whose finding it is.
     #[inline]
     pub fn rule(&self) -> Rule
         ensures { result ≡ self.now.rule }
@@ -141,7 +141,7 @@ impl Finding {
         self.rule
     }
 
-    /// The number of its first token.
+    /// Returns the number of its first token, from 0.
     #[inline]
     pub fn first(&self) -> u32
         ensures { result ≡ self.now.first }
@@ -149,7 +149,7 @@ impl Finding {
         self.first
     }
 
-    /// One more than the number of its last token.
+    /// Returns the number of the token after its last, from 0.
     #[inline]
     pub fn past(&self) -> u32
         ensures { result ≡ self.now.past }
@@ -157,7 +157,7 @@ impl Finding {
         self.past
     }
 
-    /// What it says.
+    /// Returns its message.
     pub fn message(&self) -> Message
         ensures { result ≡ self.now.message }
     {
@@ -168,7 +168,7 @@ impl Finding {
         }
     }
 
-    /// Its fix, if it has one.
+    /// Returns its fix, or `None` if it has none.
     pub fn fix(&self) -> Option<Fix>
         ensures { result ≡ self.now.fix }
     {

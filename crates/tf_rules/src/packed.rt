@@ -67,7 +67,7 @@ fn pack_kept(kept: Option<KeptTokens>) -> (PackedRange, Option<Insertion>)
     }
 }
 
-/// Returns the tokens that are kept; none are where nothing says what is inserted after them.
+/// Returns the tokens that are kept, or `None` if nothing says what is inserted after them.
 fn unpack_kept(range: PackedRange, after: Option<Insertion>) -> Option<KeptTokens>
     ensures { result ≡ option_map (unpack_kept range) after }
 {
@@ -81,7 +81,7 @@ fn unpack_kept(range: PackedRange, after: Option<Insertion>) -> Option<KeptToken
     }
 }
 
-/// What a fix does that keeps no tokens.
+/// Returns the packed fix of this kind, with both ranges of tokens empty.
 fn without_tokens(kind: PackedFixKind) -> PackedFix
     ensures { result ≡ record { kind = kind; one = EMPTY_RANGE; two = EMPTY_RANGE } }
 {
@@ -111,7 +111,7 @@ fn pack_tokens(before: Insertion, kept: [Option<KeptTokens>; 2]) -> PackedFix
 }
 
 impl PackedFix {
-    /// Packs a fix.
+    /// Packs a fix, or that there is none.
     pub fn of(fix: Option<Fix>) -> PackedFix
         ensures unpacks { unpack_fix result ≡ fix }
         ensures canonical { IsCanonical result }
@@ -134,7 +134,7 @@ impl PackedFix {
         }
     }
 
-    /// The fix, where there is one.
+    /// Returns the fix that was packed, or `None` if none was.
     pub fn fix(&self) -> Option<Fix>
         ensures { result ≡ unpack_fix self.now }
     {

@@ -36,7 +36,7 @@ pub enum Severity {
 }
 
 impl Severity {
-    /// The word in a report.
+    /// Returns the word for it in a report: `Warning` or `Notice`.
     pub fn label(self) -> &'static str
         ensures { result.now ≡ label_of self }
     {
@@ -107,7 +107,7 @@ impl Rule {
         Rule::DocumentedOutputs,
     ];
 
-    /// Its number in the order of reports, from 0.
+    /// Returns its number in the order of reports, from 0.
     pub fn index(self) -> usize
         ensures value { result ≡ index_of self }
         ensures within { result < 9 }
@@ -115,7 +115,7 @@ impl Rule {
         self as usize
     }
 
-    /// What is the same in each of its findings.
+    /// Returns what is the same in each of its findings.
     pub fn info(self) -> RuleInfo
         ensures name { result.name.now ≡ (info_of self).name }
         ensures severity { result.severity ≡ (info_of self).severity }
@@ -199,14 +199,14 @@ impl Rule {
         }
     }
 
-    /// The name in reports and on the command line, as `terraform_comment_syntax`.
+    /// Returns its name in reports and on the command line, as `terraform_comment_syntax`.
     pub fn name(self) -> &'static str
         ensures { result.now ≡ name_of self }
     {
         self.info().name
     }
 
-    /// The rule of a name; none where no rule has that name.
+    /// Returns the rule with exactly this name, or `None` if no rule has it.
     pub fn by_name(name: &str) -> Option<Rule>
         ensures { (rule : Rule) → (result ≡ Some rule) ↔ (name.now ≡ name_of rule) }
     {
@@ -219,7 +219,7 @@ impl Rule {
         None
     }
 
-    /// How much an issue of the rule weighs.
+    /// Returns how much an issue of the rule weighs.
     pub fn severity(self) -> Severity
         ensures { result ≡ severity_of self }
     {

@@ -16,7 +16,7 @@ pub struct RuleSet {
 }
 
 impl RuleSet {
-    /// Every rule.
+    /// Returns the set of all rules.
     pub fn all() -> RuleSet
         ensures { (rule : Rule) → has_rule result rule ≡ true }
     {
@@ -25,7 +25,7 @@ impl RuleSet {
         }
     }
 
-    /// No rule.
+    /// Returns the set without rules.
     pub fn none() -> RuleSet
         ensures { (rule : Rule) → has_rule result rule ≡ false }
     {
@@ -34,7 +34,7 @@ impl RuleSet {
         }
     }
 
-    /// This rule alone.
+    /// Returns the set of this rule alone.
     pub fn only(rule: Rule) -> RuleSet
         ensures { result ≡ only rule }
     {
@@ -43,7 +43,7 @@ impl RuleSet {
         RuleSet { enabled: on }
     }
 
-    /// The rule of this name, or no rule.
+    /// Returns the set of the rule with exactly this name, or the set without rules if none has it.
     pub fn from_name(name: &[u8]) -> RuleSet
         ensures { (rule : Rule) → has_rule result rule ≡ bytes_eq name.now (name_of rule) }
     {
@@ -56,7 +56,7 @@ impl RuleSet {
         }
     }
 
-    /// The rules of either set.
+    /// Returns the set of the rules that are in one of the two sets or in both.
     pub fn union(self, other: RuleSet) -> RuleSet
         ensures { (rule : Rule)
             → has_rule result rule ≡ (has_rule self rule || has_rule other rule) }
@@ -70,7 +70,7 @@ impl RuleSet {
         }
     }
 
-    /// The set with the rule in it, whether it was there or not.
+    /// Returns the set with the rule added; if it has the rule already, the same set.
     pub fn with(self, rule: Rule) -> RuleSet
         ensures added { has_rule result rule ≡ true }
         ensures others { (other : Rule) → other ≢ rule
@@ -81,7 +81,7 @@ impl RuleSet {
         set
     }
 
-    /// The set with the rule not in it, whether it was there or not.
+    /// Returns the set with the rule removed; if it does not have the rule, the same set.
     pub fn without(self, rule: Rule) -> RuleSet
         ensures removed { has_rule result rule ≡ false }
         ensures others { (other : Rule) → other ≢ rule

@@ -6,7 +6,7 @@ ghost use Rattle.tf_rules.specs.Spelling.{token_text, name_text};
 
 use hcl_scan::Scanned;
 
-/// The spelling of a token; nothing where there is no such token.
+/// Returns the spelling of token `n`, from 0, or no bytes if there is no such token.
 pub fn token_text<'t>(scanned: &Scanned<'t>, n: u32) -> &'t [u8]
     ensures { result.now ≡ token_text scanned.now.pairs n }
 {
@@ -16,7 +16,7 @@ pub fn token_text<'t>(scanned: &Scanned<'t>, n: u32) -> &'t [u8]
     scanned.spelling(n as usize)
 }
 
-/// The spelling of a name that may have no token, as that of the label `""`.
+/// Returns the spelling of a name, or no bytes if it has no token, as the label `""` has none.
 pub fn name_text<'t>(scanned: &Scanned<'t>, name: Option<u32>) -> &'t [u8]
     ensures { result.now ≡ name_text scanned.now.pairs name }
 {

@@ -28,7 +28,7 @@ fn check_block(
     Ok(())
 }
 
-/// Adds what they find at a member of a text's body: nothing at an attribute.
+/// Adds what the rules of the set find at a member of a text's body: nothing at an attribute.
 fn check_member(
     cx: &LintContext<'_, '_>,
     m: &Member,
@@ -45,7 +45,7 @@ fn check_member(
     }
 }
 
-/// Adds what they find at these members, from the first to the last.
+/// Adds what the rules of the set find at these members, from the first to the last.
 fn check_members(
     cx: &LintContext<'_, '_>,
     members: &[Member],

@@ -18,7 +18,7 @@ pub struct Unbroken {
 }
 
 impl Unbroken {
-    /// No token.
+    /// Returns an empty range of tokens.
     pub fn none() -> Unbroken
         ensures { (pairs : List Pair) → AreUnbroken pairs result.first result.past }
     {
@@ -55,7 +55,8 @@ fn unbroken_from(scanned: &Scanned<'_>, known: Unbroken, first: u32, past: u32) 
     }
 }
 
-/// `has_line_break`, and what is found out for it of the tokens.
+/// Returns what `has_line_break` returns, and updates `unbroken`, the tokens that are known to have
+/// no line break among them, so that nested ones are not looked at again.
 #[tactic(auto, using(crate::proofs::UnbrokenLemmas::has_none))]
 pub fn has_line_break_beyond(
     unbroken: &mut Unbroken,

@@ -40,7 +40,8 @@ fn is_elsewhere(role: Role) -> bool
     }
 }
 
-/// The expression of the interpolation that is all of quoted text.
+/// Returns the expression of the interpolation that is all of quoted text, or `None` if the term
+/// is not quoted text or has other parts.
 fn sole_interpolation(primary: &Primary) -> Option<&Expr>
     ensures { option_map (λ e. e.now) result ≡ sole_interpolation (out-Primary primary.now) }
 {
@@ -58,7 +59,7 @@ fn sole_interpolation(primary: &Primary) -> Option<&Expr>
     }
 }
 
-/// The expression of the interpolation that is all of these parts.
+/// Returns the expression of the only part if this is an interpolation, and otherwise `None`.
 fn sole_part(parts: &[Part]) -> Option<&Expr>
     ensures { option_map (λ e. e.now) result ≡ sole_part parts.now }
 {
@@ -68,7 +69,7 @@ fn sole_part(parts: &[Part]) -> Option<&Expr>
     }
 }
 
-/// The expression of a part that is an interpolation.
+/// Returns the expression of a part that is an interpolation, or `None` for another part.
 fn interpolated_expr(part: &Part) -> Option<&Expr>
     ensures { option_map (λ e. e.now) result ≡ part_interpolation (out-Part part.now) }
 {

@@ -72,7 +72,7 @@ fn is_lookup_token(scanned: &Scanned<'_>, n: u32) -> bool
     n < scanned.count() && scanned.spelling(n as usize) == b"lookup".as_slice()
 }
 
-/// The arguments of a call that has just two.
+/// Returns the arguments of a call that has exactly two, or `None` if it has fewer or more.
 fn two_arguments(es: &[Expr]) -> Option<(&Expr, &Expr)>
     ensures { option_map (λ p. (p.0.now, p.1.now)) result ≡ two_arguments es.now }
 {

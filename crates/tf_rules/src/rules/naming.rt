@@ -19,7 +19,8 @@ use hcl_grammar::Boxed;
 use hcl_grammar::tree::{Attribute, Block, Content, Label, Member};
 use std::alloc::AllocError;
 
-/// What a block that begins with this word declares, and the number of the label that names it.
+/// Returns what a block that begins with this word declares, and the number, from 0, of the label
+/// that names it, or `None` if the rule checks no label of such a block.
 fn declared_name(block_type: &[u8]) -> Option<(NameKind, usize)>
     ensures { result ≡ declared_name block_type.now }
 {
