@@ -62,7 +62,7 @@ fn is_all(name: &[u8]) -> bool
     name == b"all".as_slice()
 }
 
-/// The rules that a part names.
+/// Returns the rules that a part names: all of them for `all`, and none for an unknown name.
 fn item_rules(part: &[u8]) -> RuleSet
     ensures { (rule : Rule) → has_rule result rule ≡ names_rule rule part.now }
 {
@@ -73,7 +73,7 @@ fn item_rules(part: &[u8]) -> RuleSet
     RuleSet::from_name(name)
 }
 
-/// The rules that are named between commas; none where one part is no name.
+/// Returns the rules that are named between commas, or `None` if one of the parts is not a name.
 fn listed_rules(t: &[u8]) -> Option<RuleSet>
     ensures { (rule : Rule)
         → option_has result rule
@@ -113,7 +113,7 @@ fn after_separator(t: &[u8], n: usize) -> &[u8]
 }
 
 /// Returns the rules of the list after `tflint-ignore:`, up to the reason after `#`, if there is
-/// one.
+/// one, or `None` if a part of the list is not a name, or no whitespace is before the `#`.
 fn list_rules(t: &[u8]) -> Option<RuleSet>
     ensures { (rule : Rule) → option_has result rule ≡ list_names rule t.now }
 {
@@ -125,7 +125,8 @@ fn list_rules(t: &[u8]) -> Option<RuleSet>
     None
 }
 
-/// The rules that a comment silences, by its text without what opens and closes it.
+/// Returns the rules that a comment silences, by its text without what opens and closes it, or
+/// `None` if no valid list after `tflint-ignore:` is in it.
 fn body_rules(t: &[u8]) -> Option<RuleSet>
     ensures { (rule : Rule) → option_has result rule ≡ body_silences rule t.now }
 {
@@ -135,7 +136,7 @@ fn body_rules(t: &[u8]) -> Option<RuleSet>
     }
 }
 
-/// A comment without what opens and closes it; nothing for other tokens.
+/// Returns a comment without what opens and closes it, or no bytes for another token.
 fn comment_body(kind: Kind, spelling: &[u8]) -> &[u8]
     ensures { result.now ≡ comment_body kind spelling.now }
 {
@@ -166,14 +167,16 @@ pub fn is_comment(kind: Kind) -> bool
     matches!(kind, Kind::LineComment | Kind::InlineComment)
 }
 
-/// The rules that a token silences, if it is a comment that silences any.
+/// Returns the rules that a token silences, or `None` if it is not a comment with a valid list
+/// after `tflint-ignore:`. A list of unknown names alone silences no rule.
 pub fn silenced_rules(kind: Kind, spelling: &[u8]) -> Option<RuleSet>
     ensures { (rule : Rule) → option_has result rule ≡ silences kind spelling.now rule }
 {
     body_rules(comment_body(kind, spelling))
 }
 
-/// Whether a token is a comment that silences anything.
+/// Whether a token is a comment with a valid list after `tflint-ignore:`: no other can silence
+/// anything.
 pub fn silences_any(kind: Kind, spelling: &[u8]) -> bool
     ensures { (rule : Rule) → result ≡ false → silences kind spelling.now rule ≡ false }
 {
