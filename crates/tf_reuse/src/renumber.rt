@@ -15,7 +15,7 @@ fn renumber(number: u32, from: u32, to: u32) -> u32
     to.saturating_add(number.saturating_sub(from))
 }
 
-/// Tokens that a fix keeps, with such numbers.
+/// Returns the tokens that a fix keeps, if any, with their numbers moved as `renumber` moves them.
 fn renumber_kept(kept: Option<KeptTokens>, from: u32, to: u32) -> Option<KeptTokens>
     ensures { result ≡ option_map (spec.renumber_kept from to) kept }
 {
@@ -29,7 +29,7 @@ fn renumber_kept(kept: Option<KeptTokens>, from: u32, to: u32) -> Option<KeptTok
     }
 }
 
-/// What a fix does.
+/// Returns a fix with the numbers of the tokens that it keeps moved.
 fn renumber_fix(fix: Fix, from: u32, to: u32) -> Fix
     ensures { result ≡ spec.renumber_fix from to fix }
 {
@@ -46,7 +46,7 @@ fn renumber_fix(fix: Fix, from: u32, to: u32) -> Fix
     }
 }
 
-/// The fix, where there is one.
+/// Returns a fix with its numbers moved, or `None` for `None`.
 fn renumber_optional_fix(fix: Option<Fix>, from: u32, to: u32) -> Option<Fix>
     ensures { result ≡ option_map (spec.renumber_fix from to) fix }
 {
@@ -56,7 +56,7 @@ fn renumber_optional_fix(fix: Option<Fix>, from: u32, to: u32) -> Option<Fix>
     }
 }
 
-/// What a message names.
+/// Returns a message with the number of the token that it names, if any, moved.
 fn renumber_message(message: Message, from: u32, to: u32) -> Message
     ensures { result ≡ spec.renumber_message from to message }
 {
@@ -70,7 +70,7 @@ fn renumber_message(message: Message, from: u32, to: u32) -> Message
     }
 }
 
-/// A finding with such numbers.
+/// Returns a finding with all its numbers of tokens moved: its own, its message's and its fix's.
 fn renumber_finding(finding: &Finding, from: u32, to: u32) -> Finding
     ensures { result ≡ spec.renumber_finding from to finding.now }
 {
