@@ -70,7 +70,7 @@ fn slice(text: &[u8], from: usize, to: usize) -> &[u8]
     &text[from..to]
 }
 
-/// The text between two places.
+/// Returns the text from one place to another.
 pub fn text_between<'t>(scanned: &Scanned<'t>, from: Boundary, to: Boundary) -> &'t [u8]
     requires order { boundary_index from ≤ boundary_index to }
     requires within { boundary_index to ≤ 2 * length scanned.now.pairs }

@@ -14,7 +14,7 @@ use hcl_token::Kind;
 use std::alloc::{AllocError, Global};
 use tf_rules::Insertion;
 
-/// What is added after `prev`.
+/// Returns the text of the insertion after `prev`, with a space before it if they would join.
 pub fn added_text(
     alloc: Global,
     scanned: &Scanned<'_>,

@@ -77,7 +77,7 @@ impl PackedReplacement {
         }
     }
 
-    /// The replacement.
+    /// Returns the replacement that was packed.
     pub fn unpack(&self) -> Replacement
         ensures { result ≡ self.now }
     {

@@ -28,7 +28,7 @@ pub struct Replacement {
     pub insertion: Insertion,
 }
 
-/// Where the next replacement begins, or the end of the text.
+/// Returns the place where the next replacement begins, or the end of the text if none is left.
 fn next_boundary(scanned: &Scanned<'_>, rest: &[PackedReplacement]) -> Boundary
     ensures { boundary_index result
         ≡ next_index (2 * length scanned.now.pairs + 1) (replacements scanned.now.pairs rest.now) }
@@ -39,7 +39,8 @@ fn next_boundary(scanned: &Scanned<'_>, rest: &[PackedReplacement]) -> Boundary
     }
 }
 
-/// What is added after `prev`, if the parts from `one.to` up to `end` follow it.
+/// Returns the text that a replacement adds after `prev`, if the parts from `one.to` up to `end`
+/// follow it: with a space before or after it where tokens would join.
 fn settled_text(
     alloc: Global,
     scanned: &Scanned<'_>,
@@ -94,7 +95,7 @@ fn replacement_edit(
     Edit::new(alloc, offset(scanned, one.from), removed, &added)
 }
 
-/// The edits that make the replacements.
+/// Returns the edits that make the replacements, one for each, in their order.
 pub fn replacement_edits(
     alloc: Global,
     scanned: &Scanned<'_>,
