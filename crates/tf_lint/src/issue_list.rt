@@ -72,8 +72,8 @@ pub fn issues_of(
 /// of a rule and for any place, if the names that it quotes are short.
 const LINE_CAPACITY: usize = 128;
 
-/// An empty text with capacity for the lines of `count` issues, since a text that grows leaves
-/// smaller freed blocks. Longer lines make it grow.
+/// Returns an empty text with capacity for the lines of `count` issues, since a text that grows
+/// leaves smaller freed blocks. Longer lines make it grow.
 fn with_line_capacity(alloc: Global, name: &str, count: usize) -> Result<String, AllocError>
     ensures { IfOk result (λ lines. string_bytes lines ≡ []) }
 {
@@ -84,8 +84,8 @@ fn with_line_capacity(alloc: Global, name: &str, count: usize) -> Result<String,
     String::with_capacity(alloc, capacity)
 }
 
-/// The place of token `first`, where `place` is that of token `last`: several findings may begin at
-/// one token.
+/// Returns the place of token `first`, if `place` is that of token `last`: several findings may
+/// begin at one token.
 fn next_place(places: &mut Places<'_>, last: u32, place: Place, first: u32) -> Place
     requires place { place ≡ place_of places.old last }
     requires within { first < length places.old }

@@ -59,7 +59,7 @@ fn shrink(alloc: Global, found: Vec<Finding>) -> Result<Vec<Finding>, AllocError
     Ok(list)
 }
 
-/// A member that was read between two places, and what the rules find in it.
+/// Lints a member that was read from token `from` up to token `past` (exclusive).
 fn lint_member(
     alloc: Global,
     scanned: &Scanned<'_>,
@@ -91,7 +91,8 @@ fn lint_member(
     })
 }
 
-/// A member that was skipped between two places, in which no rule finds anything.
+/// Returns a member without findings that was skipped from token `from` up to token `past`
+/// (exclusive).
 fn quiet_member(alloc: Global, from: u32, past: u32) -> LintedMember
     ensures from { result.from ≡ from }
     ensures past { result.past ≡ past }
@@ -106,8 +107,9 @@ fn quiet_member(alloc: Global, from: u32, past: u32) -> LintedMember
     }
 }
 
-/// The member that comes next, if one does, read and looked at. No tree is made of one in which no
-/// rule can find anything.
+/// Reads the next member from token `at` on and returns it with its findings, or `None` if there is
+/// none. Moves `at` to the end of what was read. No tree is made of a member whose tokens show that
+/// no rule can find anything in it.
 fn lint_next_member(
     alloc: Global,
     scanned: &Scanned<'_>,

@@ -55,7 +55,7 @@ pub fn add_line_prefix(
     add_severity(rule, lines)
 }
 
-/// Appends the part after it: ` (RULE)`.
+/// Appends the part of a line after an issue's text: ` (RULE)`.
 pub fn add_line_suffix(rule: Rule, lines: &mut String) -> Result<(), AllocError>
     ensures { OnOk result (string_bytes lines.new ≡ string_bytes lines.old ++ line_suffix rule) }
 {
@@ -64,8 +64,8 @@ pub fn add_line_suffix(rule: Rule, lines: &mut String) -> Result<(), AllocError>
     lines.push_str(")")
 }
 
-/// What the lines of a rule say after the place and before the name that they quote, where no word
-/// says what is named.
+/// Returns what the lines of a rule say after the place and before the name that they quote, if
+/// any, where no word says what is named.
 fn plain_opening(rule: Rule) -> &'static str
     ensures { result.now ≡ line_opening rule None }
 {
@@ -85,7 +85,7 @@ fn plain_opening(rule: Rule) -> &'static str
     }
 }
 
-/// What the lines of a rule say after the name that they quote, and a line end.
+/// Returns what the lines of a rule say after the name that they quote, if any, and a line end.
 fn line_closing(rule: Rule) -> &'static str
     ensures { result.now ≡ line_closing rule }
 {

@@ -284,7 +284,7 @@ enum FixOutcome {
     Edited(EditedText),
 }
 
-/// The edits of the first step, if those of a fix are kept.
+/// Returns the edits of the first step if those of a fix are kept, and otherwise `None`.
 fn first_edits(edits: Edits, keep_edits: bool) -> Option<Edits>
     ensures edits { IfSome result (λ kept. kept ≡ edits) }
     ensures kept { is_some result ≡ keep_edits }
@@ -292,7 +292,7 @@ fn first_edits(edits: Edits, keep_edits: bool) -> Option<Edits>
     if keep_edits { Some(edits) } else { None }
 }
 
-/// The steps of all rules of the set over a text.
+/// Makes the steps of all rules of the set over a text, in the order of their table.
 fn run_all_steps(
     alloc: Global,
     text: &[u8],

@@ -39,7 +39,7 @@ pub struct TextFindings {
     pub found: Vec<Finding>,
 }
 
-/// The members of a text's body, up to its end.
+/// Reads a text's body from token `at` to the text's end, and returns what the rules find in it.
 fn lint_file(
     alloc: Global,
     search: &Search<'_, '_, '_>,
@@ -77,7 +77,8 @@ fn to_parse_result(
     }
 }
 
-/// What was found at the nodes and at the blocks, with the comments, in the order of a report.
+/// Completes what was found at the nodes and then at the blocks of a text: adds what is found at
+/// comments, sorts it in the order of a report, and removes what comments silence.
 fn finish_findings(
     alloc: Global,
     scanned: &Scanned<'_>,
@@ -99,7 +100,8 @@ fn finish_findings(
     }
 }
 
-/// What was found in the members of a text, with the comments, in the order of a report.
+/// Completes what was found in the members of a text: adds what is found at comments, sorts it in
+/// the order of a report, and removes what comments silence.
 fn finish_body(
     alloc: Global,
     scanned: &Scanned<'_>,
