@@ -20,7 +20,7 @@ pub fn is_kind(scanned: &Scanned<'_>, n: usize, kind: Kind) -> bool
     n < scanned.len() && scanned.kind(n) == kind
 }
 
-/// Returns the spelling of a token; nothing where there is no such token.
+/// Returns the spelling of token `n`, from 0, or no bytes if there is no such token.
 pub fn token_text<'t>(scanned: &Scanned<'t>, n: usize) -> &'t [u8]
     ensures { result.now ≡ token_text scanned.now.pairs n }
 {

@@ -32,7 +32,8 @@ fn is_attribute(scanned: &Scanned<'_>, name: &[u8], must_be_empty: bool, a: &Att
         && (!must_be_empty || is_empty_string(a.value.get()))
 }
 
-/// Whether a member of a body is such an attribute.
+/// Whether a member of a body is an attribute with this name and, if `must_be_empty`, the value
+/// `""`.
 fn member_has_attribute(scanned: &Scanned<'_>, name: &[u8], must_be_empty: bool, m: &Member) -> bool
     ensures { result ≡ list_any (is_attribute scanned.now.pairs name.now must_be_empty)
         (member_attributes m.now) }
@@ -43,7 +44,8 @@ fn member_has_attribute(scanned: &Scanned<'_>, name: &[u8], must_be_empty: bool,
     }
 }
 
-/// Whether one of the members of a body is such an attribute.
+/// Whether one of the members of a body is an attribute with this name and, if `must_be_empty`, the
+/// value `""`.
 fn members_have_attribute(
     scanned: &Scanned<'_>,
     name: &[u8],
@@ -61,7 +63,8 @@ fn members_have_attribute(
     false
 }
 
-/// Whether a block on one line has such an attribute.
+/// Whether the attribute that a block on one line may have is there, and has this name and, if
+/// `must_be_empty`, the value `""`.
 fn optional_has_attribute(
     scanned: &Scanned<'_>,
     name: &[u8],
@@ -77,7 +80,7 @@ fn optional_has_attribute(
     }
 }
 
-/// Whether a block has such an attribute.
+/// Whether a block has an attribute with this name and, if `must_be_empty`, the value `""`.
 fn block_has_attribute(scanned: &Scanned<'_>, name: &[u8], must_be_empty: bool, b: &Block) -> bool
     ensures { result ≡ list_any (is_attribute scanned.now.pairs name.now must_be_empty)
         (attributes b.now) }
