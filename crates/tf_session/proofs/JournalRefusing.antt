@@ -1,6 +1,6 @@
 -- What a stream returns, from what its calls do.
 use Rattle.std.proofs.Common.{◌≡◌, false, IfOk, IfErr, Result, Ok, Err, refl, inl, inr}
-use Rattle.tf_stream.specs.Streams.{Source, Target, Untouched}
+use Rattle.tf_stream.specs.Streams.{Untouched}
 use Rattle.tf_session.specs.declared.command.Command.{Command}
 use Rattle.tf_session.specs.declared.command.Done.{Done}
 use Rattle.tf_session.specs.declared.command.Fault.{Fault}
@@ -8,18 +8,18 @@ use Rattle.tf_session.specs.declared.fault.RunFault.{RunFault}
 use Rattle.tf_session.specs.Faults.{run_fault_of}
 use Rattle.tf_session.specs.Records.{RefusesStep}
 use Rattle.tf_session.specs.Session.{SessionContents}
-use Rattle.tf_session.specs.Journals.{Loads, LoadFault, Endpoints, endpoints_of}
+use Rattle.tf_session.specs.Journals.{Loads, LoadFault, Endpoints, NothingWritten}
 use Rattle.tf_session.specs.Journals.{StreamsCommand, JournaledStreamFault, JournaledStreamResult}
 use Rattle.tf_session.specs.Streams.{is_write}
 
-pub not_loaded : (command : Command) (fault : RunFault) (text_in journal_in : Source) (journal_out text_out : Target)
-    → LoadFault fault text_in journal_in → Untouched journal_out → Untouched text_out → JournaledStreamFault command fault (endpoints_of text_in journal_in journal_out text_out)
-not_loaded command fault text_in journal_in journal_out text_out n u v = inl (n, (u, v))
+pub not_loaded : (command : Command) (fault : RunFault) (e : Endpoints)
+    → LoadFault fault e.text_in e.journal_in → NothingWritten e → JournaledStreamFault command fault e
+not_loaded command fault e why still = inl (why, still)
 
-pub not_done : (command : Command) (refusal : Fault) (text_in journal_in : Source) (journal_out text_out : Target) (contents : SessionContents)
-    → Loads contents text_in journal_in → RefusesStep command contents refusal → Untouched journal_out → Untouched text_out
-    → JournaledStreamFault command (run_fault_of refusal) (endpoints_of text_in journal_in journal_out text_out)
-not_done command refusal text_in journal_in journal_out text_out contents l r u v = inr (inl ((contents, l, refusal, refl, r), (u, v)))
+pub not_done : (command : Command) (refusal : Fault) (e : Endpoints) (contents : SessionContents)
+    → Loads contents e.text_in e.journal_in → RefusesStep command contents refusal → NothingWritten e
+    → JournaledStreamFault command (run_fault_of refusal) e
+not_done command refusal e contents loads refuses still = inr (inl ((contents, loads, refusal, refl, refuses), still))
 
 -- the clauses of `command_stream` as the fields of one record
 pub stream_result : (command : Command) (result : Result Done RunFault) (e : Endpoints)
