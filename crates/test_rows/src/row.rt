@@ -62,7 +62,7 @@ impl Row {
 
 /// How far an escape has been read.
 #[derive(Clone, Copy)]
-enum Reading {
+enum EscapeState {
     Plain,
     Escape,
     Hex,
@@ -127,25 +127,25 @@ impl Field {
     }
 
     fn put_plain(&mut self, piece: &str) {
-        let mut state = Reading::Plain;
+        let mut state = EscapeState::Plain;
         for byte in piece.bytes() {
             state = match state {
-                Reading::Plain if byte == b'\\' => Reading::Escape,
-                Reading::Plain => {
+                EscapeState::Plain if byte == b'\\' => EscapeState::Escape,
+                EscapeState::Plain => {
                     self.push(byte);
-                    Reading::Plain
+                    EscapeState::Plain
                 }
-                Reading::Escape if byte == b'x' => Reading::Hex,
-                Reading::Escape => {
+                EscapeState::Escape if byte == b'x' => EscapeState::Hex,
+                EscapeState::Escape => {
                     if let Some(byte) = escaped(byte) {
                         self.push(byte);
                     }
-                    Reading::Plain
+                    EscapeState::Plain
                 }
-                Reading::Hex => Reading::Hex2(digit(byte)),
-                Reading::Hex2(high) => {
+                EscapeState::Hex => EscapeState::Hex2(digit(byte)),
+                EscapeState::Hex2(high) => {
                     self.push(high.wrapping_mul(16) | digit(byte));
-                    Reading::Plain
+                    EscapeState::Plain
                 }
             };
         }

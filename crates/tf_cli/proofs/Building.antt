@@ -13,7 +13,7 @@ use Rattle.clap.specs.declared.builder.command.Command.TheOpen.{Command-F}
 use Rattle.clap.specs.declared.builder.range.ValueRange.{ValueRange}
 use Rattle.clap.specs.declared.builder.value_parser.ValueParser.{ValueParser}
 use Rattle.tf_cli.specs.Options.{has_flag}
-use Rattle.tf_cli.specs.Parsing.{AddsFlag, AreArguments, HasParser, HasRange, IsAdded, IsArgumentOf, IsChanged, IsCommand, command_app, conflict_in, flag_rule, flag_rules, with_command, with_conflict, with_rules}
+use Rattle.tf_cli.specs.Parsing.{AddsCommand, AddsFlag, AreArguments, HasChangedRule, HasParser, HasRange, IsArgumentOf, IsCommand, command_app, conflict_in, flag_rule, flag_rules, with_command, with_conflict, with_rules}
 use Rattle.tf_cli.specs.declared.options.Flag.{Flag}
 use Rattle.tf_cli.specs.declared.options.Subcommand.{Subcommand}
 
@@ -63,7 +63,7 @@ not_free argument made id adds =
     (second_false (not argument.exclusive) (is_empty made.conflicts.items) (is_free_but_for_conflicts argument) some)
 
 pub excluding : (excludes : Bool) (flag other : Flag) (argument made : Arg) (id : Bor (List ℕ)) → conflict_in excludes flag ≡ Some other
-    → AddsConflicts argument made (id ∷ []) → IsChanged (with_conflict (conflict_in excludes flag)) argument made
+    → AddsConflicts argument made (id ∷ []) → HasChangedRule (with_conflict (conflict_in excludes flag)) argument made
 excluding excludes flag other argument made id is adds = (
   not_free argument made id adds ∙ ap (λ (conflict : Option Flag). with_conflict conflict (rule_of argument)) (sym is),
   ap global_of adds.0,
@@ -134,7 +134,7 @@ arguments_added (rule ∷ rules) (a ∷ arguments) old new are adds local =
     (rest.0 ∙ ap (λ (app : App). with_rules app rules) one, rest.1)
 
 pub command_added : {E : Type 0} (excludes : Bool) (subcommand : Subcommand) (program new : Command) (made : Result Command E) (app : App)
-    → app_of program ≡ app → IfOk made (λ command. IsCommand (command_app excludes subcommand) command) → IsAdded program made new
+    → app_of program ≡ app → IfOk made (λ command. IsCommand (command_app excludes subcommand) command) → AddsCommand program made new
     → app_of new ≡ with_command excludes subcommand app
 command_added excludes subcommand program new (Ok command) app is made added =
     added.shape made.1 ∙ ap (λ (c : App). with_subcommand (app_of program) c.top) made.0

@@ -110,8 +110,8 @@ abbrev pub HasParser : ValueParser → Arg → Arg → Type 0
 HasParser parser argument made = made ≡ record argument { value_parser = Some parser }
 
 -- `made` is the argument, changed as its rule is
-abbrev pub IsChanged : (Rule → Rule) → Arg → Arg → Type 0
-IsChanged change argument made =
+abbrev pub HasChangedRule : (Rule → Rule) → Arg → Arg → Type 0
+HasChangedRule change argument made =
     (rule_of made ≡ change (rule_of argument)) × (made.global ≡ argument.global)
 
 -- `new` is the list with the option, if the command has it
@@ -164,6 +164,6 @@ IsNewCommand name arguments command =
     → IsCommand (with_rules (new_app name) rules) command
 
 -- `new` is the program with the command, which was made
-abbrev pub IsAdded : {E : Type 0} → Command → Result Command E → Command → Type 0
-IsAdded program (Ok command) new = AddsSubcommand program command new
-IsAdded program (Err error) new = ⊥
+abbrev pub AddsCommand : {E : Type 0} → Command → Result Command E → Command → Type 0
+AddsCommand program (Ok command) new = AddsSubcommand program command new
+AddsCommand program (Err error) new = ⊥

@@ -1,7 +1,7 @@
 //! Whether two files, with their journals, have anything in common.
 
 ghost use Rattle.std.specs.Prelude.{◌≡◌, ◌↔◌, true};
-ghost use Rattle.tf_files.specs.Common.{IsFound, IsFoundToo, HaveCommon};
+ghost use Rattle.tf_files.specs.Common.{IsFileOf, IsSomeFileOf, HaveCommon};
 
 use crate::file_paths::{FilePaths, is_absent, is_not_found};
 use std::alloc::Global;
@@ -82,7 +82,7 @@ impl FoundFiles {
 
     /// Returns whether one of these files has this id.
     fn has(&self, id: FileId) -> bool
-        ensures { result ≡ true ↔ IsFound id self.now }
+        ensures { result ≡ true ↔ IsFileOf id self.now }
     {
         id == self.text
             || self.journal == Some(id)
@@ -92,7 +92,7 @@ impl FoundFiles {
 
     /// Returns whether there is an id, and one of these files has it.
     fn has_too(&self, id: Option<FileId>) -> bool
-        ensures { result ≡ true ↔ IsFoundToo id self.now }
+        ensures { result ≡ true ↔ IsSomeFileOf id self.now }
     {
         match id {
             Some(id) => self.has(id),

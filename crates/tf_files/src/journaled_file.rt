@@ -22,12 +22,12 @@ use tf_session::{
 #[derive(Drop)]
 pub struct JournaledFile {
     paths: FilePaths,
-    contents: Contents,
+    contents: ReadContents,
 }
 
 /// What was read of a file and its journal.
 #[derive(Drop)]
-struct Contents {
+struct ReadContents {
     text: Vec<u8>,
     journal: Vec<u8>,
     /// Both files from before they were read; none if the system does not say.
@@ -87,7 +87,7 @@ impl JournaledFile {
             → refused.text.items ≡ self.contents.text.items) }
     {
         let JournaledFile { paths, contents } = self;
-        let Contents {
+        let ReadContents {
             mut text,
             journal,
             seen,
@@ -155,7 +155,7 @@ pub fn read_session<R: Files>(
     text: &str,
     journal: &str,
 ) -> Result<Session, RunFault> {
-    let Contents { text, journal, .. } = read(rt, alloc, text, journal)?;
+    let ReadContents { text, journal, .. } = read(rt, alloc, text, journal)?;
     Session::from_texts(alloc, text, journal)
 }
 
@@ -163,7 +163,12 @@ pub fn read_session<R: Files>(
 /// another program may put other files in the place of the names. A journal that is not there is
 /// the empty one; a link to nothing is no such journal, since to write it would create a file
 /// wherever the link leads.
-fn read<R: Files>(rt: &R, alloc: Global, text: &str, journal: &str) -> Result<Contents, RunFault>
+fn read<R: Files>(
+    rt: &R,
+    alloc: Global,
+    text: &str,
+    journal: &str,
+) -> Result<ReadContents, RunFault>
     ensures { IfErr result (λ fault. is_file_fault fault ≡ true) }
 {
     let Ok(text) = fs::open(rt, text) else {
@@ -189,12 +194,12 @@ fn read_both<T: Read + Drop, J: Read + Drop>(
     text: T,
     journal: J,
     seen: Option<Snapshots>,
-) -> Result<Contents, RunFault>
+) -> Result<ReadContents, RunFault>
     ensures { IfErr result (λ fault. is_file_fault fault ≡ true) }
 {
     let text = take_text(alloc, &mut Told::new(text))?;
     let journal = take_journal(alloc, &mut Told::new(journal))?;
-    Ok(Contents {
+    Ok(ReadContents {
         text,
         journal,
         seen,

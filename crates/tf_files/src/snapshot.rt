@@ -12,7 +12,7 @@ use std::rt::Files;
 /// for a write in the same tick of the clock that keeps the size. The time of the last change of
 /// attributes is left out: on an overlay file system to open a file for writing sets it.
 #[derive(Clone, Copy, PartialEq, Eq)]
-struct State {
+struct FileState {
     size: u64,
     modified: (i64, i64),
 }
@@ -21,7 +21,7 @@ struct State {
 #[derive(Clone, Copy, PartialEq, Eq)]
 pub struct Snapshot {
     id: FileId,
-    regular: Option<State>,
+    regular: Option<FileState>,
 }
 
 impl Snapshot {
@@ -37,7 +37,7 @@ impl Snapshot {
     pub fn of_found(found: &Metadata) -> Snapshot {
         Snapshot {
             id: FileId::of(found),
-            regular: found.is_file().then_some(State::of(found)),
+            regular: found.is_file().then_some(FileState::of(found)),
         }
     }
 
@@ -111,10 +111,10 @@ impl Snapshots {
     }
 }
 
-impl State {
+impl FileState {
     /// Returns the state of a file of which this was found.
-    fn of(found: &Metadata) -> State {
-        State {
+    fn of(found: &Metadata) -> FileState {
+        FileState {
             size: found.len(),
             modified: (found.mtime(), found.mtime_nsec()),
         }

@@ -10,7 +10,7 @@ use Rattle.tf_session.specs.Records.{DoesStep}
 use Rattle.tf_session.specs.Session.{SessionContents, with_records, without_records}
 use Rattle.tf_session.specs.Streams.{ReadsText}
 use Rattle.tf_cli.specs.declared.outcome.FileOutcome.{FileOutcome}
-use Rattle.tf_program.specs.Inputs.{IsOutcomeOf, FixesText, NotFixed, WriteBothFault, Fixes, FixInputFault}
+use Rattle.tf_program.specs.Inputs.{IsOutcomeOf, FixesText, NotFixed, WriteBothFault, FixesInput, FixInputFault}
 
 pub no_lines : (rules : RuleSet) (old : SessionContents) (d : Done) (new : SessionContents) → DoesStep (Fix rules) old d new
     → NotFixed rules old RunFault.Memory
@@ -31,7 +31,7 @@ pub fixes : (name : List ℕ) (rules : RuleSet) (source : Source) (target left_o
     (text : List ℕ) (d : Done) (left new out : List ℕ) (r : Result FileOutcome RunFault)
     → ReadsText source text → FixesAlone name rules text d left new → out ≡ new
     → IfOk r (λ file_outcome. IsOutcomeOf file_outcome d.left) → OnOk r (WritesBytes target out) → OnOk r (WritesBytes left_out left)
-    → IfOk r (λ file_outcome. Fixes name rules file_outcome source target left_out)
+    → IfOk r (λ file_outcome. FixesInput name rules file_outcome source target left_out)
 fixes name rules source target left_out text d left new out (Ok file_outcome) taken made is is_outcome written left_written = (
   text,
   taken,

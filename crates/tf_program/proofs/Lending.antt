@@ -9,7 +9,7 @@ use Rattle.tf_session.specs.declared.fault.RunFault.{RunFault}
 use Rattle.tf_session.specs.Streams.{ReadsText, IsReadStreamFault}
 use Rattle.tf_program.specs.declared.file_error.FileError.{FileError}
 use Rattle.tf_program.specs.Location.{IsLocationOf, byte_of}
-use Rattle.tf_program.specs.Work.{WorksOnText, TextFault, HadUnread, HasOutcome, HasFault, IsLocatedIn, IsLocatedInUnread}
+use Rattle.tf_program.specs.Work.{WorksOnText, TextFault, HadUnread, HasOutcomeOnUnread, HasFaultOnUnread, IsLocatedIn, IsLocatedInUnread}
 use Rattle.tf_program.proofs.Refusing.{is_not_located}
 
 had_all : (unread : Option (List ℕ)) (source : Source) → source.before ≡ unread → HadUnread source unread
@@ -33,13 +33,13 @@ whole_text text read unread reads same =
 -- ---- the reader's text is worked on
 
 pub outcome_of : (action : Action) (name : List ℕ) (file_outcome : FileOutcome) (unread : Option (List ℕ)) (source : Source) (target left : Target)
-    → WorksOnText action name file_outcome source target left → source.before ≡ unread → HasOutcome action name file_outcome unread
+    → WorksOnText action name file_outcome source target left → source.before ≡ unread → HasOutcomeOnUnread action name file_outcome unread
 outcome_of action name file_outcome unread source target left works same = (source, target, left, had_all unread source same, works)
 
 pub fault_of : (action : Action) (name : List ℕ) (fault : RunFault) (unread : Option (List ℕ)) (source : Source) (target left : Target) (error : FileError)
-    → TextFault action name fault source target left → error.fault ≡ fault → source.before ≡ unread → HasFault action name error.fault unread
+    → TextFault action name fault source target left → error.fault ≡ fault → source.before ≡ unread → HasFaultOnUnread action name error.fault unread
 fault_of action name fault unread source target left error why is same =
-    subst (λ (f : RunFault). HasFault action name f unread) (sym is) (source, target, left, had_all unread source same, inr why)
+    subst (λ (f : RunFault). HasFaultOnUnread action name f unread) (sym is) (source, target, left, had_all unread source same, inr why)
 
 pub located_here : (locate : Bool) (unread : Option (List ℕ)) (result : Result FileOutcome FileError) → locate ≡ true
     → IfErr result (λ error. IsLocatedInUnread true error unread) → IfErr result (λ error. IsLocatedInUnread locate error unread)
@@ -53,7 +53,7 @@ located_nowhere (Some bytes) locate error off none = (bytes, refl, is_not_locate
 -- ---- the reader's text is read first, and kept
 
 pub not_read : (action : Action) (name : List ℕ) (fault : RunFault) (unread : Option (List ℕ)) (read : Source)
-    → IsReadStreamFault fault read → read.before ≡ unread → HasFault action name fault unread
+    → IsReadStreamFault fault read → read.before ≡ unread → HasFaultOnUnread action name fault unread
 not_read action name fault unread read why same =
     let unused : Target = record { before = None; after = None } in
     (read, unused, unused, had_all unread read same, inl why)
@@ -71,15 +71,15 @@ not_read_nowhere fault (Some bytes) read why = (bytes, refl, (λ _. at_no_byte b
 
 pub outcome_of_text : (action : Action) (name : List ℕ) (file_outcome : FileOutcome) (unread : Option (List ℕ)) (text : List ℕ) (read source : Source) (target left : Target)
     → ReadsText read text → WorksOnText action name file_outcome source target left → read.before ≡ unread → source.before ≡ Some text
-    → HasOutcome action name file_outcome unread
+    → HasOutcomeOnUnread action name file_outcome unread
 outcome_of_text action name file_outcome unread text read source target left reads works same is =
     (source, target, left, had_text unread text source (whole_text text read unread reads same) is, works)
 
 pub fault_of_text : (action : Action) (name : List ℕ) (fault : RunFault) (unread : Option (List ℕ)) (text : List ℕ) (read source : Source) (target left : Target) (error : FileError)
     → ReadsText read text → TextFault action name fault source target left → error.fault ≡ fault → read.before ≡ unread → source.before ≡ Some text
-    → HasFault action name error.fault unread
+    → HasFaultOnUnread action name error.fault unread
 fault_of_text action name fault unread text read source target left error reads why is same had =
-    subst (λ (f : RunFault). HasFault action name f unread) (sym is)
+    subst (λ (f : RunFault). HasFaultOnUnread action name f unread) (sym is)
     (source, target, left, had_text unread text source (whole_text text read unread reads same) had, inr why)
 
 pub located_in_text : (unread : Option (List ℕ)) (text : List ℕ) (read : Source) (error : FileError) → ReadsText read text → IsLocatedIn text true error

@@ -13,7 +13,7 @@ use Rattle.tf_program.specs.declared.batch.Batch.{Batch}
 use Rattle.tf_program.specs.declared.batch.Entry.{Entry}
 use Rattle.tf_program.specs.declared.file_error.FileError.{FileError}
 use Rattle.tf_program.specs.declared.files.Made.{Made}
-use Rattle.tf_program.specs.Work.{IsMade, IsNotMade, file_command}
+use Rattle.tf_program.specs.Work.{IsMadeOfName, IsNotMadeOfName, file_command}
 
 -- ---- what is noted
 
@@ -52,8 +52,8 @@ AreNoted (entry ∷ rest) old new =
 -- a file of this name, with what the command made of it, or why it made nothing
 abbrev pub IsEntryOf : Command → List ℕ → Bool → Entry → Type 0
 IsEntryOf command name locate entry =
-    (entry.name.now ≡ name) × IfOk entry.made (IsMade command name)
-    × IfErr entry.made (IsNotMade command name locate)
+    (entry.name.now ≡ name) × IfOk entry.made (IsMadeOfName command name)
+    × IfErr entry.made (IsNotMadeOfName command name locate)
 
 -- not all files that are left are held: one more can be put in
 abbrev pub HasNext : Batch → Type 0
@@ -91,15 +91,15 @@ MayShare (Ok made) found = FileMayShare made.file found
 MayShare (Err error) found = ⊥
 
 -- none of the files of these entries has one of these
-abbrev pub AreApart : List Entry → FoundFiles → Type 0
-AreApart [] found = Unit {0}
-AreApart (entry ∷ entries) found = ¬ (MayShare entry.made found) × AreApart entries found
+abbrev pub NoneMayShare : List Entry → FoundFiles → Type 0
+NoneMayShare [] found = Unit {0}
+NoneMayShare (entry ∷ entries) found = ¬ (MayShare entry.made found) × NoneMayShare entries found
 
 -- a file may be read: none is held, or none that is held has one of those that were found of it
 abbrev pub Admits : Batch → Type 0
 Admits batch =
     (vec_len batch.entries ≡ 0)
-    ⊎ ((found : FoundFiles) × AreApart batch.entries.items found)
+    ⊎ ((found : FoundFiles) × NoneMayShare batch.entries.items found)
 
 -- ---- what is done on each file of a task
 

@@ -25,20 +25,20 @@ IsOutcomeOf FileOutcome.NotFormatted count = ⊥
 -- ---- fmt, with --check and without; lint
 
 -- The reader returned the whole text; the writer received the text that a fmt makes of it.
-abbrev pub Formats : FileOutcome → Source → Target → Type 0
-Formats file_outcome source target =
+abbrev pub FormatsInput : FileOutcome → Source → Target → Type 0
+FormatsInput file_outcome source target =
     (file_outcome ≡ FileOutcome.Nothing) × streaming.FormatsStream source target
 
 -- The reader returned a whole text that a fmt does not refuse; the outcome says whether it is
 -- formatted.
-abbrev pub Checks : FileOutcome → Source → Type 0
-Checks FileOutcome.Nothing source = streaming.ChecksStream true source
-Checks FileOutcome.Issue source = ⊥
-Checks FileOutcome.NotFormatted source = streaming.ChecksStream false source
+abbrev pub ChecksInput : FileOutcome → Source → Type 0
+ChecksInput FileOutcome.Nothing source = streaming.ChecksStream true source
+ChecksInput FileOutcome.Issue source = ⊥
+ChecksInput FileOutcome.NotFormatted source = streaming.ChecksStream false source
 
 -- The reader returned the whole text; the writer received the lines of its issues.
-abbrev pub Lints : List ℕ → RuleSet → FileOutcome → Source → Target → Type 0
-Lints name rules file_outcome source target =
+abbrev pub LintsInput : List ℕ → RuleSet → FileOutcome → Source → Target → Type 0
+LintsInput name rules file_outcome source target =
     (count : ℕ) × IsOutcomeOf file_outcome count × lines.LintsStream name rules count source target
 
 -- ---- fix
@@ -65,8 +65,8 @@ WriteBothFault fault target text left_out left =
 
 -- The reader returned the whole text; one writer received the text that a fix makes of it, the
 -- other the lines of the issues that are left.
-abbrev pub Fixes : List ℕ → RuleSet → FileOutcome → Source → Target → Target → Type 0
-Fixes name rules file_outcome source target left_out =
+abbrev pub FixesInput : List ℕ → RuleSet → FileOutcome → Source → Target → Target → Type 0
+FixesInput name rules file_outcome source target left_out =
     (text : List ℕ) × ReadsText source text
     × (d : Done) × (left : List ℕ) × (new : SessionContents)
     × FixesText name rules (without_records text) d left new

@@ -17,7 +17,8 @@ use Rattle.tf_files.specs.FileEffects.{HasEffectOnFile, HasNoEffectOnFile}
 use Rattle.tf_files.specs.Opening.{is_file_fault}
 use Rattle.tf_files.specs.declared.journaled_file.FileEffect.{FileEffect}
 use Rattle.tf_files.specs.declared.journaled_file.JournaledFile.{JournaledFile}
-use Rattle.tf_program.specs.Inputs.{IsOutcomeOf, Formats, Checks, Lints, Fixes, FixInputFault}
+use Rattle.tf_program.specs.Inputs.{IsOutcomeOf, FormatsInput, ChecksInput, LintsInput, FixesInput}
+use Rattle.tf_program.specs.Inputs.{FixInputFault}
 use Rattle.tf_program.specs.Location.{IsLocationOf, byte_of}
 use Rattle.tf_program.specs.declared.file_error.FileError.{FileError}
 use Rattle.tf_program.specs.declared.files.Made.{Made}
@@ -52,13 +53,13 @@ IsMadeOf command file made =
     × (made.lines ≡ effect.lines) × (made.file ≡ effect.file)
 
 -- what a command made of a file with this name
-abbrev pub IsMade : Command → List ℕ → Made → Type 0
-IsMade command name made =
+abbrev pub IsMadeOfName : Command → List ℕ → Made → Type 0
+IsMadeOfName command name made =
     (file : JournaledFile) × (string_bytes file.paths.text ≡ name) × IsMadeOf command file made
 
 -- the text of a file that was read
-abbrev pub text_of : JournaledFile → List ℕ
-text_of file = file.contents.text.items
+abbrev pub file_text : JournaledFile → List ℕ
+file_text file = file.contents.text.items
 
 -- an error of this text: it has its location there if errors are located, and else none
 abbrev pub IsLocatedIn : List ℕ → Bool → FileError → Type 0
@@ -69,11 +70,11 @@ IsLocatedIn text locate error =
 -- why a command made nothing of a file with this name: the file and its journal were not opened,
 -- for an error of files; or they were read, and the command has no effect on them, for an error that
 -- is located in the text that was read
-abbrev pub IsNotMade : Command → List ℕ → Bool → FileError → Type 0
-IsNotMade command name locate error =
+abbrev pub IsNotMadeOfName : Command → List ℕ → Bool → FileError → Type 0
+IsNotMadeOfName command name locate error =
     ((is_file_fault error.fault ≡ true) × (error.location ≡ None))
     ⊎ ((file : JournaledFile) × (string_bytes file.paths.text ≡ name)
-    × HasNoEffectOnFile command file error.fault × IsLocatedIn (text_of file) locate error)
+    × HasNoEffectOnFile command file error.fault × IsLocatedIn (file_text file) locate error)
 
 -- ---- the text of a reader alone: no file is changed
 
@@ -86,13 +87,13 @@ check_line name FileOutcome.Issue = []
 -- What an action on a text reads, writes to the output and to `left`, and returns. Revert and list
 -- have no text.
 abbrev pub WorksOnText : Action → List ℕ → FileOutcome → Source → Target → Target → Type 0
-WorksOnText Action.Format name file_outcome source target left = Formats file_outcome source target
+WorksOnText Action.Format name file_outcome source target left = FormatsInput file_outcome source target
 WorksOnText Action.Check name file_outcome source target left =
-    Checks file_outcome source × WritesBytes target (check_line name file_outcome)
+    ChecksInput file_outcome source × WritesBytes target (check_line name file_outcome)
 WorksOnText (Action.Lint rules) name file_outcome source target left =
-    Lints name rules file_outcome source target
+    LintsInput name rules file_outcome source target
 WorksOnText (Action.Fix rules) name file_outcome source target left =
-    Fixes name rules file_outcome source target left
+    FixesInput name rules file_outcome source target left
 WorksOnText (Action.Revert number) name file_outcome source target left =
     file_outcome ≡ FileOutcome.Nothing
 WorksOnText Action.List name file_outcome source target left = file_outcome ≡ FileOutcome.Nothing
@@ -102,7 +103,7 @@ WorksOnText Action.List name file_outcome source target left = file_outcome ≡ 
 abbrev pub NamedCheckFault : List ℕ → RunFault → Source → Target → Type 0
 NamedCheckFault name fault source target =
     CheckStreamFault fault source
-    ⊎ ((file_outcome : FileOutcome) × Checks file_outcome source
+    ⊎ ((file_outcome : FileOutcome) × ChecksInput file_outcome source
     × ((fault ≡ RunFault.Memory)
     ⊎ IsWriteFault SessionPart.Text fault target (check_line name file_outcome)))
 
@@ -124,14 +125,14 @@ abbrev pub HadUnread : Source → Option (List ℕ) → Type 0
 HadUnread source unread = IfSome unread (λ bytes. source.before ≡ Some bytes)
 
 -- the outcome of the action on what the reader had left
-abbrev pub HasOutcome : Action → List ℕ → FileOutcome → Option (List ℕ) → Type 0
-HasOutcome action name file_outcome unread =
+abbrev pub HasOutcomeOnUnread : Action → List ℕ → FileOutcome → Option (List ℕ) → Type 0
+HasOutcomeOnUnread action name file_outcome unread =
     (source : Source) × (target : Target) × (left : Target)
     × HadUnread source unread × WorksOnText action name file_outcome source target left
 
 -- why what the reader had left was not read, or why the action on it failed
-abbrev pub HasFault : Action → List ℕ → RunFault → Option (List ℕ) → Type 0
-HasFault action name fault unread =
+abbrev pub HasFaultOnUnread : Action → List ℕ → RunFault → Option (List ℕ) → Type 0
+HasFaultOnUnread action name fault unread =
     (source : Source) × (target : Target) × (left : Target) × HadUnread source unread
     × (IsReadStreamFault fault source ⊎ TextFault action name fault source target left)
 

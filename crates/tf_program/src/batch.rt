@@ -4,7 +4,7 @@
 ghost use Rattle.std.specs.Prelude.{◌≡◌, ◌+◌, ◌<◌, ◌≤◌, ◌↔◌, true, [], ◌∷◌, length, vec_len};
 ghost use Rattle.tf_program.specs.Batches.{IsNoted, IsEntryNoted, AreNoted, HasNext, ReportsRest};
 ghost use Rattle.tf_program.specs.Batches.{Notes, IsEntryOf, PutsIn, IsStart};
-ghost use Rattle.tf_program.specs.Batches.{MayShare, AreApart, Admits};
+ghost use Rattle.tf_program.specs.Batches.{MayShare, NoneMayShare, Admits};
 
 use crate::file_error::FileError;
 use crate::files::{Made, change_file};
@@ -18,11 +18,11 @@ use tf_session::{Command, RunFault};
 
 /// How many files are held at most. More would hardly save any wait; and while a file is saved, two
 /// are open.
-const MOST_FILES: usize = 64;
+const MAX_FILES: usize = 64;
 
 /// How many bytes are held at most, unless one file has more: new texts, journals and lines. What
 /// the allocator loses beside them makes it 16 MB at most.
-const MOST_BYTES: usize = 12 << 20;
+const MAX_BYTES: usize = 12 << 20;
 
 /// A file that a command has worked on, until it is saved and reported.
 #[derive(Drop)]
@@ -107,7 +107,7 @@ impl<'a> Batch<'a> {
             return true;
         }
         match FoundFiles::of_name(rt, self.alloc, name) {
-            Some(found) => are_apart(&self.entries, &found),
+            Some(found) => none_may_share(&self.entries, &found),
             None => false,
         }
     }
@@ -186,7 +186,7 @@ impl<'a> Batch<'a> {
 
     /// Returns whether this many bytes more may be held.
     fn has_space(&self, bytes: usize) -> bool {
-        self.bytes.saturating_add(bytes) <= MOST_BYTES
+        self.bytes.saturating_add(bytes) <= MAX_BYTES
     }
 
     /// Returns whether an entry may wait for others: one that has changed begins a batch, unless it
@@ -239,7 +239,7 @@ impl<'a> Batch<'a> {
     /// Returns whether another entry may be held: fewer than `MOST_FILES` are, with fewer than
     /// `MOST_BYTES` bytes.
     fn may_hold_more(&self) -> bool {
-        self.entries.len() < MOST_FILES && self.bytes < MOST_BYTES
+        self.entries.len() < MAX_FILES && self.bytes < MAX_BYTES
     }
 
     /// Saves what is held, and then an entry.
@@ -392,8 +392,8 @@ impl<'a> Entry<'a> {
 }
 
 /// Returns whether none of the files of entries may have a file in common with another one.
-fn are_apart(entries: &[Entry<'_>], found: &FoundFiles) -> bool
-    ensures { result ≡ true ↔ AreApart entries.now found.now }
+fn none_may_share(entries: &[Entry<'_>], found: &FoundFiles) -> bool
+    ensures { result ≡ true ↔ NoneMayShare entries.now found.now }
 {
     for entry in entries {
         if entry.shares(found) {

@@ -11,7 +11,7 @@ use Rattle.tf_lint.specs.ParseFaults.{IsUtf8WithinLimit}
 use Rattle.tf_session.specs.Runs.{is_memory}
 use Rattle.tf_session.specs.Machine.{StackEntry, Stack, initial_stack, push_text, done, PushesText, PopsText, StackStep, StackMayAllocate, StackRun, IsNotTake, WithoutTake}
 use Rattle.tf_session.specs.Layers.{Layer, History, initial_history, last_text, top_text, push_layer, PushesLayer, PopsLayer, PopsLast, HistoryStep, HistoryMayAllocate, HistoryRun}
-use Rattle.tf_session.specs.MachinesAgree.{LayersMatchStack, SameTexts, MachinesAgreeWithoutTake}
+use Rattle.tf_session.specs.MachinesAgree.{LayersMatchStack, MatchesStack, MachinesAgreeWithoutTake}
 use Rattle.tf_session.proofs.Lists.{not_nil, same_last}
 use Rattle.tf_session.proofs.Histories.{last_on}
 
@@ -20,7 +20,7 @@ shown_top first layers top [] h = ap (λ (x : List Layer). last_text first x) h.
 shown_top first layers top (under ∷ rest) h = ap (λ (x : List Layer). last_text first x) h.2 ∙ last_on first h.0 (h.1 ∷ []) ∙ h.3
 
 -- a text goes on both
-both_on : (b : Bool) (command : Command) (word : Word) (made : Rewrite) (p : History) (s : Stack) → texts_differ s.top made.text ≡ b → SameTexts p s → SameTexts (push_layer word made p) (push_text command made.text s)
+both_on : (b : Bool) (command : Command) (word : Word) (made : Rewrite) (p : History) (s : Stack) → texts_differ s.top made.text ≡ b → MatchesStack p s → MatchesStack (push_layer word made p) (push_text command made.text s)
 both_on true command word made p s e h =
     let top : texts_differ (top_text p) made.text ≡ true = ap (λ (x : List ℕ). texts_differ x made.text) (shown_top p.first p.layers s.top s.below h) ∙ e in
     let layer : Layer = record { word = word; edits = made.edits; text = made.text } in
@@ -28,58 +28,58 @@ both_on true command word made p s e h =
     let n : Stack = record { top = made.text; below = (record { text = s.top; command = command }) ∷ s.below } in
     let up : push_layer word made p ≡ q = rw top refl in
     let on : push_text command made.text s ≡ n = rw e refl in
-    let shows : SameTexts q n = (p.layers, layer, refl, refl, e, h) in
-    subst (λ (x : History). SameTexts x (push_text command made.text s)) (sym up) (subst (λ (x : Stack). SameTexts q x) (sym on) shows)
+    let shows : MatchesStack q n = (p.layers, layer, refl, refl, e, h) in
+    subst (λ (x : History). MatchesStack x (push_text command made.text s)) (sym up) (subst (λ (x : Stack). MatchesStack q x) (sym on) shows)
 both_on false command word made p s e h =
     let top : texts_differ (top_text p) made.text ≡ false = ap (λ (x : List ℕ). texts_differ x made.text) (shown_top p.first p.layers s.top s.below h) ∙ e in
     let up : push_layer word made p ≡ p = rw top refl in
     let on : push_text command made.text s ≡ s = rw e refl in
-    subst (λ (x : History). SameTexts x (push_text command made.text s)) (sym up) (subst (λ (x : Stack). SameTexts p x) (sym on) h)
+    subst (λ (x : History). MatchesStack x (push_text command made.text s)) (sym up) (subst (λ (x : Stack). MatchesStack p x) (sym on) h)
 
-text_down : (command : Command) (word : Word) (answer : Result Rewrite Fault) (p q : History) (s : Stack) (r : Result Done Fault) → SameTexts p s → PushesLayer word answer p r q → (n : Stack) × PushesText command answer s r n × SameTexts q n
+text_down : (command : Command) (word : Word) (answer : Result Rewrite Fault) (p q : History) (s : Stack) (r : Result Done Fault) → MatchesStack p s → PushesLayer word answer p r q → (n : Stack) × PushesText command answer s r n × MatchesStack q n
 text_down command word (Ok made) p q s r h g =
     let top = shown_top p.first p.layers s.top s.below h in (
       push_text command made.text s,
       (g.0 ∙ ap (λ (x : List ℕ). Ok (done (texts_differ x made.text) made.fixed made.left)) top, refl),
-      subst (λ (x : History). SameTexts x (push_text command made.text s)) (sym g.1) (both_on (texts_differ s.top made.text) command word made p s refl h),
+      subst (λ (x : History). MatchesStack x (push_text command made.text s)) (sym g.1) (both_on (texts_differ s.top made.text) command word made p s refl h),
     )
-text_down command word (Err fault) p q s r h g = (s, (g.0, refl), subst (λ (x : History). SameTexts x s) (sym g.1) h)
+text_down command word (Err fault) p q s r h g = (s, (g.0, refl), subst (λ (x : History). MatchesStack x s) (sym g.1) h)
 
-text_up : (command : Command) (word : Word) (answer : Result Rewrite Fault) (p : History) (s n : Stack) (r : Result Done Fault) → SameTexts p s → PushesText command answer s r n → (q : History) × PushesLayer word answer p r q × SameTexts q n
+text_up : (command : Command) (word : Word) (answer : Result Rewrite Fault) (p : History) (s n : Stack) (r : Result Done Fault) → MatchesStack p s → PushesText command answer s r n → (q : History) × PushesLayer word answer p r q × MatchesStack q n
 text_up command word (Ok made) p s n r h g =
     let top = shown_top p.first p.layers s.top s.below h in (
       push_layer word made p,
       (g.0 ∙ ap (λ (x : List ℕ). Ok (done (texts_differ x made.text) made.fixed made.left)) (sym top), refl),
-      subst (λ (x : Stack). SameTexts (push_layer word made p) x) (sym g.1) (both_on (texts_differ s.top made.text) command word made p s refl h),
+      subst (λ (x : Stack). MatchesStack (push_layer word made p) x) (sym g.1) (both_on (texts_differ s.top made.text) command word made p s refl h),
     )
-text_up command word (Err fault) p s n r h g = (p, (g.0, refl), subst (λ (x : Stack). SameTexts p x) (sym g.1) h)
+text_up command word (Err fault) p s n r h g = (p, (g.0, refl), subst (λ (x : Stack). MatchesStack p x) (sym g.1) h)
 
-off_down : (p q : History) (top : List ℕ) (below : List StackEntry) (r : Result Done Fault) → LayersMatchStack p.first p.layers top below → PopsLayer p r q → (n : Stack) × PopsText top below r n × SameTexts q n
+off_down : (p q : History) (top : List ℕ) (below : List StackEntry) (r : Result Done Fault) → LayersMatchStack p.first p.layers top below → PopsLayer p r q → (n : Stack) × PopsText top below r n × MatchesStack q n
 off_down p q top [] (Ok d) h g = absurd (not_nil g.rest g.last (sym g.layers_are ∙ h.0))
-off_down p q top [] (Err fault) h g = (initial_stack top, (ap (λ (x : Fault). Err x) g.0, refl), subst (λ (x : History). SameTexts x (initial_stack top)) (sym g.2) h)
+off_down p q top [] (Err fault) h g = (initial_stack top, (ap (λ (x : Fault). Err x) g.0, refl), subst (λ (x : History). MatchesStack x (initial_stack top)) (sym g.2) h)
 off_down p q top (under ∷ rest) (Ok d) h g =
     let lasts = same_last g.rest h.0 g.last h.1 (sym g.layers_are ∙ h.2) in
     let n : Stack = record { top = under.text; below = rest } in
-    let shows : SameTexts (record { first = p.first; layers = g.rest }) n = subst (λ (x : List Layer). LayersMatchStack p.first x under.text rest) (sym lasts.0) h.5 in
-    let here = subst (λ (x : History). SameTexts x n) (sym g.new_is) shows in
+    let shows : MatchesStack (record { first = p.first; layers = g.rest }) n = subst (λ (x : List Layer). LayersMatchStack p.first x under.text rest) (sym lasts.0) h.5 in
+    let here = subst (λ (x : History). MatchesStack x n) (sym g.new_is) shows in
     let low : top_text q ≡ under.text = shown_top q.first q.layers under.text rest here in
     let high : top_text p ≡ top = shown_top p.first p.layers top (under ∷ rest) h in
     let changed : texts_differ (top_text q) (top_text p) ≡ true = (λ i. texts_differ (low i) (high i)) ∙ h.4 in
     (n, (ap (λ (x : Done). Ok x) (g.done_is ∙ ap (λ (b : Bool). done b 0 0) changed), refl), here)
 off_down p q top (under ∷ rest) (Err fault) h g = absurd (not_nil h.0 h.1 (sym h.2 ∙ g.1))
 
-off_up : (p : History) (top : List ℕ) (below : List StackEntry) (n : Stack) (r : Result Done Fault) → LayersMatchStack p.first p.layers top below → PopsText top below r n → (q : History) × PopsLayer p r q × SameTexts q n
+off_up : (p : History) (top : List ℕ) (below : List StackEntry) (n : Stack) (r : Result Done Fault) → LayersMatchStack p.first p.layers top below → PopsText top below r n → (q : History) × PopsLayer p r q × MatchesStack q n
 off_up p top [] n r h g =
-    (p, subst (λ (x : Result Done Fault). PopsLayer p x p) (sym g.0) (refl, h.0, refl), subst (λ (x : Stack). SameTexts p x) (sym g.1) h)
+    (p, subst (λ (x : Result Done Fault). PopsLayer p x p) (sym g.0) (refl, h.0, refl), subst (λ (x : Stack). MatchesStack p x) (sym g.1) h)
 off_up p top (under ∷ rest) n r h g =
     let q : History = record { first = p.first; layers = h.0 } in
     let low : top_text q ≡ under.text = shown_top p.first h.0 under.text rest h.5 in
     let high : top_text p ≡ top = shown_top p.first p.layers top (under ∷ rest) h in
     let changed : texts_differ (top_text q) (top_text p) ≡ true = (λ i. texts_differ (low i) (high i)) ∙ h.4 in
     let off : PopsLast p (done true 0 0) q = record { rest = h.0; last = h.1; layers_are = h.2; new_is = refl; done_is = ap (λ (b : Bool). done b 0 0) (sym changed) } in
-    (q, subst (λ (x : Result Done Fault). PopsLayer p x q) (sym g.0) off, subst (λ (x : Stack). SameTexts q x) (sym g.1) h.5)
+    (q, subst (λ (x : Result Done Fault). PopsLayer p x q) (sym g.0) off, subst (λ (x : Stack). MatchesStack q x) (sym g.1) h.5)
 
-act_down : (command : Command) (p q : History) (s : Stack) (r : Result Done Fault) → IsNotTake command → SameTexts p s → HistoryStep command p r q → (n : Stack) × StackStep command s r n × SameTexts q n
+act_down : (command : Command) (p q : History) (s : Stack) (r : Result Done Fault) → IsNotTake command → MatchesStack p s → HistoryStep command p r q → (n : Stack) × StackStep command s r n × MatchesStack q n
 act_down Fmt p q s r plain h g =
     let f = text_down Fmt Word.Fmt g.0 p q s r h g.2 in
     (f.0, (g.0, subst (λ (x : List ℕ). Rewrites Fmt x g.0) (shown_top p.first p.layers s.top s.below h) g.1, f.1), f.2)
@@ -89,7 +89,7 @@ act_down (Fix rules) p q s r plain h g =
 act_down Revert p q s r plain h g = off_down p q s.top s.below r h g
 act_down (Take n) p q s r plain h g = absurd plain
 
-act_up : (command : Command) (p : History) (s n : Stack) (r : Result Done Fault) → IsNotTake command → SameTexts p s → StackStep command s r n → (q : History) × HistoryStep command p r q × SameTexts q n
+act_up : (command : Command) (p : History) (s n : Stack) (r : Result Done Fault) → IsNotTake command → MatchesStack p s → StackStep command s r n → (q : History) × HistoryStep command p r q × MatchesStack q n
 act_up Fmt p s n r plain h g =
     let f = text_up Fmt Word.Fmt g.0 p s n r h g.2 in
     (f.0, (g.0, subst (λ (x : List ℕ). Rewrites Fmt x g.0) (sym (shown_top p.first p.layers s.top s.below h)) g.1, f.1), f.2)
@@ -109,30 +109,30 @@ some_layers : (first : List ℕ) (layers : List Layer) (top : List ℕ) (below :
 some_layers first layers top [] h f e = f refl
 some_layers first layers top (under ∷ rest) h f e = not_nil h.0 h.1 (sym h.2 ∙ e)
 
-allocation_down : (command : Command) (p : History) (s : Stack) → IsNotTake command → SameTexts p s → HistoryMayAllocate command p → StackMayAllocate command s
+allocation_down : (command : Command) (p : History) (s : Stack) → IsNotTake command → MatchesStack p s → HistoryMayAllocate command p → StackMayAllocate command s
 allocation_down Fmt p s plain h a = subst IsUtf8WithinLimit (shown_top p.first p.layers s.top s.below h) a
 allocation_down (Fix rules) p s plain h a = subst IsUtf8WithinLimit (shown_top p.first p.layers s.top s.below h) a
 allocation_down Revert p s plain h a = some_below p.first p.layers s.top s.below h a
 allocation_down (Take n) p s plain h a = absurd plain
 
-allocation_up : (command : Command) (p : History) (s : Stack) → IsNotTake command → SameTexts p s → StackMayAllocate command s → HistoryMayAllocate command p
+allocation_up : (command : Command) (p : History) (s : Stack) → IsNotTake command → MatchesStack p s → StackMayAllocate command s → HistoryMayAllocate command p
 allocation_up Fmt p s plain h a = subst IsUtf8WithinLimit (sym (shown_top p.first p.layers s.top s.below h)) a
 allocation_up (Fix rules) p s plain h a = subst IsUtf8WithinLimit (sym (shown_top p.first p.layers s.top s.below h)) a
 allocation_up Revert p s plain h a = some_layers p.first p.layers s.top s.below h a
 allocation_up (Take n) p s plain h a = absurd plain
 
-down_by : (b : Bool) (command : Command) (p q : History) (s : Stack) (r : Result Done Fault) → IsNotTake command → SameTexts p s → MatchBool b (HistoryMayAllocate command p × (q ≡ p)) (HistoryStep command p r q)
-    → (n : Stack) × MatchBool b (StackMayAllocate command s × (n ≡ s)) (StackStep command s r n) × SameTexts q n
-down_by true command p q s r plain h g = (s, (allocation_down command p s plain h g.0, refl), subst (λ (x : History). SameTexts x s) (sym g.1) h)
+down_by : (b : Bool) (command : Command) (p q : History) (s : Stack) (r : Result Done Fault) → IsNotTake command → MatchesStack p s → MatchBool b (HistoryMayAllocate command p × (q ≡ p)) (HistoryStep command p r q)
+    → (n : Stack) × MatchBool b (StackMayAllocate command s × (n ≡ s)) (StackStep command s r n) × MatchesStack q n
+down_by true command p q s r plain h g = (s, (allocation_down command p s plain h g.0, refl), subst (λ (x : History). MatchesStack x s) (sym g.1) h)
 down_by false command p q s r plain h g = act_down command p q s r plain h g
 
-up_by : (b : Bool) (command : Command) (p : History) (s n : Stack) (r : Result Done Fault) → IsNotTake command → SameTexts p s → MatchBool b (StackMayAllocate command s × (n ≡ s)) (StackStep command s r n)
-    → (q : History) × MatchBool b (HistoryMayAllocate command p × (q ≡ p)) (HistoryStep command p r q) × SameTexts q n
-up_by true command p s n r plain h g = (p, (allocation_up command p s plain h g.0, refl), subst (λ (x : Stack). SameTexts p x) (sym g.1) h)
+up_by : (b : Bool) (command : Command) (p : History) (s n : Stack) (r : Result Done Fault) → IsNotTake command → MatchesStack p s → MatchBool b (StackMayAllocate command s × (n ≡ s)) (StackStep command s r n)
+    → (q : History) × MatchBool b (HistoryMayAllocate command p × (q ≡ p)) (HistoryStep command p r q) × MatchesStack q n
+up_by true command p s n r plain h g = (p, (allocation_up command p s plain h g.0, refl), subst (λ (x : Stack). MatchesStack p x) (sym g.1) h)
 up_by false command p s n r plain h g = act_up command p s n r plain h g
 
-run_down : (commands : List Command) (replies : List (Result Done Fault)) (p q : History) (s : Stack) → WithoutTake commands → SameTexts p s → HistoryRun p commands replies q → (n : Stack) × StackRun s commands replies n × SameTexts q n
-run_down [] [] p q s plain h g = (s, refl, subst (λ (x : History). SameTexts x s) (sym g) h)
+run_down : (commands : List Command) (replies : List (Result Done Fault)) (p q : History) (s : Stack) → WithoutTake commands → MatchesStack p s → HistoryRun p commands replies q → (n : Stack) × StackRun s commands replies n × MatchesStack q n
+run_down [] [] p q s plain h g = (s, refl, subst (λ (x : History). MatchesStack x s) (sym g) h)
 run_down [] (r ∷ replies) p q s plain h g = absurd g
 run_down (c ∷ commands) [] p q s plain h g = absurd g
 run_down (c ∷ commands) (r ∷ replies) p q s plain h g =
@@ -140,8 +140,8 @@ run_down (c ∷ commands) (r ∷ replies) p q s plain h g =
     let f = run_down commands replies g.0 q d.0 plain.1 d.2 g.2 in
     (f.0, (d.0, d.1, f.1), f.2)
 
-run_up : (commands : List Command) (replies : List (Result Done Fault)) (p : History) (s n : Stack) → WithoutTake commands → SameTexts p s → StackRun s commands replies n → (q : History) × HistoryRun p commands replies q × SameTexts q n
-run_up [] [] p s n plain h g = (p, refl, subst (λ (x : Stack). SameTexts p x) (sym g) h)
+run_up : (commands : List Command) (replies : List (Result Done Fault)) (p : History) (s n : Stack) → WithoutTake commands → MatchesStack p s → StackRun s commands replies n → (q : History) × HistoryRun p commands replies q × MatchesStack q n
+run_up [] [] p s n plain h g = (p, refl, subst (λ (x : Stack). MatchesStack p x) (sym g) h)
 run_up [] (r ∷ replies) p s n plain h g = absurd g
 run_up (c ∷ commands) [] p s n plain h g = absurd g
 run_up (c ∷ commands) (r ∷ replies) p s n plain h g =

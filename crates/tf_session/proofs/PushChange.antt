@@ -91,12 +91,12 @@ push_fix rules lent t js change fixed left reply u ks same makes turns replied p
 
 -- ---- a text formatted or fixed, with no record before it
 
-abbrev record_of : Word → Bool → EditList → List JournalEntry
-record_of word true edits = record { word = word; edits = edits } ∷ []
-record_of word false edits = []
+abbrev added_records : Word → Bool → EditList → List JournalEntry
+added_records word true edits = record { word = word; edits = edits } ∷ []
+added_records word false edits = []
 
 adds_first : (command : Command) (word : Word) → HasWord command word → (b : Bool) (text : List ℕ) (made : Rewrite) → Transforms made.edits text made.text
-    → AddsRecordOf b command text made [] (record_of word b made.edits)
+    → AddsRecordOf b command text made [] (added_records word b made.edits)
 adds_first command word has true text made turns =
     (record { word = word; edits = made.edits }, refl, record { word = has; edits = refl; transforms = turns })
 adds_first command word has false text made turns = refl
@@ -107,12 +107,12 @@ formats text new p reads layout short turns =
     let made : Rewrite = record { text = new; edits = layout_edits p.scanned; fixed = 0; left = 0 } in
     let makes = changes text new (layout_edits p.scanned) p reads layout short refl in
     let here = subst (λ (x : List ℕ). Transforms (layout_edits p.scanned) x new) reads.0 turns in
-    (done (texts_differ text new) 0 0, record_of Word.Fmt (texts_differ text new) (layout_edits p.scanned), (made, makes, (refl, refl, adds_first Fmt Word.Fmt refl (texts_differ text new) text made here)))
+    (done (texts_differ text new) 0 0, added_records Word.Fmt (texts_differ text new) (layout_edits p.scanned), (made, makes, (refl, refl, adds_first Fmt Word.Fmt refl (texts_differ text new) text made here)))
 
 pub fix_transforms : (rules : RuleSet) (text : List ℕ) (made : Rewrite) → Rewrites (Fix rules) text (Ok made) → Transforms made.edits text made.text
     → (records : List JournalEntry) × DoesStep (Fix rules) (without_records text) (done (texts_differ text made.text) made.fixed made.left) (with_records made.text records)
 fix_transforms rules text made makes turns =
-    (record_of Word.Fix (texts_differ text made.text) made.edits, (made, makes, (refl, refl, adds_first (Fix rules) Word.Fix refl (texts_differ text made.text) text made turns)))
+    (added_records Word.Fix (texts_differ text made.text) made.edits, (made, makes, (refl, refl, adds_first (Fix rules) Word.Fix refl (texts_differ text made.text) text made turns)))
 
 pub same_differ : (t : List ℕ) → texts_differ t t ≡ false
 same_differ t = rw ((bytes_eq-Decides t t).1 refl) refl

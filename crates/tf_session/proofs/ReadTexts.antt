@@ -5,7 +5,7 @@ use Rattle.tf_rules.specs.declared.rule.Rule.{Rule}
 use Rattle.tf_rules.specs.declared.rule_set.RuleSet.{RuleSet}
 use Rattle.tf_session.specs.declared.command.Command.TheVariants.{Fix}
 use Rattle.tf_session.specs.Faults.{fault_of_fix}
-use Rattle.tf_session.specs.Rewrites.{IsReadFault, RefusesText}
+use Rattle.tf_session.specs.Rewrites.{IsSyntaxFault, RefusesText}
 use Rattle.tf_session.specs.Parsing.{DoesParse}
 use Rattle.tf_lint.proofs.DoesNotParse.{parses_of}
 use Rattle.tf_lint.specs.declared.fault.FixFault.{FixFault}
@@ -19,7 +19,7 @@ use Rattle.tf_lint.specs.Steps.{StepBreaks, RunSteps, not_in_set, breaks, breaks
 pub does_parse : (text : List ℕ) (p : Parsed) → IsParseOf text p → DoesParse text
 does_parse text p reads = (p.tree, parses_of text p reads)
 
-pub not_read : (text : List ℕ) (fault : FixFault) → steps.IsReadFault text fault → IsReadFault text (fault_of_fix fault)
+pub not_read : (text : List ℕ) (fault : FixFault) → steps.IsReadFault text fault → IsSyntaxFault text (fault_of_fix fault)
 not_read text (Scan fault) h = h
 not_read text (Parse fault) h = h
 not_read text (FixBroken rule) h = h

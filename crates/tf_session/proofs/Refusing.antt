@@ -9,7 +9,7 @@ use Rattle.tf_session.specs.declared.command.Done.{Done}
 use Rattle.tf_session.specs.declared.command.Fault.{Fault}
 use Rattle.tf_session.specs.Faults.{run_fault_of, run_fault_of_read}
 use Rattle.tf_session.specs.Streams.{ReadsText, ReadAllFault}
-use Rattle.tf_session.specs.Rewrites.{IsReadFault, RefusesText}
+use Rattle.tf_session.specs.Rewrites.{IsSyntaxFault, RefusesText}
 use Rattle.tf_session.specs.Records.{DoesStep, RefusesStep}
 use Rattle.tf_session.specs.Session.{SessionContents, without_records}
 use Rattle.tf_session.specs.LintStream.{LintStreamFault}
@@ -36,7 +36,7 @@ not_all_read limit ReadFault.Endless source read = read
 not_all_read limit ReadFault.Memory source read = read
 
 pub not_linted : (name : List ℕ) (rules : RuleSet) (refusal : Fault) (source : Source) (target : Target) (text : List ℕ)
-    → ReadsText source text → IsReadFault text refusal → Untouched target → LintStreamFault name rules (run_fault_of refusal) source target
+    → ReadsText source text → IsSyntaxFault text refusal → Untouched target → LintStreamFault name rules (run_fault_of refusal) source target
 not_linted name rules refusal source target text taken why still = inr (inl ((text, taken, refusal, refl, why), still))
 
 pub not_stepped : (command : Command) (refusal : Fault) (source : Source) (target : Target) (text : List ℕ)

@@ -11,7 +11,7 @@ use Rattle.tf_session.specs.declared.command.Done.{Done}
 use Rattle.tf_session.specs.declared.fault.RunFault.{RunFault}
 use Rattle.tf_session.specs.declared.invocation.Effect.{Effect}
 use Rattle.tf_session.specs.declared.saver.SavedTexts.{SavedTexts}
-use Rattle.tf_session.specs.Invocations.{IsUnchanged, AreSaved, AreReportLines, HasEffect, NewJournalFault, HasNoEffect}
+use Rattle.tf_session.specs.Invocations.{KeepsContents, AreSaved, AreReportLines, HasEffect, NewJournalFault, HasNoEffect}
 use Rattle.tf_session.specs.Inner.Saving.{must_save, AreSavedTexts}
 use Rattle.tf_session.specs.Journals.{JournalTextFault}
 use Rattle.tf_session.specs.Records.{AddsRecordOf, DoesStep, ReplacesText}
@@ -32,14 +32,14 @@ differs_as_done : (command : Command) (made : Rewrite) (old : SessionContents) (
 differs_as_done command made old d new b p e = sym (ap (λ (x : Done). x.changed) p.1) ∙ e
 
 replaced_same : (command : Command) (made : Rewrite) (old : SessionContents) (d : Done) (new : SessionContents)
-    → ReplacesText command made old d new → d.changed ≡ false → IsUnchanged old new
+    → ReplacesText command made old d new → d.changed ≡ false → KeepsContents old new
 replaced_same command made old d new p e =
     let differs = differs_as_done command made old d new false p e in
     let adds : AddsRecordOf false command old.text made old.records new.records = subst (λ (b : Bool). AddsRecordOf b command old.text made old.records new.records) differs p.2 in
     (p.0 ∙ sym (same_texts old.text made.text differs), adds)
 
 replaced_other : (command : Command) (made : Rewrite) (old : SessionContents) (d : Done) (new : SessionContents)
-    → ReplacesText command made old d new → d.changed ≡ true → IsUnchanged old new → ⊥
+    → ReplacesText command made old d new → d.changed ≡ true → KeepsContents old new → ⊥
 replaced_other command made old d new p e same =
     let differs = differs_as_done command made old d new true p e in
     let adds : AddsRecordOf true command old.text made old.records new.records = subst (λ (b : Bool). AddsRecordOf b command old.text made old.records new.records) differs p.2 in
@@ -48,7 +48,7 @@ replaced_other command made old d new p e same =
 -- ---- any command
 
 unchanged : (command : Command) (old : SessionContents) (d : Done) (new : SessionContents)
-    → DoesStep command old d new → must_save command d ≡ false → IsUnchanged old new
+    → DoesStep command old d new → must_save command d ≡ false → KeepsContents old new
 unchanged Fmt old d new p e = replaced_same Fmt p.0 old d new p.2 e
 unchanged (Fix rules) old d new p e = replaced_same (Fix rules) p.0 old d new p.2 e
 unchanged Revert old d new p e = cc
@@ -65,7 +65,7 @@ one_less n contents d new p =
     omega (arith, words, before, after, item, length-append p.nth.before (p.nth.item ∷ p.nth.after), length-append p.nth.before p.new_records)
 
 changed : (command : Command) (old : SessionContents) (d : Done) (new : SessionContents)
-    → DoesStep command old d new → must_save command d ≡ true → IsUnchanged old new → ⊥
+    → DoesStep command old d new → must_save command d ≡ true → KeepsContents old new → ⊥
 changed Fmt old d new p e same = replaced_other Fmt p.0 old d new p.2 e same
 changed (Fix rules) old d new p e same = replaced_other (Fix rules) p.0 old d new p.2 e same
 changed Revert old d new p e same = longer new.records p.0 (sym p.1 ∙ sym same.1)

@@ -26,15 +26,15 @@ use Rattle.tf_session.specs.Session.{SessionContents, with_records}
 -- ---- one command: what a session has before it and after it
 
 -- a command leaves text and records as they were
-abbrev pub IsUnchanged : SessionContents → SessionContents → Type 0
-IsUnchanged old new = (new.text ≡ old.text) × (new.records ≡ old.records)
+abbrev pub KeepsContents : SessionContents → SessionContents → Type 0
+KeepsContents old new = (new.text ≡ old.text) × (new.records ≡ old.records)
 
 -- what is to be saved: the new text and the text of the new journal; nothing, if both are as they
 -- were
 abbrev pub AreSaved : SessionContents → SessionContents → Option SavedTexts → Type 0
-AreSaved old new None = IsUnchanged old new
+AreSaved old new None = KeepsContents old new
 AreSaved old new (Some saved) =
-    ¬ (IsUnchanged old new) × (saved.text.items ≡ new.text)
+    ¬ (KeepsContents old new) × (saved.text.items ≡ new.text)
     × IsSavedText new.records saved.journal.items
 
 -- What is reported of a command that left this text in a file of this name: the name, if fmt
@@ -76,7 +76,7 @@ StepOrLinesFault command old fault =
 -- it would be too long, or memory ran out
 abbrev pub NewJournalFault : Command → SessionContents → RunFault → Type 0
 NewJournalFault command old fault =
-    (d : Done) × (new : SessionContents) × DoesStep command old d new × ¬ (IsUnchanged old new)
+    (d : Done) × (new : SessionContents) × DoesStep command old d new × ¬ (KeepsContents old new)
     × JournalTextFault new.records fault
 
 -- Why nothing is to be saved or reported, in this order.

@@ -26,8 +26,8 @@ MAX_JOURNAL = 268435456
 -- ---- what is read
 
 -- nothing was read of the source
-abbrev pub Unread : Source → Type 0
-Unread source = Keeps source.before source.after
+abbrev pub NothingRead : Source → Type 0
+NothingRead source = Keeps source.before source.after
 
 -- all that the first source had is the text, and all that the second had is the text of the journal
 -- with the records
@@ -46,7 +46,7 @@ BadJournalFault bytes fault =
 -- nothing whole for the journal; or that is the text of no journal.
 abbrev pub LoadFault : RunFault → Source → Source → Type 0
 LoadFault fault text_in journal_in =
-    (IsReadStreamFault fault text_in × Unread journal_in)
+    (IsReadStreamFault fault text_in × NothingRead journal_in)
     ⊎ ((text : List ℕ) × ReadsText text_in text × ReadAllFault MAX_JOURNAL fault journal_in)
     ⊎ ((text : List ℕ) × (bytes : List ℕ) × ReadsText text_in text
     × ReadsAll MAX_JOURNAL journal_in bytes × BadJournalFault bytes fault)

@@ -7,7 +7,7 @@ use Rattle.tf_stream.specs.Streams.{Source, Target, WritesBytes}
 use Rattle.tf_session.specs.declared.fault.RunFault.{RunFault}
 use Rattle.tf_fix.specs.declared.parsed.Parsed.{Parsed}
 use Rattle.tf_fix.specs.ParsedTexts.{IsParseOf}
-use Rattle.tf_session.specs.Rewrites.{IsReadFault}
+use Rattle.tf_session.specs.Rewrites.{IsSyntaxFault}
 use Rattle.tf_session.specs.Streams.{ReadsText, StreamFault}
 
 -- the text parses, and these are the issues of the rules in it
@@ -35,4 +35,4 @@ LintsStream name rules count source target =
 -- There is no whole text, or it does not parse, or not all lines were written.
 abbrev pub LintStreamFault : List ℕ → RuleSet → RunFault → Source → Target → Type 0
 LintStreamFault name rules fault source target =
-    StreamFault IsReadFault (HasLines name rules) fault source target
+    StreamFault IsSyntaxFault (HasLines name rules) fault source target

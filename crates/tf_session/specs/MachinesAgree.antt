@@ -14,17 +14,17 @@ LayersMatchStack first layers top (under ∷ rest) =
     (lower : List Layer) × (last : Layer) × (layers ≡ lower ++ last ∷ []) × (last.text ≡ top)
     × (texts_differ under.text top ≡ true) × LayersMatchStack first lower under.text rest
 
-abbrev pub SameTexts : History → Stack → Type 0
-SameTexts h s = LayersMatchStack h.first h.layers s.top s.below
+abbrev pub MatchesStack : History → Stack → Type 0
+MatchesStack h s = LayersMatchStack h.first h.layers s.top s.below
 
 -- If there is no take among the commands, each run of the one machine is one of the other, with
 -- the same replies and texts.
 pub record MachinesAgree (text : List ℕ) (commands : List Command)
     (replies : List (Result Done Fault)) : Type 0 where
   pub history_to_stack : (end : History) → HistoryRun (initial_history text) commands replies end
-      → (s : Stack) × StackRun (initial_stack text) commands replies s × SameTexts end s
+      → (s : Stack) × StackRun (initial_stack text) commands replies s × MatchesStack end s
   pub stack_to_history : (end : Stack) → StackRun (initial_stack text) commands replies end
-      → (h : History) × HistoryRun (initial_history text) commands replies h × SameTexts h end
+      → (h : History) × HistoryRun (initial_history text) commands replies h × MatchesStack h end
 
 abbrev pub MachinesAgreeWithoutTake : Type 0
 MachinesAgreeWithoutTake =

@@ -23,11 +23,11 @@ is_memory_fault Memory = true
 is_memory_fault _ = false
 
 -- why a text is not read: it has no tokens, it does not parse, or memory ran out while it was read
-abbrev pub IsReadFault : List ℕ → Fault → Type 0
-IsReadFault text (Scan fault) = IsFault text fault
-IsReadFault text (Parse fault) = IsParseFault text fault
-IsReadFault text Memory = IsUtf8WithinLimit text
-IsReadFault text _ = ⊥
+abbrev pub IsSyntaxFault : List ℕ → Fault → Type 0
+IsSyntaxFault text (Scan fault) = IsFault text fault
+IsSyntaxFault text (Parse fault) = IsParseFault text fault
+IsSyntaxFault text Memory = IsUtf8WithinLimit text
+IsSyntaxFault text _ = ⊥
 
 -- why a command refuses a text: it can't make another of it, or memory ran out while it read it
 abbrev pub RefusesText : Command → List ℕ → Fault → Type 0

@@ -4,7 +4,7 @@ ghost use Rattle.std.specs.Prelude.{◌≡◌, ◌↔◌, true, false, IfOk, IfE
 ghost use Rattle.tf_stream.specs.Told.{has_failed};
 ghost use Rattle.tf_stream.specs.Streams.{source_of, target_of};
 ghost use Rattle.tf_session.specs.LintStream.{AreLines, LintsStream, LintStreamFault};
-ghost use Rattle.tf_session.specs.Rewrites.{IsReadFault};
+ghost use Rattle.tf_session.specs.Rewrites.{IsSyntaxFault};
 ghost use Rattle.tf_session.specs.Streams.{is_write};
 
 use crate::command::Fault;
@@ -55,7 +55,7 @@ fn issue_lines(
     rules: RuleSet,
 ) -> Result<(Vec<u8>, usize), Fault>
     ensures lines { IfOk result (λ made. AreLines name.now rules text.now made.0.items made.1) }
-    ensures fault { IfErr result (λ fault. IsReadFault text.now fault) }
+    ensures fault { IfErr result (λ fault. IsSyntaxFault text.now fault) }
 {
     let searched = lint_text(alloc, text, rules, false)?;
     let found = searched.found.as_slice();

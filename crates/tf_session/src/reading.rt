@@ -5,7 +5,7 @@ ghost use Rattle.hcl_grammar.specs.Bodies.{IsFile};
 ghost use Rattle.hcl_grammar.specs.declared.bounds.TheConstants.{MAX_NESTING};
 ghost use Rattle.hcl_grammar.specs.declared.tree.Tree as tree;
 ghost use Rattle.hcl_scan.specs.Follows.{tokens_of};
-ghost use Rattle.tf_session.specs.Rewrites.{IsReadFault};
+ghost use Rattle.tf_session.specs.Rewrites.{IsSyntaxFault};
 ghost use Rattle.tf_session.specs.Parsing.{DoesParse};
 ghost use Rattle.tf_fix.specs.ParsedTexts.{IsParseOf};
 
@@ -26,7 +26,7 @@ pub fn check_syntax<'t>(alloc: Global, text: &'t [u8]) -> Result<Scanned<'t>, Fa
     ensures derived { IfOk result
         (λ scanned. (t : tree.Tree) × IsFile (tokens_of scanned.pairs) MAX_NESTING t) }
     ensures parses { OnOk result (DoesParse text.now) }
-    ensures fault { IfErr result (λ fault. IsReadFault text.now fault) }
+    ensures fault { IfErr result (λ fault. IsSyntaxFault text.now fault) }
 {
     match tf_lint::check_syntax(alloc, text) {
         Ok(scanned) => Ok(scanned),

@@ -2,7 +2,7 @@
 use Rattle.std.proofs.Common.{refl, subst, sym}
 use Rattle.tf_session.specs.declared.fault.RunFault.{RunFault}
 use Rattle.tf_files.specs.FileEffects.{HasNoEffectOnFile}
-use Rattle.tf_program.specs.Work.{text_of}
+use Rattle.tf_program.specs.Work.{file_text}
 use Rattle.tf_program.proofs.Fixing.{outcome_is}
 use Rattle.tf_program.proofs.Refusing.{located_in_file}
 use Rattle.tf_program.proofs.files.change_opened.Goals as goal
@@ -19,4 +19,4 @@ returns-in-Err-clause-fault g c =
 
 pub returns-in-Err-clause-location : goal.returns-in-Err-clause-location
 returns-in-Err-clause-location g c =
-    located_in_file (text_of c.args.file) _ c.args.locate _ c.of_refused.result c.of_refused.ensures.fault c.in-Err.ensures.text c.of_refused.ensures.location
+    located_in_file (file_text c.args.file) _ c.args.locate _ c.of_refused.result c.of_refused.ensures.fault c.in-Err.ensures.text c.of_refused.ensures.location

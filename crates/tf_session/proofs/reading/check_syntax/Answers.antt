@@ -1,7 +1,7 @@
 -- What the steps say of a text that parses, and their error.
 use Rattle.std.proofs.Common.{sym, subst}
 use Rattle.tf_session.specs.declared.command.Fault.{Fault}
-use Rattle.tf_session.specs.Rewrites.{IsReadFault}
+use Rattle.tf_session.specs.Rewrites.{IsSyntaxFault}
 use Rattle.tf_session.proofs.ReadTexts.{does_parse, not_read}
 use Rattle.tf_session.proofs.reading.check_syntax.Goals as goal
 
@@ -16,4 +16,4 @@ returns-in-Ok-clause-parses c = does_parse c.args.text.now (record { scanned = c
 
 pub returns-in-Err-clause-fault : goal.returns-in-Err-clause-fault
 returns-in-Err-clause-fault c =
-    subst (λ (fault : Fault). IsReadFault c.args.text.now fault) (sym c.from.ensures) (not_read c.args.text.now c.in-Err.fault c.in-Err.ensures.fault)
+    subst (λ (fault : Fault). IsSyntaxFault c.args.text.now fault) (sym c.from.ensures) (not_read c.args.text.now c.in-Err.fault c.in-Err.ensures.fault)

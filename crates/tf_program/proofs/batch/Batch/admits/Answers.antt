@@ -3,7 +3,7 @@ use Rattle.std.proofs.Common.{List, arith, inl, inr, subst}
 use Rattle.std.proofs.lemmas.Bool.{false≢true}
 use Rattle.std.proofs.lemmas.Bool.Decides.{nat_tests}
 use Rattle.tf_program.specs.declared.batch.Entry.{Entry}
-use Rattle.tf_program.specs.Batches.{AreApart}
+use Rattle.tf_program.specs.Batches.{NoneMayShare}
 use Rattle.tf_program.proofs.batch.Batch.admits.Goals as goal
 
 pub returns-then-is_empty : goal.returns-then-is_empty
@@ -11,7 +11,7 @@ returns-then-is_empty g c = λ _. inl (grind (arith, nat_tests, c.is_empty.ensur
 
 pub returns-in-Some : goal.returns-in-Some
 returns-in-Some g c =
-    λ yes. inr (c.in-Some.found, subst (λ (es : List Entry). AreApart es c.in-Some.found) c.deref.ensures.value (c.are_apart.ensures.0 yes))
+    λ yes. inr (c.in-Some.found, subst (λ (es : List Entry). NoneMayShare es c.in-Some.found) c.deref.ensures.value (c.none_may_share.ensures.0 yes))
 
 pub returns-in-None : goal.returns-in-None
 returns-in-None g c = λ off. absurd (false≢true off)

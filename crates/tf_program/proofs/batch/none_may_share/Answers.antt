@@ -3,10 +3,10 @@ use Rattle.std.proofs.Common.{◌∙◌, List, take, refl, rules, subst, sym}
 use Rattle.std.proofs.lemmas.Bool.{false≢true}
 use Rattle.std.proofs.lemmas.List.{take_all}
 use Rattle.tf_program.specs.declared.batch.Entry.{Entry}
-use Rattle.tf_program.specs.Batches.{AreApart}
+use Rattle.tf_program.specs.Batches.{NoneMayShare}
 use Rattle.tf_program.proofs.Holding.{taken_item}
 use Rattle.tf_program.proofs.Waiting.{one_more_apart, one_apart}
-use Rattle.tf_program.proofs.batch.are_apart.Goals as goal
+use Rattle.tf_program.proofs.batch.none_may_share.Goals as goal
 
 pub loop-entry-preserved : goal.loop-entry-preserved
 loop-entry-preserved c =
@@ -22,4 +22,4 @@ returns-then-shares c =
 pub returns : goal.returns
 returns c =
     let all = take_all c.loop-entry.entry-index c.args.entries.now (search rules) in
-    (λ _. subst (λ (es : List Entry). AreApart es c.args.found.now) all c.loop-entry.invariant, λ _. refl)
+    (λ _. subst (λ (es : List Entry). NoneMayShare es c.args.found.now) all c.loop-entry.invariant, λ _. refl)

@@ -3,7 +3,7 @@ use Rattle.std.proofs.Common.{ℕ, List, subst}
 use Rattle.std.proofs.lemmas.Result.{IfOk-weaker}
 use Rattle.clap.specs.Simple.{new_app}
 use Rattle.tf_cli.specs.Parsing.{IsCommand, command_rules, with_rules}
-use Rattle.tf_cli.proofs.command_line.command_of.Goals as goal
+use Rattle.tf_cli.proofs.command_line.clap_command.Goals as goal
 
 pub returns : goal.returns
 returns c =
