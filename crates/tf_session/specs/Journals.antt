@@ -14,14 +14,12 @@ use Rattle.tf_session.specs.declared.command.Fault.{Fault}
 use Rattle.tf_session.specs.declared.fault.RunFault.{RunFault}
 use Rattle.tf_session.specs.declared.fault.RunFault.TheVariants.{Memory, Read, Write, Endless}
 use Rattle.tf_session.specs.declared.fault.SessionPart.{SessionPart}
+-- the most bytes of a journal's text
+pub use Rattle.tf_session.specs.declared.loader.TheConstants.{MAX_JOURNAL}
 use Rattle.tf_session.specs.Faults.{run_fault_of, run_fault_of_record}
 use Rattle.tf_session.specs.Streams.{ReadsText, ReadAllFault, IsReadStreamFault, IsWriteFault, is_write}
 use Rattle.tf_session.specs.Records.{DoesStep, RefusesStep}
 use Rattle.tf_session.specs.Session.{SessionContents}
-
--- the most bytes of a journal's text
-abbrev pub MAX_JOURNAL : ℕ
-MAX_JOURNAL = 268435456
 
 -- ---- what is read
 
