@@ -1,6 +1,6 @@
 -- Laws of the machine that keeps the edits, over all its commands: each has one answer, and those
 -- that were refused since memory ran out do not count.
-use Rattle.std.proofs.Common.{◌≡◌, ◌∙◌, ℕ, List, Result, Ok, Err, refl, sym, ap, subst, inl, inr}
+use Rattle.std.proofs.Common.{◌≡◌, ◌∙◌, ℕ, List, Result, Ok, Err, refl, sym, ap, inl}
 use Rattle.edit_record.specs.Lists.Validity.{ApplyIsDeterministic}
 use Rattle.edit_record.specs.declared.lists.record.Word.{Word}
 use Rattle.edit_record.specs.Swaps.Swap.{SwapIsUnique}
@@ -12,10 +12,9 @@ use Rattle.tf_session.specs.declared.command.Done.{Done}
 use Rattle.tf_session.specs.declared.command.Fault.{Fault}
 use Rattle.tf_lint.specs.Steps.{Rewrite, texts_differ}
 use Rattle.tf_session.specs.Machine.{done}
-use Rattle.tf_session.specs.ResultIsUnique.{AreSameUpToParseFault}
 use Rattle.tf_session.specs.Layers.{History, top_text, PushesLayer, PopsLayer, HistoryStep, HistoryMayAllocate}
 use Rattle.tf_session.specs.TakeLaws.{CommandResultIsUniqueOverLayers, OutOfMemoryChangesNothingOverLayers}
-use Rattle.tf_session.proofs.ResultIsUnique.{same_fixes, same_layouts}
+use Rattle.tf_session.proofs.ResultIsUnique.{push_same, same_fixes, same_layouts}
 use Rattle.tf_session.proofs.Lists.{not_nil, same_last}
 use Rattle.tf_session.proofs.Runs.{memory_does_not_count}
 use Rattle.tf_session.proofs.TakeIsUnique.{take_has_one_answer}
@@ -30,16 +29,6 @@ push_one : (word : Word) (answer : Result Rewrite Fault) (old : History) (reply 
 push_one word (Ok made) old reply other new another p q = (p.0 ∙ sym q.0, p.1 ∙ sym q.1)
 push_one word (Err fault) old reply other new another p q = (p.0 ∙ sym q.0, p.1 ∙ sym q.1)
 
-push_same : (word : Word) (a b : Result Rewrite Fault) (old : History) (reply other : Result Done Fault) (new another : History)
-    → AreSameUpToParseFault a b → PushesLayer word a old reply new → PushesLayer word b old other another → AreSameUpToParseFault reply other × (new ≡ another)
-push_same word a b old reply other new another (inl same) p q =
-    let h = push_one word a old reply other new another p (subst (λ (x : Result Rewrite Fault). PushesLayer word x old other another) (sym same) q) in
-    (inl h.0, h.1)
-push_same word a b old reply other new another (inr w) p q =
-    let f = subst (λ (x : Result Rewrite Fault). PushesLayer word x old reply new) w.2 p in
-    let g = subst (λ (x : Result Rewrite Fault). PushesLayer word x old other another) w.3 q in
-    (inr (w.0, w.1, f.0, g.0), f.1 ∙ sym g.1)
-
 off_same : (old : History) (reply other : Result Done Fault) (new another : History) → PopsLayer old reply new → PopsLayer old other another → (reply ≡ other) × (new ≡ another)
 off_same old (Ok d) (Ok e) new another p q =
     let lasts = same_last p.rest q.rest p.last q.last (sym p.layers_are ∙ q.layers_are) in
@@ -53,9 +42,9 @@ off_same old (Err f) (Err g) new another p q = (ap (λ (x : Fault). Err x) (p.0 
 module _ (unique_tokens : TokensAreUnique) (no_tokens_with_fault : NoTokensWithFault) (one_fault : OneFault) (one_layout : OneLayout) (one_fix : (rules : RuleSet) (text : List ℕ) → FixIsUnique rules text) (one_swap : SwapIsUnique) (takes_one : MoveToEndIsUnique) (into_one : ApplyIsDeterministic) where
   pub one_answer_over_layers : CommandResultIsUniqueOverLayers
   one_answer_over_layers Fmt old reply other new another p q =
-      push_same Word.Fmt p.0 q.0 old reply other new another (same_layouts unique_tokens no_tokens_with_fault one_fault one_layout one_fix (top_text old) p.0 q.0 p.1 q.1) p.2 q.2
+      push_same (PushesLayer Word.Fmt) (push_one Word.Fmt) (λ _ _ _ _ h. h) p.0 q.0 old reply other new another (same_layouts unique_tokens no_tokens_with_fault one_fault one_layout one_fix (top_text old) p.0 q.0 p.1 q.1) p.2 q.2
   one_answer_over_layers (Fix rules) old reply other new another p q =
-      push_same Word.Fix p.0 q.0 old reply other new another (same_fixes unique_tokens no_tokens_with_fault one_fault one_layout one_fix rules (top_text old) p.0 q.0 p.1 q.1) p.2 q.2
+      push_same (PushesLayer Word.Fix) (push_one Word.Fix) (λ _ _ _ _ h. h) p.0 q.0 old reply other new another (same_fixes unique_tokens no_tokens_with_fault one_fault one_layout one_fix rules (top_text old) p.0 q.0 p.1 q.1) p.2 q.2
   one_answer_over_layers Revert old reply other new another p q = let h = off_same old reply other new another p q in (inl h.0, h.1)
   one_answer_over_layers (Take n) old reply other new another p q =
       let h = take_has_one_answer one_swap takes_one into_one n old reply other new another p q in

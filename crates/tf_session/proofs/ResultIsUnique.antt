@@ -42,15 +42,21 @@ push_one : (command : Command) (answer : Result Rewrite Fault) (old : Stack) (re
 push_one command (Ok made) old reply other new another p q = (p.0 ∙ sym q.0, p.1 ∙ sym q.1)
 push_one command (Err fault) old reply other new another p q = (p.0 ∙ sym q.0, p.1 ∙ sym q.1)
 
--- answers that are alike have replies that are, and leave one stack
-push_same : (command : Command) (a b : Result Rewrite Fault) (old : Stack) (reply other : Result Done Fault) (new another : Stack)
-    → AreSameUpToParseFault a b → PushesText command a old reply new → PushesText command b old other another → AreSameUpToParseFault reply other × (new ≡ another)
-push_same command a b old reply other new another (inl same) p q =
-    let h = push_one command a old reply other new another p (subst (λ (x : Result Rewrite Fault). PushesText command x old other another) (sym same) q) in
+-- Answers that are alike have replies that are, and leave one state, on any machine on which each
+-- answer has one reply and leaves one state, and an error is the reply and changes nothing.
+pub push_same : {State : Type 0} (Pushes : Result Rewrite Fault → State → Result Done Fault → State → Type 0)
+    → ((answer : Result Rewrite Fault) (old : State) (reply other : Result Done Fault) (new another : State)
+    → Pushes answer old reply new → Pushes answer old other another → (reply ≡ other) × (new ≡ another))
+    → ((fault : Fault) (old : State) (reply : Result Done Fault) (new : State)
+    → Pushes (Err fault) old reply new → (reply ≡ Err fault) × (new ≡ old))
+    → (a b : Result Rewrite Fault) (old : State) (reply other : Result Done Fault) (new another : State)
+    → AreSameUpToParseFault a b → Pushes a old reply new → Pushes b old other another → AreSameUpToParseFault reply other × (new ≡ another)
+push_same Pushes one refuses a b old reply other new another (inl same) p q =
+    let h = one a old reply other new another p (subst (λ (x : Result Rewrite Fault). Pushes x old other another) (sym same) q) in
     (inl h.0, h.1)
-push_same command a b old reply other new another (inr w) p q =
-    let f = subst (λ (x : Result Rewrite Fault). PushesText command x old reply new) w.2 p in
-    let g = subst (λ (x : Result Rewrite Fault). PushesText command x old other another) w.3 q in
+push_same Pushes one refuses a b old reply other new another (inr w) p q =
+    let f = refuses (Parse w.0) old reply new (subst (λ (x : Result Rewrite Fault). Pushes x old reply new) w.2 p) in
+    let g = refuses (Parse w.1) old other another (subst (λ (x : Result Rewrite Fault). Pushes x old other another) w.3 q) in
     (inr (w.0, w.1, f.0, g.0), f.1 ∙ sym g.1)
 
 take_same : (top : List ℕ) (below : List StackEntry) (reply other : Result Done Fault) (new another : Stack)
@@ -148,9 +154,9 @@ module _ (unique_tokens : TokensAreUnique) (no_tokens_with_fault : NoTokensWithF
 
   pub one_answer : CommandResultIsUnique
   one_answer Fmt old reply other new another p q =
-      push_same Fmt p.0 q.0 old reply other new another (same_layouts old.top p.0 q.0 p.1 q.1) p.2 q.2
+      push_same (PushesText Fmt) (push_one Fmt) (λ _ _ _ _ h. h) p.0 q.0 old reply other new another (same_layouts old.top p.0 q.0 p.1 q.1) p.2 q.2
   one_answer (Fix rules) old reply other new another p q =
-      push_same (Fix rules) p.0 q.0 old reply other new another (same_fixes rules old.top p.0 q.0 p.1 q.1) p.2 q.2
+      push_same (PushesText (Fix rules)) (push_one (Fix rules)) (λ _ _ _ _ h. h) p.0 q.0 old reply other new another (same_fixes rules old.top p.0 q.0 p.1 q.1) p.2 q.2
   one_answer Revert old reply other new another p q =
       let h = take_same old.top old.below reply other new another p q in
       (inl h.0, h.1)
