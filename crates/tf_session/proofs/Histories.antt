@@ -24,7 +24,8 @@ use Rattle.tf_session.specs.RemovingRecord.{RemovesRecord, FailsAfter, UndoFails
 use Rattle.tf_session.specs.RemovingRecord.RefusesTake.{no_record, blocked, too_long, lengths_differ, not_undone, memory}
 use Rattle.tf_session.specs.Layers.{Layer, History, last_text, top_text, record_of, records_in, LayersAreConsistent, IsHistory, PushesLayer, HistoryStep, HistoryStepOrMemory, HistoryRun}
 use Rattle.tf_session.specs.Records.{HasWord, AddsRecordOf, RevertsLast, DoesStep, RefusesRevert, RefusesStep}
-use Rattle.tf_session.specs.Session.{with_records}
+use Rattle.tf_session.specs.Session.{SessionContents, with_records}
+use Rattle.tf_session.proofs.Contents.{with_same}
 use Rattle.tf_session.proofs.JournalOne.{TransformLengths}
 use Rattle.tf_session.proofs.Lists.{not_nil}
 use Rattle.tf_session.proofs.Runs.{run_more}
@@ -291,9 +292,9 @@ pub moved : ChangeResultIsUnique → MoveToEndIsUnique → TransformLengths → 
     → IfOk reply (λ d. DoesStep command (with_records t js) d (with_records u ks)) → IfErr reply (RefusesStep command (with_records t js)) → OnErr reply (u ≡ t) → OnErr reply (ks ≡ js)
     → (n : History) × HistoryRun first (cs ++ command ∷ []) (rs ++ reply ∷ []) n × (u ≡ top_text n) × (ks ≡ records_in n.layers) × IsHistory n
 moved unique takes_one lengths first mid cs rs command (Ok d) t js u ks run top recs st does _ _ _ =
-    let does2 = subst (λ (x : List JournalEntry). DoesStep command (with_records (top_text mid) x) d (with_records u ks)) recs (subst (λ (x : List ℕ). DoesStep command (with_records x js) d (with_records u ks)) top does) in
-    let h = acted takes_one command mid d u ks does2 st in
+    let here = with_same (λ (x : SessionContents). DoesStep command x d (with_records u ks)) t (top_text mid) js (records_in mid.layers) top recs does in
+    let h = acted takes_one command mid d u ks here st in
     (h.0, run_more HistoryStepOrMemory first mid h.0 cs rs command (Ok d) run h.1, h.2, h.3, h.4)
 moved unique takes_one lengths first mid cs rs command (Err e) t js u ks run top recs st _ why ut kj =
-    let why2 = subst (λ (x : List JournalEntry). RefusesStep command (with_records (top_text mid) x) e) recs (subst (λ (x : List ℕ). RefusesStep command (with_records x js) e) top why) in
-    (mid, run_more HistoryStepOrMemory first mid mid cs rs command (Err e) run (stays unique takes_one lengths command mid e why2 st), ut ∙ top, kj ∙ recs, st)
+    let here = with_same (λ (x : SessionContents). RefusesStep command x e) t (top_text mid) js (records_in mid.layers) top recs why in
+    (mid, run_more HistoryStepOrMemory first mid mid cs rs command (Err e) run (stays unique takes_one lengths command mid e here st), ut ∙ top, kj ∙ recs, st)

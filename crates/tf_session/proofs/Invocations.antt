@@ -21,6 +21,7 @@ use Rattle.tf_session.specs.Machine.{initial_stack, StackStep, StackMayAllocate,
 use Rattle.tf_session.specs.Records.{DoesStep, RefusesStep}
 use Rattle.tf_session.specs.Runs.{StepOrMemory}
 use Rattle.tf_session.specs.Session.{SessionContents, with_records}
+use Rattle.tf_session.proofs.Contents.{with_same}
 use Rattle.tf_session.proofs.Histories.{acted, stays}
 use Rattle.tf_session.proofs.JournalOne.{TransformLengths}
 use Rattle.tf_session.proofs.Stacks.{did, refused}
@@ -89,8 +90,7 @@ module _ {State : Type 0} (MayAllocate : Command → State → Type 0) (Step : C
       let same : has.records ≡ rep.records = one old.journal has.records rep.records has.is_journal rep.journal in
       let here : DoesStep command (with_records (top s) rep.records) d has.new =
       subst (λ (x : Done). DoesStep command (with_records (top s) rep.records) x has.new) (sym is_done)
-      (subst (λ (t : List ℕ). DoesStep command (with_records t rep.records) effect.done has.new) rep.text
-      (subst (λ (js : List JournalEntry). DoesStep command (with_records old.text js) effect.done has.new) same has.does)) in
+      (with_same (λ (x : SessionContents). DoesStep command x effect.done has.new) old.text (top s) has.records rep.records rep.text same has.does) in
       let step = does s rep.records d has.new.text has.new.records here rep.records_are in
       let saved = after old effect.saved has.records has.new has.is_journal has.saved in
       inr (
@@ -121,9 +121,7 @@ module _ {State : Type 0} (MayAllocate : Command → State → Type 0) (Step : C
   refused_step : (command : Command) → Refuses command → (s : State) (old new : FileContents) (js : List JournalEntry) (fault : Fault) → new ≡ old → Represents old s → IsJournalText old.journal js → RefusesStep command (with_records old.text js) fault → StepsOrStops command s (Err (run_fault_of fault)) old new
   refused_step command refuses s old new js fault same rep is why =
       let records : js ≡ rep.records = one old.journal js rep.records is rep.journal in
-      let here : RefusesStep command (with_records (top s) rep.records) fault =
-      subst (λ (t : List ℕ). RefusesStep command (with_records t rep.records) fault) rep.text
-      (subst (λ (x : List JournalEntry). RefusesStep command (with_records old.text x) fault) records why) in
+      let here = with_same (λ (x : SessionContents). RefusesStep command x fault) old.text (top s) js rep.records rep.text records why in
       refusal command s old new fault same rep (refuses s rep.records fault here rep.records_are)
 
   stopped : (command : Command) → Refuses command → (s : State) (old new : FileContents) (fault : RunFault) → Represents old s → HasNoEffect command old.text old.journal fault → new ≡ old → StepsOrStops command s (Err fault) old new

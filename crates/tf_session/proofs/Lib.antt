@@ -1,4 +1,5 @@
 pub mod Lists
+pub mod Contents
 pub mod Runs
 pub mod Stacks
 pub mod RemoveRecord

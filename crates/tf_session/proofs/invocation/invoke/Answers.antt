@@ -1,11 +1,11 @@
 -- The session is made of the two texts, as they were read; what the step does to it, or why it
 -- refuses, is what the command does to these.
-use Rattle.std.proofs.Common.{◌≡◌, ℕ, List, subst, rules, inl, inr}
-use Rattle.edit_record.specs.Lists.Journal.{JournalEntry}
+use Rattle.std.proofs.Common.{◌≡◌, rules, inl, inr}
 use Rattle.edit_record.specs.Text.{IsJournalText}
-use Rattle.tf_session.specs.Session.{contents_of, text_of, records_of, with_records}
+use Rattle.tf_session.specs.Session.{SessionContents, contents_of, text_of}
 use Rattle.tf_session.specs.Records.{DoesStep}
 use Rattle.tf_session.specs.Invocations.{StepOrLinesFault}
+use Rattle.tf_session.proofs.Contents.{with_same}
 use Rattle.tf_session.proofs.Saving.{lines_are, made, not_made}
 use Rattle.tf_session.proofs.invocation.invoke.Goals as goal
 
@@ -15,8 +15,7 @@ returns-in-Ok-clause-effect c =
     let new = contents_of c.report_step.new.session in
     let is : IsJournalText c.args.journal.items c.in_ok-journal.journal = search rules in
     let text : text_of c.start-session.result ≡ c.args.text.now.items = search rules in
-    let here = subst (λ (t : List ℕ). DoesStep c.args.command (with_records t (records_of c.start-session.result)) report.done new) text c.in-Ok.ensures.done in
-    let does = subst (λ (js : List JournalEntry). DoesStep c.args.command (with_records c.args.text.now.items js) report.done new) c.start-session.ensures.journal here in
+    let does = with_same (λ (x : SessionContents). DoesStep c.args.command x report.done new) _ _ _ _ text c.start-session.ensures.journal c.in-Ok.ensures.done in
     made c.args.command c.args.name.now c.args.text.now.items c.args.journal.items c.in_ok-journal.journal report.done report.lines.items new c.to_effect.result
     is does c.in-Ok.ensures.lines c.to_effect.ensures.done (lines_are report.lines c.to_effect.result c.to_effect.ensures.lines) c.to_effect.ensures.saved
 
@@ -26,8 +25,7 @@ returns-in-Ok-clause-fault c =
     let new = contents_of c.report_step.new.session in
     let is : IsJournalText c.args.journal.items c.in_ok-journal.journal = search rules in
     let text : text_of c.start-session.result ≡ c.args.text.now.items = search rules in
-    let here = subst (λ (t : List ℕ). DoesStep c.args.command (with_records t (records_of c.start-session.result)) report.done new) text c.in-Ok.ensures.done in
-    let does = subst (λ (js : List JournalEntry). DoesStep c.args.command (with_records c.args.text.now.items js) report.done new) c.start-session.ensures.journal here in
+    let does = with_same (λ (x : SessionContents). DoesStep c.args.command x report.done new) _ _ _ _ text c.start-session.ensures.journal c.in-Ok.ensures.done in
     not_made c.args.command c.args.name.now c.args.text.now.items c.args.journal.items c.in_ok-journal.journal report.done new c.to_effect.result
     is does c.to_effect.ensures.changed c.to_effect.ensures.fault
 
@@ -35,6 +33,5 @@ pub returns-in-Err-clause-fault : goal.returns-in-Err-clause-fault
 returns-in-Err-clause-fault c =
     let is : IsJournalText c.args.journal.items c.in_ok-journal.journal = search rules in
     let text : text_of c.start-session.result ≡ c.args.text.now.items = search rules in
-    let here = subst (λ (t : List ℕ). StepOrLinesFault c.args.command (with_records t (records_of c.start-session.result)) c.in-Err.fault) text c.in-Err.ensures.fault in
-    let why = subst (λ (js : List JournalEntry). StepOrLinesFault c.args.command (with_records c.args.text.now.items js) c.in-Err.fault) c.start-session.ensures.journal here in
+    let why = with_same (λ (x : SessionContents). StepOrLinesFault c.args.command x c.in-Err.fault) _ _ _ _ text c.start-session.ensures.journal c.in-Err.ensures.fault in
     inr (inl (c.in_ok-journal.journal, is, why))
