@@ -236,8 +236,8 @@ impl<'a> Batch<'a> {
         self.finish(rt, output, faults);
     }
 
-    /// Returns whether another entry may be held: fewer than `MOST_FILES` are, with fewer than
-    /// `MOST_BYTES` bytes.
+    /// Returns whether another entry may be held: fewer than `MAX_FILES` are, with fewer than
+    /// `MAX_BYTES` bytes.
     fn may_hold_more(&self) -> bool {
         self.entries.len() < MAX_FILES && self.bytes < MAX_BYTES
     }
