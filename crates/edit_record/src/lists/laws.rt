@@ -48,8 +48,8 @@ pub fn change_result_is_unique()
     ensures { ChangeResultIsUnique }
 {}
 
-/// States what applying and undoing a journal return: the text on the other side, or why the first
-/// record that refuses its input does so.
+/// What applying and undoing a journal returns: the text on the other side, or why the first record
+/// that refuses its input does so.
 pub fn journal_results_are_exact()
     ensures forward { (rs : List JournalEntry) (t : List ℕ)
         → IsJournalResult Forward rs t (journal_forward rs t) }
