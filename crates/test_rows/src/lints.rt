@@ -11,9 +11,9 @@ use std::alloc::Global;
 use std::fmt::Write;
 use tf_findings::findings;
 use tf_lint::{
-    FixResult, Issue, LintFault, Place, Rule, RuleSet, fix_step, fix_text, issues, parse_text,
+    Finding, FixResult, Issue, LintFault, Place, Rule, RuleSet, fix_step, fix_text, issues,
+    parse_text,
 };
-use tf_rules::Finding;
 
 pub fn answer(row: &Row, out: &mut Answer) {
     match row.word(0) {
