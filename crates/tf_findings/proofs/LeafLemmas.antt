@@ -9,7 +9,7 @@ use Rattle.tf_rules.specs.declared.role.Role.{Role}
 use Rattle.tf_rules.specs.declared.rule.Rule.TheVariants.{DeprecatedInterpolation, DeprecatedLookup}
 use Rattle.tf_rules.specs.declared.rule_set.RuleSet.{RuleSet}
 use Rattle.tf_rules.specs.Findings.{valid_findings}
-use Rattle.tf_rules.specs.NodeFindings.{node_findings}
+use Rattle.tf_rules.specs.Rules.{node_findings}
 use Rattle.tf_rules.specs.Preorder.{term, primary_children}
 use Rattle.tf_rules.specs.RuleSets.{has_rule}
 use Rattle.tf_rules.specs.Rules.Interpolation.{interpolation_findings, sole_interpolation}

@@ -7,7 +7,7 @@ use Rattle.tf_rules.specs.declared.rule_set.RuleSet.{RuleSet}
 use Rattle.tf_rules.specs.declared.finding.Finding.{Finding}
 use Rattle.tf_findings.specs.Inner.Collects.{Collects, no_nodes, visit}
 use Rattle.tf_rules.specs.Findings.{valid_findings}
-use Rattle.tf_rules.specs.NodeFindings.{node_findings}
+use Rattle.tf_rules.specs.Rules.{node_findings}
 use Rattle.tf_rules.specs.Preorder.{Node, children}
 
 -- what holds where there is an answer, from what else holds there

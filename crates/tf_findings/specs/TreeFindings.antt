@@ -5,7 +5,7 @@ use Rattle.hcl_token.specs.Tokens.{Pair}
 use Rattle.tf_rules.specs.declared.rule_set.RuleSet.{RuleSet}
 use Rattle.tf_rules.specs.declared.finding.Finding.{Finding}
 use Rattle.tf_rules.specs.Findings.{valid_findings}
-use Rattle.tf_rules.specs.NodeFindings.{node_findings}
+use Rattle.tf_rules.specs.Rules.{node_findings}
 use Rattle.tf_rules.specs.Preorder.{Node, IsPreorder}
 
 pub record AreTreeFindings (rules : RuleSet) (pairs : List Pair) (roots : List Node)

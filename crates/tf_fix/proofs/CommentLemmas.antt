@@ -19,7 +19,8 @@ use Rattle.tf_rules.specs.declared.fix.Fix.{Fix}
 use Rattle.tf_rules.specs.declared.fix.Fix.TheVariants.{CommentMarker}
 use Rattle.tf_rules.specs.declared.rule.Rule.{Rule}
 use Rattle.tf_fix.specs.StepText.{gap_at, fixed_pairs, fixed_pairs_from, fix_step_text}
-use Rattle.tf_fix.specs.Comments.{IsSlashComment, fixed_comment}
+use Rattle.tf_fix.specs.Comments.{fixed_comment}
+use Rattle.tf_rules_laws.specs.OneRule.{IsSlashComment}
 use Rattle.tf_fix.specs.Edits.CommentEdits.{start_of, comment_edit}
 use Rattle.tf_rules.specs.ValidFindings.{AreValidFindings}
 use Rattle.tf_rules.specs.declared.rule.Rule.TheVariants.{CommentSyntax}

@@ -5,7 +5,7 @@ use Rattle.tf_rules.specs.declared.finding.Finding.{Finding}
 use Rattle.tf_rules.specs.declared.rule.Rule.{Rule}
 use Rattle.tf_rules.specs.declared.rule.Rule.TheVariants.{CommentSyntax}
 use Rattle.tf_rules.specs.Fixes.{is_comment_fix}
-use Rattle.tf_fix.specs.Comments.{IsSlashComment}
+use Rattle.tf_rules_laws.specs.OneRule.{IsSlashComment}
 
 -- what the rule on comments finds is a comment that begins with `//`, and what the other rules find
 -- is none

@@ -19,8 +19,8 @@ use hcl_scan::Scanned;
 use hcl_text_laws::laws::parsed_tokens_are_apart;
 use std::alloc::Global;
 use tf_findings::findings;
-use tf_findings::laws::{findings_match_their_rule, findings_of_one_rule};
 use tf_rules::{Finding, Rule, RuleSet};
+use tf_rules_laws::laws::{findings_match_their_rule, findings_of_one_rule};
 
 /// The edits of one rule's step, and how many findings they fix.
 #[derive(Drop)]

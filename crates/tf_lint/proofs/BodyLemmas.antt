@@ -9,7 +9,7 @@ use Rattle.hcl_grammar.specs.declared.tree.Member.{Member}
 use Rattle.hcl_grammar.specs.declared.bounds.TheConstants.{MAX_NESTING}
 use Rattle.hcl_scan.specs.Follows.{tokens_of}
 use Rattle.hcl_token.specs.Tokens.{Pair}
-use Rattle.tf_rules.specs.NodeFindings.{node_findings}
+use Rattle.tf_rules.specs.Rules.{node_findings}
 use Rattle.tf_rules.specs.Preorder.{Node, member, IsPreorder, no_nodes, visit}
 use Rattle.tf_findings.specs.TreeFindings.{AreTreeFindings}
 use Rattle.tf_lint.specs.Inner.BodyFindings.{AreBodyFindings}
@@ -20,7 +20,7 @@ use Rattle.tf_lint.specs.declared.member.LintedMember.{LintedMember}
 use Rattle.tf_rules.specs.declared.finding.Finding.{Finding}
 use Rattle.tf_rules.specs.Findings.{is_valid, valid_findings}
 use Rattle.tf_rules.specs.declared.rule_set.RuleSet.{RuleSet}
-use Rattle.tf_rules.specs.TopLevelFindings.{top_level_member_findings, top_level_findings}
+use Rattle.tf_rules.specs.Rules.{top_level_member_findings, top_level_findings}
 
 -- what is in some nodes and in others after them
 preorder-append : {ns ms xs ys : List Node} → IsPreorder ns xs → IsPreorder ms ys → IsPreorder (ns ++ ms) (xs ++ ys)

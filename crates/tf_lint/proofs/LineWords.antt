@@ -5,11 +5,11 @@ use Rattle.std.specs.Fmt.{decimal}
 use Rattle.hcl_token.specs.Place.{place_of}
 use Rattle.hcl_token.specs.Tokens.{Pair}
 use Rattle.hcl_token.specs.declared.place.Place.{Place}
-use Rattle.tf_lint.specs.Inner.LineParts.{place_words, line_opening, line_closing}
+use Rattle.tf_lint.specs.Inner.LineParts.{place_words, line_opening}
 use Rattle.tf_lint.specs.Messages.{kind_word}
 use Rattle.tf_lint.specs.Reports.{report_line, report_of}
 use Rattle.tf_rules.specs.Spelling.{name_text}
-use Rattle.tf_rules.specs.Table.{info_of, name_of, severity_of, label_of}
+use Rattle.tf_rules.specs.Table.{info_of, name_of, severity_of, label_of, line_closing_of}
 use Rattle.tf_rules.specs.declared.finding.Finding.{Finding}
 use Rattle.tf_rules.specs.declared.finding.Message.{Message}
 use Rattle.tf_rules.specs.declared.rule.Rule.{Rule}
@@ -27,7 +27,7 @@ ok_pushed (Err x) old new more whole is e = tt
 -- the parts that are appended are the line
 pub whole_line : (pairs : List Pair) (name : List ℕ) (f : Finding) (place : Place) (rule : Rule) (message : Message) (old a b c end : List ℕ) → place ≡ place_of pairs f.first
     → rule ≡ f.rule → message ≡ f.message
-    → a ≡ old ++ place_words name place → b ≡ a ++ line_opening rule message.kind → c ≡ b ++ name_text pairs message.name → end ≡ line_closing rule
+    → a ≡ old ++ place_words name place → b ≡ a ++ line_opening rule message.kind → c ≡ b ++ name_text pairs message.name → end ≡ line_closing_of rule
     → c ++ end ≡ old ++ report_line name (report_of pairs f) ++ 10 ∷ []
 whole_line pairs name f place rule message old a b c end at of_rule of_message is_a is_b is_c is_end =
     rw (is_end, is_c, is_b, is_a, at, of_rule, of_message) (regrouped old name (codes ":") (decimal (place_of pairs f.first).line) (codes ":") (decimal (place_of pairs f.first).column) (codes ": ") (label_of (severity_of f.rule)) (codes " - ")

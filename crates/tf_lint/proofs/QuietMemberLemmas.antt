@@ -8,7 +8,7 @@ use Rattle.hcl_token.specs.declared.kind.Kind.TheVariants.{LineEnd}
 use Rattle.tf_lint.proofs.MemberAnswers.{member_derives}
 use Rattle.tf_lint.specs.Inner.QuietMember.{IsQuietMember, IsSkippedMember}
 use Rattle.tf_quiet.specs.QuietBlocks.{HasNoBlockFindings}
-use Rattle.tf_quiet.specs.QuietMembers.{QuietMembersHaveNoFindings}
+use Rattle.tf_rules_laws.specs.QuietMembers.{QuietMembersHaveNoFindings}
 use Rattle.tf_quiet.specs.QuietTokens.{AreQuiet}
 
 pub quiet_member : QuietMembersHaveNoFindings → (pairs : List Pair) (from past : ℕ) → IsSkippedMember pairs from past

@@ -10,7 +10,7 @@ use Rattle.tf_findings.specs.TreeFindings.{AreTreeFindings}
 use Rattle.tf_lint.specs.declared.member.LintedMember.{LintedMember}
 use Rattle.tf_rules.specs.Findings.{valid_findings}
 use Rattle.tf_rules.specs.declared.rule_set.RuleSet.{RuleSet}
-use Rattle.tf_rules.specs.TopLevelFindings.{top_level_member_findings}
+use Rattle.tf_rules.specs.Rules.{top_level_member_findings}
 
 -- a member is there, and these are the findings in it
 pub record IsLintedMember (rules : RuleSet) (pairs : List Pair) (x : LintedMember) : Type 0 where

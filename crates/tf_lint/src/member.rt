@@ -9,12 +9,12 @@ ghost use Rattle.hcl_grammar.specs.declared.bounds.TheConstants.{MAX_NESTING};
 ghost use Rattle.hcl_scan.specs.Follows.{tokens_of};
 ghost use Rattle.tf_rules.specs.Preorder as node;
 ghost use Rattle.tf_findings.specs.TreeFindings.{AreTreeFindings};
-ghost use Rattle.tf_reuse.specs.MembersKeep.{SameTokens};
+ghost use Rattle.tf_reuse.specs.SameTokens.{SameTokens};
 ghost use Rattle.tf_lint.specs.Inner.BodyFindings.{IsNextMember};
 ghost use Rattle.tf_lint.specs.LintedMembers.{IsLintedMember, AreLintedMembers};
 ghost use Rattle.tf_rules.specs.Findings.{valid_findings};
 ghost use Rattle.tf_rules.specs.declared.rule_set.RuleSet.{RuleSet};
-ghost use Rattle.tf_rules.specs.TopLevelFindings.{top_level_member_findings};
+ghost use Rattle.tf_rules.specs.Rules.{top_level_member_findings};
 
 use crate::quiet_member::skip_quiet_member;
 use crate::search::Search;
@@ -25,9 +25,9 @@ use hcl_scan::Scanned;
 use hcl_tree::MAX_NESTING;
 use hcl_tree::reading::{Reader, member};
 use std::alloc::{AllocError, Global};
-use tf_reuse::laws::unchanged_members_keep_findings;
 use tf_reuse::renumber_findings;
 use tf_rules::{Finding, RuleSet};
+use tf_rules_laws::laws::unchanged_members_keep_findings;
 
 /// A member of a text's body: where it was read, and what the rules find in it.
 #[derive(Drop)]

@@ -20,8 +20,9 @@ use hcl_grammar::fault::TokenFault;
 use hcl_scan::Scanned;
 use hcl_token::Kind;
 use std::alloc::Global;
-use tf_quiet::laws::{quiet_heads_have_no_findings, quiet_members_have_no_findings};
+use tf_quiet::laws::quiet_heads_have_no_findings;
 use tf_quiet::{Stop, is_loud_block, is_quiet_head, quiet_block_end_within, quiet_line_end_within};
+use tf_rules_laws::laws::quiet_members_have_no_findings;
 
 /// The most tokens of a member that are looked at before the parser is called: those of some 500
 /// lines of a block. With fewer, more members that stop being quiet late are read by the parser

@@ -1,11 +1,11 @@
 //! The lines of a report, part by part. Each part is appended by itself, which takes half the
 //! instructions of `write!`; and what all lines of a rule say before and after the name that they
-//! quote is one part each.
+//! quote is one part each, of the rule's row.
 
-ghost use Rattle.std.specs.Prelude.{◌≡◌, ◌∷◌, [], ◌++◌, None, OnOk, string_bytes};
+ghost use Rattle.std.specs.Prelude.{◌≡◌, ◌∷◌, [], ◌++◌, OnOk, string_bytes};
 ghost use Rattle.hcl_token.specs.Place.{place_of};
-ghost use Rattle.tf_lint.specs.Inner.LineParts.{place_words, severity_words, line_prefix, line_suffix};
-ghost use Rattle.tf_lint.specs.Inner.LineParts.{line_opening, line_closing};
+ghost use Rattle.tf_lint.specs.Inner.LineParts.{place_words, severity_words, line_opening};
+ghost use Rattle.tf_lint.specs.Inner.LineParts.{line_prefix, line_suffix};
 ghost use Rattle.tf_lint.specs.Reports.{report_line, report_of};
 
 use crate::message::{add_name, kind_word};
@@ -64,55 +64,18 @@ pub fn add_line_suffix(rule: Rule, lines: &mut String) -> Result<(), AllocError>
     lines.push_str(")")
 }
 
-/// Returns what the lines of a rule say after the place and before the name that they quote, if
-/// any, where no word says what is named.
-fn plain_opening(rule: Rule) -> &'static str
-    ensures { result.now ≡ line_opening rule None }
-{
-    match rule {
-        Rule::CommentSyntax => ": Warning - Single line comments should begin with #",
-        Rule::DeprecatedIndex => ": Warning - Legacy dot index syntax, use square brackets",
-        Rule::DeprecatedInterpolation =>
-            ": Warning - Interpolation-only expression, write the expression itself",
-        Rule::EmptyListEquality =>
-            ": Warning - Comparison with an empty list, check the length instead",
-        Rule::DeprecatedLookup => ": Warning - lookup with two arguments, use square brackets",
-        // for the proof: it is never written, since naming always says what it names
-        Rule::NamingConvention => ": Notice -  name \"",
-        Rule::TypedVariables => ": Warning - variable \"",
-        Rule::DocumentedVariables => ": Notice - variable \"",
-        Rule::DocumentedOutputs => ": Notice - output \"",
-    }
-}
-
-/// Returns what the lines of a rule say after the name that they quote, if any, and a line end.
-fn line_closing(rule: Rule) -> &'static str
-    ensures { result.now ≡ line_closing rule }
-{
-    match rule {
-        Rule::CommentSyntax => " (terraform_comment_syntax)\n",
-        Rule::DeprecatedIndex => " (terraform_deprecated_index)\n",
-        Rule::DeprecatedInterpolation => " (terraform_deprecated_interpolation)\n",
-        Rule::EmptyListEquality => " (terraform_empty_list_equality)\n",
-        Rule::DeprecatedLookup => " (terraform_deprecated_lookup)\n",
-        Rule::NamingConvention => "\" is not snake_case (terraform_naming_convention)\n",
-        Rule::TypedVariables => "\" has no type (terraform_typed_variables)\n",
-        Rule::DocumentedVariables => "\" has no description (terraform_documented_variables)\n",
-        Rule::DocumentedOutputs => "\" has no description (terraform_documented_outputs)\n",
-    }
-}
-
 /// Appends what a line says after the place and before the name that it quotes.
 fn add_opening(rule: Rule, kind: Option<NameKind>, lines: &mut String) -> Result<(), AllocError>
     ensures { OnOk result
         (string_bytes lines.new ≡ string_bytes lines.old ++ line_opening rule kind) }
 {
+    let info = rule.info();
     if kind.is_none() {
-        return lines.push_str(plain_opening(rule));
+        return lines.push_str(info.line_opening);
     }
     add_severity(rule, lines)?;
     lines.push_str(kind_word(kind))?;
-    lines.push_str(rule.info().before)
+    lines.push_str(info.before)
 }
 
 /// Adds the line of a finding that begins at this place of a text, and a line end.
@@ -133,5 +96,5 @@ pub fn add_line(
     add_place(name, place, lines)?;
     add_opening(rule, message.kind, lines)?;
     add_name(scanned, message.name, lines)?;
-    lines.push_str(line_closing(rule))
+    lines.push_str(rule.info().line_closing)
 }

@@ -2,7 +2,7 @@
 
 ghost use Rattle.std.specs.Prelude.{◌≡◌, ◌≢◌, ◌<◌, ◌≤◌, ◌+◌, true, false, length, take, drop, slice_get};
 ghost use Rattle.hcl_scan.specs.Follows.{tokens_of};
-ghost use Rattle.tf_reuse.specs.MembersKeep.{SameTokens};
+ghost use Rattle.tf_reuse.specs.SameTokens.{SameTokens};
 
 use hcl_expr::same_kind;
 use hcl_scan::Scanned;

@@ -1,14 +1,12 @@
-mod Nothing
-mod QuietRuns
-mod QuietTokens
-mod Walks
-mod LineEnds
+pub mod Nothing
+pub mod QuietRuns
+pub mod QuietTokens
+pub mod Walks
+pub mod LineEnds
 mod OpenBrackets
 mod TokensThere
 mod LineWalks
 mod BlockMembers
 mod QuietBlocks
-mod QuietNodes
-mod QuietMembers
 mod QuietHeads
 mod QuietLines

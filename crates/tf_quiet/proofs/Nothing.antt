@@ -1,8 +1,6 @@
 -- Lists of findings that are empty.
-use Rattle.std.proofs.Common.{◌≡◌, not, ◌||◌, Bool, true, false, List, [], ◌∷◌, ◌++◌, refl, if◌then◌else◌}
-use Rattle.std.specs.List.{flat_map}
+use Rattle.std.proofs.Common.{◌≡◌, not, ◌||◌, Bool, true, false, List, [], ◌++◌, refl, if◌then◌else◌}
 use Rattle.tf_rules.specs.declared.finding.Finding.{Finding}
-use Rattle.tf_rules_laws.proofs.Grammar.{Each}
 
 -- nothing is found; a record, so that the list is found from it
 pub record Nothing (fs : List Finding) : Type 0 where
@@ -27,11 +25,3 @@ unless_not false false ys e h = h
 
 pub append : {xs ys : List Finding} → Nothing xs → Nothing ys → Nothing (xs ++ ys)
 append h k = record { is = rw (h.is) (k.is) }
-
-pub mapped : {X : Type 0} (f : X → List Finding) (xs : List X) → Each (λ x. Nothing (f x)) xs → Nothing (flat_map f xs)
-mapped f [] a = none
-mapped f (x ∷ xs) a = append a.0 (mapped f xs a.1)
-
-pub each_implies : {X : Type 0} (P Q : X → Type 0) → ((x : X) → P x → Q x) → (xs : List X) → Each P xs → Each Q xs
-each_implies P Q t [] a = tt
-each_implies P Q t (x ∷ xs) a = (t x a.0, each_implies P Q t xs a.1)

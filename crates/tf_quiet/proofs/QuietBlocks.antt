@@ -27,7 +27,7 @@ use Rattle.tf_rules.specs.Attributes.{attributes, member_attributes, has_attribu
 use Rattle.tf_rules.specs.RuleSets.{has_rule}
 use Rattle.tf_rules.specs.Rules.Missing.{is_undocumented, missing_finding}
 use Rattle.tf_rules.specs.Spelling.{token_text}
-use Rattle.tf_rules.specs.TopLevelFindings.{top_level_member_findings}
+use Rattle.tf_rules.specs.Rules.{top_level_member_findings}
 use Rattle.tf_rules.specs.declared.finding.Finding.{Finding}
 use Rattle.tf_rules.specs.declared.finding.NameKind.TheVariants.{Variable, Output}
 use Rattle.tf_rules.specs.declared.rule.Rule.TheVariants.{NamingConvention, TypedVariables, DocumentedVariables, DocumentedOutputs}

@@ -27,7 +27,7 @@ use Rattle.tf_rules.specs.Rules.Missing.{is_undocumented, missing_finding}
 use Rattle.tf_rules.specs.Rules.Naming.{naming_finding, declared_name, label_findings, declared_findings, local_findings}
 use Rattle.tf_rules.specs.SnakeCase.{is_snake_case}
 use Rattle.tf_rules.specs.Spelling.{token_text}
-use Rattle.tf_rules.specs.TopLevelFindings.{top_level_block_findings}
+use Rattle.tf_rules.specs.Rules.{top_level_block_findings}
 use Rattle.tf_rules.specs.declared.finding.Finding.{Finding}
 use Rattle.tf_rules.specs.declared.finding.NameKind.{NameKind}
 use Rattle.tf_rules.specs.declared.finding.NameKind.TheVariants.{Resource, Data, Module}

@@ -5,6 +5,9 @@ use Rattle.std.specs.Option.{option_map}
 use Rattle.hcl_grammar.specs.Lookahead.{NextIs}
 use Rattle.hcl_grammar.specs.Tokens.{Token, is_skipped, next_index, next_token, next_kind, after_next}
 use Rattle.hcl_grammar_laws.proofs.Neat.{kept_at}
+use Rattle.hcl_scan.specs.Follows.{tokens_of}
+use Rattle.hcl_token.specs.TokenizedText.{spelling_of}
+use Rattle.hcl_token.specs.Tokens.{Pair}
 use Rattle.hcl_token.specs.declared.kind.Kind.{Kind}
 use Rattle.hcl_token.specs.declared.kind.Kind.TheVariants as k
 use Rattle.tf_quiet.proofs.QuietRuns.{below_or_not}
@@ -324,3 +327,10 @@ module _ (ts : List Token) (quiet : AllQuiet ts) where
   pub not_one : (m : Bool) (i j : ℕ) → NextIs ts m k.QuoteOpen i → NextIs ts m k.InterpOpen (after_next ts m i) → Passes (after_next ts m (after_next ts m i)) j
       → NextIs ts true k.SeqClose j → NextIs ts m k.QuoteClose (after_next ts true j) → ⊥
   not_one m i j p r inner q c = no_quote_after m j (inner.on (begins m i p r)) q c
+
+-- ---- spellings
+
+pub spelled : (pairs : List Pair) (n : ℕ) (t : Token) → slice_get (tokens_of pairs) n ≡ Some t → spelling_of pairs n ≡ Some t.1
+spelled [] n t e = absurd (cc)
+spelled (p ∷ ps) zero t e = ap (option_map (λ (t : Token). t.1)) e
+spelled (p ∷ ps) (suc n) t e = spelled ps n t e

@@ -1,5 +1,4 @@
 pub mod QuietTokens
-pub mod QuietMembers
 pub mod QuietHeads
 pub mod LineEnds
 pub mod QuietBlocks

@@ -10,7 +10,7 @@ use Rattle.hcl_token.specs.declared.kind.Kind.TheVariants as k
 use Rattle.tf_reuse.specs.OneMember.{IsOneMember}
 use Rattle.tf_rules.specs.SnakeCase.{is_snake_case}
 use Rattle.tf_rules.specs.Spelling.{token_text}
-use Rattle.tf_rules.specs.TopLevelFindings.{top_level_member_findings}
+use Rattle.tf_rules.specs.Rules.{top_level_member_findings}
 use Rattle.tf_rules.specs.declared.rule_set.RuleSet.{RuleSet}
 
 -- a quoted label is at token n

@@ -1,12 +1,8 @@
 pub mod Window
 pub mod RenumberedNodes
+pub mod MovedParts
 mod MoveLines
 mod MoveExpressions
 pub mod MoveBodies
-mod RenumberedTrivia
+pub mod RenumberedTrivia
 pub mod Renumbering
-mod RenumberedFindings
-pub mod FoundNodes
-mod FoundBlocks
-mod FoundMember
-mod MembersKeep

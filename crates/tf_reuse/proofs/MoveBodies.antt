@@ -15,7 +15,7 @@ use Rattle.hcl_grammar.specs.Lookahead.{NextIs, IsNewline, line_end, comment, Is
 use Rattle.hcl_grammar.specs.Nodes as node
 use Rattle.hcl_grammar.specs.Tokens.{Token, next_index, next_kind, after_next, first_token_in}
 use Rattle.hcl_grammar_laws.proofs.Spans.{span_line, span_eol, span_expr, span_labels, span_on_line, span_members}
-use Rattle.tf_reuse.specs.MembersKeep.{SameTokens}
+use Rattle.tf_reuse.specs.SameTokens.{SameTokens}
 use Rattle.tf_reuse.specs.OneMember.{IsOneMember}
 use Rattle.tf_reuse.specs.OneMember as alone
 use Rattle.tf_reuse.proofs.MoveExpressions.{move_expr}

@@ -19,7 +19,7 @@ use Rattle.hcl_grammar_laws.proofs.Spans.{span_lines, span_sep, span_names, span
 use Rattle.tf_reuse.proofs.RenumberedNodes as moved
 use Rattle.tf_reuse.proofs.MoveLines.{passed, not_before, less, begins_sep, begins_keyword, inside, just, at, no_next, word, no_word, move_lines, move_sep, move_names, move_second, move_dots, move_keyword}
 use Rattle.tf_reuse.proofs.Window.{Here, Same, NextIsWithin, starts, starts_here, afters, next_within_end, next_within, before, earlier, earlier_than, firsts}
-use Rattle.tf_reuse.specs.MembersKeep.{SameTokens}
+use Rattle.tf_reuse.specs.SameTokens.{SameTokens}
 
 -- the first token of these ends no later than they do
 module _ {ts : List Token} where

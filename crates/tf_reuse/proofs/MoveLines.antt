@@ -6,7 +6,7 @@ use Rattle.hcl_grammar.specs.Tokens.{Token, next_index, next_kind, after_next}
 use Rattle.hcl_grammar_laws.proofs.Spans.{span_lines, span_names}
 use Rattle.tf_reuse.proofs.RenumberedNodes as moved
 use Rattle.tf_reuse.proofs.Window.{Here, Same, NextIsWithin, starts, afters, tokens, nexts, next_within, before}
-use Rattle.tf_reuse.specs.MembersKeep.{SameTokens}
+use Rattle.tf_reuse.specs.SameTokens.{SameTokens}
 
 module _ (ts : List Token) where
   pub passed : (m : Bool) (i : ℕ) → i < after_next ts m i

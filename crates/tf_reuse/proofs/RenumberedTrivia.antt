@@ -12,7 +12,7 @@ use Rattle.hcl_token.specs.Tokens.{Pair}
 use Rattle.hcl_grammar.specs.Tokens.{Token}
 use Rattle.tf_rules.specs.Trivia.{token_range, has_trivia, has_line_break, is_here_close, is_here_close_kind, depth_after}
 use Rattle.tf_reuse.proofs.Window.{Here, Same}
-use Rattle.tf_reuse.specs.MembersKeep.{SameTokens}
+use Rattle.tf_reuse.specs.SameTokens.{SameTokens}
 use Rattle.tf_reuse.specs.Renumbering.{renumber}
 
 -- ---- tests of numbers

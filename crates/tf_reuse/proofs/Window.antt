@@ -7,7 +7,7 @@ use Rattle.std.specs.List.{prefix_len}
 use Rattle.std.specs.Option.{option_map}
 use Rattle.hcl_grammar.specs.Tokens.{Token, is_skipped, next_index, next_token, next_kind, after_next, first_token_in}
 use Rattle.hcl_grammar_laws.proofs.Neat.{kept_at}
-use Rattle.tf_reuse.specs.MembersKeep.{SameTokens}
+use Rattle.tf_reuse.specs.SameTokens.{SameTokens}
 
 -- lists with the same first n elements: a result of prefix_len below n is that of both
 leading : (p : Token → Bool) (n : ℕ) (xs ys : List Token) → take n xs ≡ take n ys → prefix_len p xs < n → prefix_len p ys ≡ prefix_len p xs

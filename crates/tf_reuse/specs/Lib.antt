@@ -1,3 +1,3 @@
-pub mod MembersKeep
+pub mod SameTokens
 pub mod Renumbering
 pub mod OneMember

@@ -1,5 +1,5 @@
-//! What is found in an attribute or a block whose tokens are also those of another text: the same,
-//! with its numbers moved.
+//! Attributes and blocks whose tokens are also those of another text, and their findings with other
+//! token numbers.
 #![tactic(auto)]
 
 pub mod laws;

@@ -1,5 +1,3 @@
 mod TriviaLemmas
 mod UnbrokenLemmas
 mod SnakeCaseLemmas
-pub mod FoundBy
-pub mod AllFoundBy

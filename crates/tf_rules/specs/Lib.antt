@@ -7,13 +7,10 @@ pub mod RuleSets
 pub mod Table
 pub mod Arguments
 pub mod Attributes
-pub mod NodeFindings
 pub mod Preorder
-pub mod FoundBy
 pub mod Rules
 pub mod SnakeCase
 pub mod Trivia
-pub mod TopLevelFindings
 pub mod Spelling
 pub mod Unbroken
 pub mod ValidFindings

@@ -1,5 +1,5 @@
 -- The rules: one line for each. TFLint ruleset for the Terraform language.
-use Rattle.std.specs.Prelude.{ℕ, Bool, true, false, List, [], ◌∷◌, codes}
+use Rattle.std.specs.Prelude.{ℕ, Bool, true, false, List, [], ◌∷◌, ◌++◌, codes}
 use Rattle.tf_rules.specs.declared.rule.Rule.{Rule}
 use Rattle.tf_rules.specs.declared.rule.Rule.TheVariants.{CommentSyntax, DeprecatedIndex}
 use Rattle.tf_rules.specs.declared.rule.Rule.TheVariants.{DeprecatedInterpolation, EmptyListEquality}
@@ -87,3 +87,13 @@ is_comment_rule _ = false
 abbrev pub label_of : Severity → List ℕ
 label_of Warning = codes "Warning"
 label_of Notice = codes "Notice"
+
+-- what a line of a report says before the name that it quotes, where no word says what is named:
+-- : SEVERITY - BEFORE
+abbrev pub line_opening_of : Rule → List ℕ
+line_opening_of rule =
+    codes ": " ++ (label_of (severity_of rule) ++ (codes " - " ++ (info_of rule).before))
+
+-- what a line of a report says after the name that it quotes: AFTER (RULE), and LF
+abbrev pub line_closing_of : Rule → List ℕ
+line_closing_of rule = (info_of rule).after ++ (codes " (" ++ (name_of rule ++ codes ")\n"))

@@ -1,13 +1,11 @@
-//! The rules, sets of rules, findings as data, and what each rule finds: a module a rule in
-//! `rules`, at the nodes of a syntax tree (`node`), at top-level blocks (`top_level`) and at
-//! comments.
+//! The rules, sets of rules, findings as data, and what each rule finds, at the nodes of a syntax
+//! tree, at top-level blocks and at comments: a module a rule in `rules`.
 #![tactic(auto)]
 
 mod attributes;
 mod context;
 mod finding;
 mod fix;
-mod node;
 mod packed;
 mod role;
 mod rule;
@@ -16,18 +14,19 @@ mod rules;
 mod snake_case;
 mod snake_units;
 mod spelling;
-mod top_level;
 mod trivia;
 mod unbroken;
 
 pub use context::LintContext;
 pub use finding::{Finding, Message, NameKind, add_finding, is_valid_is_exact};
 pub use fix::{Fix, Insertion, KeptTokens};
-pub use node::{check_expr, check_tail, check_term_beyond};
 pub use role::Role;
 pub use rule::{Rule, RuleInfo, Severity};
 pub use rule_set::RuleSet;
 pub use rules::comment_syntax::check_comment;
+pub use rules::{
+    add_top_level_findings, add_top_level_member_findings, check_expr, check_tail,
+    check_term_beyond,
+};
 pub use snake_case::is_snake_case;
-pub use top_level::{add_top_level_findings, add_top_level_member_findings};
 pub use unbroken::Unbroken;

@@ -2,6 +2,7 @@
 
 ghost use Rattle.std.specs.Prelude.{◌≡◌, ◌↔◌, ◌<◌, Some};
 ghost use Rattle.tf_rules.specs.Table.{info_of, index_of, name_of, severity_of, has_fix, label_of};
+ghost use Rattle.tf_rules.specs.Table.{line_opening_of, line_closing_of};
 
 /// A rule. The order of the variants is the order of the rules in reports.
 ///
@@ -62,32 +63,37 @@ pub struct RuleInfo {
     pub after: &'static str,
     /// What it requires, as the help of `lint` says it.
     pub description: &'static str,
+    /// What a line of a report says between the place and the name that it quotes:
+    /// `: SEVERITY - `, then `before`. That of naming is never written, since its lines say between
+    /// the two what is named.
+    pub line_opening: &'static str,
+    /// What a line of a report says after the name that it quotes: `after`, then ` (RULE)` and a
+    /// line end.
+    pub line_closing: &'static str,
 }
 
-/// Returns a row of the table.
-const fn rule_info(
-    name: &'static str,
-    severity: Severity,
-    has_fix: bool,
-    before: &'static str,
-    after: &'static str,
-    description: &'static str,
-) -> RuleInfo
-    ensures name { result.name.now ≡ name.now }
-    ensures severity { result.severity ≡ severity }
-    ensures has_fix { result.has_fix ≡ has_fix }
-    ensures before { result.before.now ≡ before.now }
-    ensures after { result.after.now ≡ after.now }
-    ensures description { result.description.now ≡ description.now }
-{
-    RuleInfo {
-        name,
-        severity,
-        has_fix,
-        before,
-        after,
-        description,
-    }
+/// Makes a row of the table. The parts of a line of a report are put together when the program is
+/// built, from the words that the row has.
+macro_rules! rule_row {
+    (
+        $name:literal,
+        Severity::$severity:ident,
+        $has_fix:literal,
+        $before:literal,
+        $after:literal,
+        $description:literal $(,)?
+    ) => {
+        RuleInfo {
+            name: $name,
+            severity: Severity::$severity,
+            has_fix: $has_fix,
+            before: $before,
+            after: $after,
+            description: $description,
+            line_opening: concat!(": ", stringify!($severity), " - ", $before),
+            line_closing: concat!($after, " (", $name, ")\n"),
+        }
+    };
 }
 
 impl Rule {
@@ -116,15 +122,18 @@ impl Rule {
     }
 
     /// Returns what is the same in each of its findings.
+    #[inline]
     pub fn info(self) -> RuleInfo
         ensures name { result.name.now ≡ (info_of self).name }
         ensures severity { result.severity ≡ (info_of self).severity }
         ensures has_fix { result.has_fix ≡ (info_of self).has_fix }
         ensures before { result.before.now ≡ (info_of self).before }
         ensures after { result.after.now ≡ (info_of self).after }
+        ensures line_opening { result.line_opening.now ≡ line_opening_of self }
+        ensures line_closing { result.line_closing.now ≡ line_closing_of self }
     {
         match self {
-            Rule::CommentSyntax => rule_info(
+            Rule::CommentSyntax => rule_row!(
                 "terraform_comment_syntax",
                 Severity::Warning,
                 true,
@@ -132,7 +141,7 @@ impl Rule {
                 "",
                 "a line comment begins with #, not //",
             ),
-            Rule::DeprecatedIndex => rule_info(
+            Rule::DeprecatedIndex => rule_row!(
                 "terraform_deprecated_index",
                 Severity::Warning,
                 true,
@@ -140,7 +149,7 @@ impl Rule {
                 "",
                 "write a[0], not a.0",
             ),
-            Rule::DeprecatedInterpolation => rule_info(
+            Rule::DeprecatedInterpolation => rule_row!(
                 "terraform_deprecated_interpolation",
                 Severity::Warning,
                 true,
@@ -148,7 +157,7 @@ impl Rule {
                 "",
                 "write var.a, not \"${var.a}\"",
             ),
-            Rule::EmptyListEquality => rule_info(
+            Rule::EmptyListEquality => rule_row!(
                 "terraform_empty_list_equality",
                 Severity::Warning,
                 true,
@@ -156,7 +165,7 @@ impl Rule {
                 "",
                 "write length(a) == 0, not a == []",
             ),
-            Rule::DeprecatedLookup => rule_info(
+            Rule::DeprecatedLookup => rule_row!(
                 "terraform_deprecated_lookup",
                 Severity::Warning,
                 true,
@@ -164,7 +173,7 @@ impl Rule {
                 "",
                 "lookup has three arguments; with two it is a[b]",
             ),
-            Rule::NamingConvention => rule_info(
+            Rule::NamingConvention => rule_row!(
                 "terraform_naming_convention",
                 Severity::Notice,
                 false,
@@ -172,7 +181,7 @@ impl Rule {
                 "\" is not snake_case",
                 "names of blocks and locals are in snake_case",
             ),
-            Rule::TypedVariables => rule_info(
+            Rule::TypedVariables => rule_row!(
                 "terraform_typed_variables",
                 Severity::Warning,
                 false,
@@ -180,7 +189,7 @@ impl Rule {
                 "\" has no type",
                 "a variable has a type",
             ),
-            Rule::DocumentedVariables => rule_info(
+            Rule::DocumentedVariables => rule_row!(
                 "terraform_documented_variables",
                 Severity::Notice,
                 false,
@@ -188,7 +197,7 @@ impl Rule {
                 "\" has no description",
                 "a variable has a description",
             ),
-            Rule::DocumentedOutputs => rule_info(
+            Rule::DocumentedOutputs => rule_row!(
                 "terraform_documented_outputs",
                 Severity::Notice,
                 false,

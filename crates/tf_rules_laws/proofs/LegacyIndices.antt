@@ -14,7 +14,7 @@ use Rattle.hcl_scan.specs.Follows.{tokens_of}
 use Rattle.hcl_token.specs.TokenizedText.{kind_of}
 use Rattle.hcl_token.specs.Tokens.{Pair}
 use Rattle.tf_rules.specs.Preorder.{Node, expr, term, tail, part, member}
-use Rattle.tf_rules_laws.proofs.Grammar.{Each, Seen, an_expr, a_term, a_tail, Closed, all_visited, inside_in_preorder, members}
+use Rattle.tf_rules_laws.proofs.Grammar.{Each, Seen, a_tail, Closed, all_visited, inside_in_preorder, members}
 use Rattle.tf_rules_laws.proofs.Order.{kind_at, IsLegacyToken, tails_in}
 use Rattle.tf_rules_laws.specs.LegacyIndices.{IsLegacyTail, IsLegacyNode, LegacyIndicesAreTokens}
 

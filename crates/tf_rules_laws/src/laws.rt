@@ -5,6 +5,9 @@ ghost use Rattle.tf_rules_laws.specs.Payload.{ChildrenAreComplete, PreorderDeter
 ghost use Rattle.tf_rules_laws.specs.NothingDropped.{NoFindingIsDropped};
 ghost use Rattle.tf_rules_laws.specs.LegacyIndices.{LegacyIndicesAreAll, LegacyIndicesAreTokens};
 ghost use Rattle.tf_rules_laws.specs.Roles.{RolesAreRight};
+ghost use Rattle.tf_rules_laws.specs.OneRule.{FindingsOfOneRule, FindingsMatchTheirRule};
+ghost use Rattle.tf_rules_laws.specs.MembersKeep.{UnchangedMembersKeepFindings};
+ghost use Rattle.tf_rules_laws.specs.QuietMembers.{QuietMembersHaveNoFindings};
 
 /// A node is determined by its own data and its children: the list of children leaves none out.
 pub fn children_are_complete()
@@ -57,6 +60,31 @@ pub fn legacy_indices_are_all()
 /// numbers drops none.
 pub fn no_finding_is_dropped()
     ensures { NoFindingIsDropped }
+{
+    hcl_grammar_laws::laws::nodes_span_their_tokens();
+}
+
+/// What one rule of a set finds is what is of that rule in what the set finds.
+pub fn findings_of_one_rule()
+    ensures { FindingsOfOneRule }
+{}
+
+/// What a rule by itself finds is of that rule: the rule on comments finds comments that begin with
+/// `//`, and no other rule does; and if a finding of a rule has a fix, the rule has a step in a
+/// fix.
+pub fn findings_match_their_rule()
+    ensures { FindingsMatchTheirRule }
+{}
+
+/// A member whose tokens are also elsewhere is a member there, and what the rules find in it is the
+/// same, with its numbers moved.
+pub fn unchanged_members_keep_findings()
+    ensures { UnchangedMembersKeepFindings }
+{}
+
+/// In a member whose tokens are quiet no rule finds anything at a node.
+pub fn quiet_members_have_no_findings()
+    ensures { QuietMembersHaveNoFindings }
 {
     hcl_grammar_laws::laws::nodes_span_their_tokens();
 }

@@ -4,7 +4,7 @@ use Rattle.hcl_token.specs.Tokens.{Pair}
 use Rattle.tf_rules.specs.declared.rule_set.RuleSet.{RuleSet}
 use Rattle.tf_rules.specs.declared.finding.Finding.{Finding}
 use Rattle.tf_rules.specs.Findings.{valid_findings}
-use Rattle.tf_rules.specs.NodeFindings.{node_findings}
+use Rattle.tf_rules.specs.Rules.{node_findings}
 use Rattle.tf_rules.specs.Preorder.{Node, children}
 
 pub data Collects (rules : RuleSet) (pairs : List Pair) : List Node → List Finding → List Finding

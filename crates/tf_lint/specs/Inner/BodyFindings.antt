@@ -13,7 +13,7 @@ use Rattle.tf_lint.specs.declared.body.BodyFindings.{BodyFindings}
 use Rattle.tf_lint.specs.declared.member.LintedMember.{LintedMember}
 use Rattle.tf_rules.specs.Findings.{valid_findings}
 use Rattle.tf_rules.specs.declared.rule_set.RuleSet.{RuleSet}
-use Rattle.tf_rules.specs.TopLevelFindings.{top_level_findings}
+use Rattle.tf_rules.specs.Rules.{top_level_findings}
 
 -- the member, or none, that the parser reads from one place up to another, with what is found in it
 abbrev pub IsNextMember : RuleSet → List Pair → ℕ → Option LintedMember → ℕ → Type 0

@@ -1,5 +1,5 @@
 -- The parts of a line of a report before an issue's text, and after it; and before the name that it
--- quotes, and after that.
+-- quotes.
 use Rattle.std.specs.Prelude.{ℕ, List, ◌++◌, Option, codes}
 use Rattle.std.specs.Fmt.{decimal}
 use Rattle.hcl_token.specs.declared.place.Place.{Place}
@@ -28,7 +28,3 @@ line_suffix rule = codes " (" ++ (name_of rule ++ codes ")")
 -- : SEVERITY - KIND BEFORE
 abbrev pub line_opening : Rule → Option NameKind → List ℕ
 line_opening rule kind = severity_words rule ++ (kind_word kind ++ (info_of rule).before)
-
--- AFTER (RULE), and LF
-abbrev pub line_closing : Rule → List ℕ
-line_closing rule = (info_of rule).after ++ (codes " (" ++ (name_of rule ++ codes ")\n"))

@@ -9,7 +9,7 @@ use Rattle.hcl_token.specs.Tokens.{Pair}
 use Rattle.tf_findings.specs.TreeFindings.{AreTreeFindings}
 use Rattle.tf_reuse.specs.OneMember.{IsOneMember}
 use Rattle.tf_rules.specs.Preorder as node
-use Rattle.tf_rules.specs.TopLevelFindings.{top_level_member_findings}
+use Rattle.tf_rules.specs.Rules.{top_level_member_findings}
 use Rattle.tf_rules.specs.declared.rule_set.RuleSet.{RuleSet}
 
 -- a member is between these places, and nothing is found at its nodes or at itself

@@ -3,7 +3,8 @@ use Rattle.std.proofs.Common.{◌≡◌, List, filter, length, true, sym, subst}
 use Rattle.std.proofs.lemmas.Result.{err_from_is_err_and}
 use Rattle.hcl_scan.specs.Follows.{AreApart}
 use Rattle.hcl_token.specs.TokenizedText.{TokenizedText}
-use Rattle.tf_findings.specs.RuleFilter.{is_found_by, FindingsOfOneRule}
+use Rattle.tf_findings.specs.RuleFilter.{is_found_by}
+use Rattle.tf_rules_laws.specs.OneRule.{FindingsOfOneRule}
 use Rattle.tf_findings.proofs.ValidLemmas.{valid_kept}
 use Rattle.tf_rules.specs.SingleRule.{only}
 use Rattle.tf_rules.specs.RuleSets.{has_rule}

@@ -1,5 +1,0 @@
-use Rattle.tf_quiet.proofs.QuietMembers.{quiet_members}
-use Rattle.tf_quiet.proofs.laws.quiet_members_have_no_findings.Goals as goal
-
-pub returns : goal.returns
-returns c = quiet_members c.nodes_span_their_tokens.ensures

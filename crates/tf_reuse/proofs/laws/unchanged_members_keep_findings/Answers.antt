@@ -1,5 +1,0 @@
-use Rattle.tf_reuse.proofs.MembersKeep.{members_keep}
-use Rattle.tf_reuse.proofs.laws.unchanged_members_keep_findings.Goals as goal
-
-pub returns : goal.returns
-returns c = members_keep

@@ -1,0 +1,176 @@
+-- Quoted text that is one interpolation.
+use Rattle.std.proofs.Common.{◌≡◌, ℕ, ◌&&◌, Bool, true, false, not, List, Option, Some, None, refl, ap₂, subst, length, arith, ◌+◌, ◌-◌, ◌<◌, ◌||◌, nat_lt, nat_le, ◌≤◌}
+use Rattle.std.proofs.lemmas.Bool.{leb-true, leb-false}
+use Rattle.hcl_grammar.specs.Grammar.{IsTerm, number, identifier, call, tuple, object, for_tuple, for_object, quoted, heredoc, parens, IsParts, no_parts, parts, IsPart, quote_text, here_text, interp, if_directive, for_directive}
+use Rattle.hcl_grammar.specs.Lookahead.{NextIs}
+use Rattle.hcl_grammar.specs.Nodes as node
+use Rattle.hcl_grammar.specs.Tokens.{Token, after_next}
+use Rattle.hcl_grammar.specs.declared.tree.Expr.{Expr}
+use Rattle.hcl_grammar.specs.declared.tree.ExprKind.{out-ExprKind, ExprKind}
+use Rattle.hcl_grammar.specs.declared.tree.Part.{Part, out-Part}
+use Rattle.hcl_grammar.specs.declared.tree.Primary.{out-Primary, Primary}
+use Rattle.hcl_grammar.specs.declared.tree.Term.{Term}
+use Rattle.hcl_grammar_laws.proofs.Opens.{open_conditional, open_chain, open_prefixed, open_tailed, open_plain, open_number, open_identifier, open_call, open_tuple, open_object, open_for_tuple, open_for_object, open_quoted, open_heredoc, open_parens, open_literal, open_interp, open_if, open_for}
+use Rattle.hcl_scan.specs.Follows.{tokens_of}
+use Rattle.hcl_token.specs.Tokens.{Pair}
+use Rattle.hcl_token.specs.declared.kind.Kind.TheVariants as k
+use Rattle.tf_quiet.proofs.Nothing as empty
+use Rattle.tf_quiet.proofs.Nothing.{Nothing}
+use Rattle.tf_quiet.proofs.QuietTokens.{AllQuiet, Passes, not_one}
+use Rattle.tf_quiet.proofs.Walks.{pass_expr}
+use Rattle.tf_reuse.proofs.MovedParts.{form_of}
+use Rattle.tf_reuse.proofs.RenumberedNodes as moved
+use Rattle.tf_reuse.proofs.RenumberedNodes.{MovedForm, MovedShape, MovedParts, MovedFilter}
+use Rattle.tf_reuse.proofs.RenumberedTrivia.{inner_break_moved}
+use Rattle.tf_reuse.proofs.Renumbering as moves
+use Rattle.tf_reuse.proofs.Renumbering.{Moves, SameFix}
+use Rattle.tf_reuse.proofs.Window.{Here, Same}
+use Rattle.tf_reuse.specs.SameTokens.{SameTokens}
+use Rattle.tf_rules.specs.Findings.{plain_message, finding_at, is_fix_valid}
+use Rattle.tf_rules.specs.Fixes.{kept, keep_one, when, is_in_order}
+use Rattle.tf_rules.specs.Rules.Interpolation.{sole_interpolation, is_post_kind, sole_part, interpolation_findings, is_object_key, is_elsewhere, is_interpolation_fixable, part_interpolation}
+use Rattle.tf_rules.specs.declared.fix.Fix.{Fix}
+use Rattle.tf_rules.specs.declared.fix.Insertion.TheVariants as insertion
+use Rattle.tf_rules.specs.declared.role.Role.{Role}
+use Rattle.tf_rules.specs.declared.rule.Rule.TheVariants.{DeprecatedInterpolation}
+use Rattle.tf_rules_laws.proofs.OfRule as found
+use Rattle.tf_rules_laws.proofs.OfRule.{From}
+use Rattle.tf_rules_laws.proofs.Order.{term_sits, five_in}
+use Rattle.tf_rules_laws.proofs.Valid as valid
+use Rattle.tf_rules_laws.proofs.Valid.{AreValid}
+
+-- ---- what is found is of the rule
+
+pub of_rule : (pairs : List Pair) (role : Role) (first past : ℕ) (o : Option Expr) → From pairs DeprecatedInterpolation (interpolation_findings pairs role first past o)
+of_rule pairs role first past None = found.none
+of_rule pairs role first past (Some e) =
+    found.choose (is_object_key role) found.none (found.maybe (is_interpolation_fixable pairs role first past e) (keep_one insertion.Nothing (kept (first + 2) (past - 2) insertion.Nothing)) refl refl refl)
+
+-- ---- where its tokens are elsewhere too, the same is found
+
+module _ {R T : ℕ → ℕ → Type 0} where
+  post_moved : {x x' : ExprKind} → MovedForm R T x x' → is_post_kind (out-ExprKind x') ≡ is_post_kind (out-ExprKind x)
+  post_moved (moved.conditional a b c) = simp (open_conditional) refl
+  post_moved (moved.chain a b) = simp (open_chain) refl
+  post_moved (moved.prefixed op a) = simp (open_prefixed) refl
+  post_moved (moved.tailed a b) = simp (open_tailed) refl
+  post_moved (moved.plain a) = simp (open_plain) refl
+
+  sole_moved : {xs xs' : List Part} → MovedParts R T xs xs' → MovedFilter R T (sole_part xs) (sole_part xs')
+  unfolding node.if_part node.for_part
+  sole_moved moved.no_parts = moved.no_filter
+  sole_moved (moved.parts (moved.literal t) moved.no_parts) = simp (open_literal) moved.no_filter
+  sole_moved (moved.parts (moved.interp a) moved.no_parts) = simp (open_interp) (moved.filter a)
+  sole_moved (moved.parts (moved.if_directive r s a b c) moved.no_parts) = simp (open_if) moved.no_filter
+  sole_moved (moved.parts (moved.for_directive r s a b) moved.no_parts) = simp (open_for) moved.no_filter
+  sole_moved (moved.parts a (moved.parts b c)) = moved.no_filter
+
+  pub sole_in_moved : {x x' : Primary} → MovedShape R T x x' → MovedFilter R T (sole_interpolation (out-Primary x)) (sole_interpolation (out-Primary x'))
+  unfolding node.call node.for_tuple node.for_object node.template
+  sole_in_moved moved.number = simp (open_number) moved.no_filter
+  sole_in_moved moved.identifier = simp (open_identifier) moved.no_filter
+  sole_in_moved (moved.call s a b) = simp (open_call) moved.no_filter
+  sole_in_moved (moved.tuple a) = simp (open_tuple) moved.no_filter
+  sole_in_moved (moved.object a) = simp (open_object) moved.no_filter
+  sole_in_moved (moved.for_tuple a b c) = simp (open_for_tuple) moved.no_filter
+  sole_in_moved (moved.for_object s a b c d) = simp (open_for_object) moved.no_filter
+  sole_in_moved (moved.quoted (moved.template r s a)) = simp (open_quoted) (sole_moved a)
+  sole_in_moved (moved.heredoc a) = simp (open_heredoc) moved.no_filter
+  sole_in_moved (moved.parens a) = simp (open_parens) moved.no_filter
+
+-- what a fix makes of an interpolation
+abbrev inside : ℕ → ℕ → Fix
+inside first past = keep_one insertion.Nothing (kept (first + 2) (past - 2) insertion.Nothing)
+
+span_too_short : (i j : ℕ) → j < i + 5 → nat_lt (i + 2) (j - 2) ≡ false
+span_too_short i j l = grind arith
+
+not_second : (a b c : Bool) → b ≡ false → (a && (b && c)) ≡ false
+not_second true true c e = absurd (cc)
+not_second true false c e = refl
+not_second false b c e = refl
+
+-- braces that hold nothing
+unfit : (i j : ℕ) → j < i + 5 → is_fix_valid i j (Some (inside i j)) ≡ false
+unfit i j l = not_second (nat_lt i (i + 2)) (nat_lt (i + 2) (j - 2)) (nat_lt i (j - 2) && nat_lt (j - 2) j) (span_too_short i j l)
+
+module _ (old new : List Pair) {from to count : ℕ} (w : SameTokens (tokens_of old) (tokens_of new) from to count) where
+  -- what is between its braces, where there is such
+  inside_moved : {i i' j j' : ℕ} → Here w i i' → Here w j j' → i + 5 ≤ j → SameFix old new w (Some (inside i j)) (Some (inside i' j'))
+  inside_moved h g l =
+      let a : Here w _ _ = record { before = h.before + 2; within = omega (arith, l, h.in_old, g.in_old, g.within); in_old = omega (arith, h.in_old); in_new = omega (arith, h.in_new) } in
+      let b : Here w _ _ = record { before = g.before - 2; within = omega (arith, g.within); in_old = omega (arith, l, h.in_old, g.in_old); in_new = omega (arith, l, h.in_old, h.in_new, g.in_old, g.in_new) } in
+      moves.tokens insertion.Nothing (moves.keeps insertion.Nothing a b (moves.skip moves.no_kept))
+
+  short_span_moves : {i i' j j' : ℕ} {f f' : Bool} → Here w i i' → Here w j j' → f' ≡ f → j < i + 5
+      → Moves old new from to (finding_at DeprecatedInterpolation i j plain_message (when f (inside i j))) (finding_at DeprecatedInterpolation i' j' plain_message (when f' (inside i' j')))
+  short_span_moves {i} {i'} {j} {j'} {f = true} {f' = true} h g e l =
+      moves.neither_fits DeprecatedInterpolation (unfit i j l) (unfit i' j' (omega (arith, l, h.in_old, h.in_new, g.in_old, g.in_new)))
+  short_span_moves {f = false} {f' = false} h g e l = moves.finding_moves old new w DeprecatedInterpolation h g refl moves.no_fix
+  short_span_moves {f = true} {f' = false} h g e l = absurd (cc)
+  short_span_moves {f = false} {f' = true} h g e l = absurd (cc)
+
+  by_width : (wide : Bool) {i i' j j' : ℕ} {f f' : Bool} → nat_le (i + 5) j ≡ wide → Here w i i' → Here w j j' → f' ≡ f
+      → Moves old new from to (finding_at DeprecatedInterpolation i j plain_message (when f (inside i j))) (finding_at DeprecatedInterpolation i' j' plain_message (when f' (inside i' j')))
+  by_width true {i} {i'} {j} t h g e = moves.finding_moves old new w DeprecatedInterpolation h g refl (moves.fix_when old new w e (inside_moved h g (leb-true (i + 5) j t)))
+  by_width false {i} {i'} {j} t h g e = short_span_moves h g e (leb-false (i + 5) j t)
+
+  pub interpolation_moved : (role : Role) {i i' j j' : ℕ} {o o' : Option Expr} → Here w i i' → Here w j j' → MovedFilter (Here w) (Same w) o o'
+      → Moves old new from to (interpolation_findings old role i j o) (interpolation_findings new role i' j' o')
+  interpolation_moved role h g moved.no_filter = moves.none
+  interpolation_moved role h g (moved.filter a) =
+      let x = ap₂ (λ (b : Bool) (c : Bool). not b && (c || not (is_elsewhere role))) (inner_break_moved old new w false 0 h g) (post_moved (form_of a)) in
+      moves.either {b = is_object_key role} {b' = is_object_key role} refl moves.none (by_width _ refl h g x)
+
+-- ---- over a text that parses, the numbers are in order
+
+bared : (first past : ℕ) → first + 5 ≤ past → is_in_order first past (keep_one insertion.Nothing (kept (first + 2) (past - 2) insertion.Nothing)) ≡ true
+bared first past h =
+    valid.and (nat_lt first (first + 2)) (nat_lt (first + 2) (past - 2) && (nat_lt first (past - 2) && nat_lt (past - 2) past)) (grind (arith))
+    (valid.and (nat_lt (first + 2) (past - 2)) (nat_lt first (past - 2) && nat_lt (past - 2) past) (grind (arith, h))
+    (valid.and (nat_lt first (past - 2)) (nat_lt (past - 2) past) (grind (arith, h)) (grind (arith, h))))
+
+module _ (pairs : List Pair) (ts : List Token) (count : length ts ≡ length pairs) where
+  pub interpolation_is_valid : {d : ℕ} {m : Bool} (role : Role) (t : Term) → IsTerm ts d m t t.first t.past → (o : Option Expr) → sole_interpolation (out-Primary t.kind) ≡ o
+      → AreValid (length pairs) (interpolation_findings pairs role t.first t.past o)
+  interpolation_is_valid role t w None h = valid.none
+  interpolation_is_valid role t w (Some e) h =
+      let s = term_sits w in let f = five_in w e h in let writes = is_interpolation_fixable pairs role t.first t.past e in
+      valid.choose (is_object_key role) valid.none (valid.keep (length pairs) DeprecatedInterpolation t.first t.past plain_message _ s.some (omega (arith, s.within, count))
+      (valid.fits t.first t.past writes (keep_one insertion.Nothing (kept (t.first + 2) (t.past - 2) insertion.Nothing)) (bared t.first t.past f)))
+
+-- ---- where all tokens are quiet, nothing is found
+
+module _ {ts : List Token} (quiet : AllQuiet ts) where
+  part_quiet : {d : ℕ} {m : Bool} {x : Part} {i j : ℕ} (from : ℕ) → NextIs ts m k.QuoteOpen from → i ≡ after_next ts m from → IsPart ts d m x i j → NextIs ts m k.QuoteClose j → part_interpolation (out-Part x) ≡ None
+  unfolding node.if_part node.for_part
+  part_quiet from start e (quote_text p) c = simp (open_literal) refl
+  part_quiet from start e (here_text p) c = simp (open_literal) refl
+  part_quiet {m} from start e (interp {j} p x q) c =
+      let p' = subst (NextIs ts m k.InterpOpen) e p in
+      let inner = subst (λ (n : ℕ). Passes ts quiet (after_next ts m n) j) e (pass_expr quiet x) in
+      absurd (not_one ts quiet m from j start p' inner q c)
+  part_quiet from start e (if_directive p w y q ps o) c = simp (open_if) refl
+  part_quiet from start e (for_directive p y q ps s) c = simp (open_for) refl
+
+  parts_quiet : {d : ℕ} {m : Bool} {xs : List Part} {i j : ℕ} (from : ℕ) → NextIs ts m k.QuoteOpen from → i ≡ after_next ts m from → IsParts ts d m xs i j → NextIs ts m k.QuoteClose j → sole_part xs ≡ None
+  parts_quiet from start e no_parts c = refl
+  parts_quiet from start e (parts x no_parts) c = part_quiet from start e x c
+  parts_quiet from start e (parts x (parts y ys)) c = refl
+
+  pub quoted_quiet : {d : ℕ} {m : Bool} {t : Term} {i j : ℕ} → IsTerm ts d m t i j → sole_interpolation (out-Primary t.kind) ≡ None
+  unfolding node.term node.call node.for_tuple node.for_object node.template
+  quoted_quiet (number p) = simp (open_number) refl
+  quoted_quiet (identifier p q r) = simp (open_identifier) refl
+  quoted_quiet (call p ns q xs) = simp (open_call) refl
+  quoted_quiet (tuple p w xs) = simp (open_tuple) refl
+  quoted_quiet (object p w l es) = simp (open_object) refl
+  quoted_quiet (for_tuple p y c v f) = simp (open_for_tuple) refl
+  quoted_quiet (for_object p y c a w v s f) = simp (open_for_object) refl
+  quoted_quiet (quoted {m} {i} p xs q) = simp (open_quoted) (parts_quiet i p refl xs q)
+  quoted_quiet (heredoc p xs q) = simp (open_heredoc) refl
+  quoted_quiet (parens p w q) = simp (open_parens) refl
+
+pub interpolation_nothing : (pairs : List Pair) (role : Role) (first past : ℕ) (o : Option Expr) → o ≡ None → Nothing (interpolation_findings pairs role first past o)
+interpolation_nothing pairs role first past None h = empty.none
+interpolation_nothing pairs role first past (Some e) h = absurd (cc)

@@ -1,0 +1,195 @@
+-- Calls of `lookup`.
+use Rattle.std.proofs.Common.{◌≡◌, ◌∙◌, ℕ, ◌&&◌, Bool, true, false, not, List, [], ◌∷◌, Option, Some, None, refl, ap, length, arith, ◌<◌, ◌||◌, nat_lt, nat_le, ◌≤◌, rules, if◌then◌else◌}
+use Rattle.hcl_grammar.specs.Grammar.{IsTerm, number, identifier, call, tuple, object, for_tuple, for_object, quoted, heredoc, parens}
+use Rattle.hcl_grammar.specs.Lookahead.{NextIs}
+use Rattle.hcl_grammar.specs.Nodes as node
+use Rattle.hcl_grammar.specs.Tokens.{Token, next_index}
+use Rattle.hcl_grammar.specs.TreeLayers.{PrimaryLayer, CallLayer}
+use Rattle.hcl_grammar.specs.declared.tree.Call.{out-Call, roll-Call, Call}
+use Rattle.hcl_grammar.specs.declared.tree.Expr.{Expr}
+use Rattle.hcl_grammar.specs.declared.tree.ExprKind.TheOpen.{Primary-F}
+use Rattle.hcl_grammar.specs.declared.tree.ExprKind.TheViews.{the_lemmas}
+use Rattle.hcl_grammar.specs.declared.tree.ExprKind.{out-ExprKind, ExprKind}
+use Rattle.hcl_grammar.specs.declared.tree.Primary.{out-Primary, Primary}
+use Rattle.hcl_grammar.specs.declared.tree.Tail.{Tail}
+use Rattle.hcl_grammar.specs.declared.tree.Term.{Term}
+use Rattle.hcl_grammar_laws.proofs.Opens.{open_conditional, open_chain, open_prefixed, open_tailed, open_plain, open_number, open_identifier, open_call, open_tuple, open_object, open_for_tuple, open_for_object, open_quoted, open_heredoc, open_parens, open_name, open_legacy, open_index, call_arguments, call_names}
+use Rattle.hcl_scan.specs.Follows.{tokens_of}
+use Rattle.hcl_token.specs.TokenizedText.{spelling_of}
+use Rattle.hcl_token.specs.Tokens.{Pair}
+use Rattle.hcl_token.specs.declared.kind.Kind.TheVariants as k
+use Rattle.tf_quiet.proofs.Nothing as empty
+use Rattle.tf_quiet.proofs.Nothing.{Nothing}
+use Rattle.tf_quiet.proofs.QuietTokens.{AllQuiet, not_lookup, spelled}
+use Rattle.tf_reuse.proofs.MovedParts.{form_of, first_here, past_here}
+use Rattle.tf_reuse.proofs.RenumberedNodes as moved
+use Rattle.tf_reuse.proofs.RenumberedNodes.{MovedNumbers, MovedExpr, MovedForm, MovedTails, MovedTail, MovedShape, MovedExprs}
+use Rattle.tf_reuse.proofs.RenumberedTrivia.{spelling_moved, trivia_moved, break_moved}
+use Rattle.tf_reuse.proofs.Renumbering as moves
+use Rattle.tf_reuse.proofs.Renumbering.{Moves}
+use Rattle.tf_reuse.proofs.Window.{Here, Same}
+use Rattle.tf_reuse.specs.SameTokens.{SameTokens}
+use Rattle.tf_rules.specs.Arguments.{two_arguments}
+use Rattle.tf_rules.specs.Findings.{plain_message}
+use Rattle.tf_rules.specs.Fixes.{kept, is_in_order, keep_two}
+use Rattle.tf_rules.specs.Rules.Lookup.{is_splat, has_splat, is_indexable_kind, is_lookup, is_lookup_token, is_lookup_fixable, pair_findings, lookup_findings, call_findings}
+use Rattle.tf_rules.specs.declared.fix.Insertion.TheVariants as insertion
+use Rattle.tf_rules.specs.declared.rule.Rule.TheVariants.{DeprecatedLookup}
+use Rattle.tf_rules_laws.proofs.OfRule as found
+use Rattle.tf_rules_laws.proofs.OfRule.{From}
+use Rattle.tf_rules_laws.proofs.Order.{term_sits, call_in}
+use Rattle.tf_rules_laws.proofs.Valid as valid
+use Rattle.tf_rules_laws.proofs.Valid.{AreValid}
+
+-- ---- what is found is of the rule
+
+pair_of_rule : (pairs : List Pair) (first past : ℕ) (o : Option (Expr × Expr)) → From pairs DeprecatedLookup (pair_findings pairs first past o)
+pair_of_rule pairs first past None = found.none
+pair_of_rule pairs first past (Some (a, b)) = found.maybe (is_lookup_fixable pairs first past a b)
+    (keep_two insertion.Nothing (kept a.first a.past insertion.OpenBracket) (kept b.first b.past insertion.CloseBracket)) refl refl refl
+
+call_of_rule : (pairs : List Pair) (first past : ℕ) (c : CallLayer) → From pairs DeprecatedLookup (call_findings pairs first past c)
+call_of_rule pairs first past c = found.choose (c.expand_final || not (is_lookup pairs c.names)) found.none (pair_of_rule pairs first past (two_arguments c.arguments))
+
+pub of_rule : (pairs : List Pair) (first past : ℕ) (s : PrimaryLayer) → From pairs DeprecatedLookup (lookup_findings pairs first past s)
+of_rule pairs first past Primary-F.Number = found.none
+of_rule pairs first past Primary-F.Identifier = found.none
+of_rule pairs first past (Primary-F.Call c) = call_of_rule pairs first past (out-Call c)
+of_rule pairs first past (Primary-F.Tuple es) = found.none
+of_rule pairs first past (Primary-F.Object es) = found.none
+of_rule pairs first past (Primary-F.ForTuple f) = found.none
+of_rule pairs first past (Primary-F.ForObject f) = found.none
+of_rule pairs first past (Primary-F.Quoted t) = found.none
+of_rule pairs first past (Primary-F.Heredoc t) = found.none
+of_rule pairs first past (Primary-F.Parens e) = found.none
+
+-- ---- where its tokens are elsewhere too, the same is found
+
+module _ {R T : ℕ → ℕ → Type 0} where
+  splat_moved : {x x' : Tail} → MovedTail R T x x' → is_splat x' ≡ is_splat x
+  splat_moved (moved.by_name t) = simp (open_name) refl
+  splat_moved (moved.legacy t) = simp (open_legacy) refl
+  splat_moved moved.attribute_splat = refl
+  splat_moved moved.full_splat = refl
+  splat_moved (moved.index a) = simp (open_index) refl
+
+  has_splat_moved : {xs xs' : List Tail} → MovedTails R T xs xs' → has_splat xs' ≡ has_splat xs
+  has_splat_moved moved.no_tails = refl
+  has_splat_moved (moved.tails a b) = rw (splat_moved a, has_splat_moved b) refl
+
+  indexable_moved : {x x' : ExprKind} → MovedForm R T x x' → is_indexable_kind (out-ExprKind x') ≡ is_indexable_kind (out-ExprKind x)
+  indexable_moved (moved.conditional a b c) = simp (open_conditional) refl
+  indexable_moved (moved.chain a b) = simp (open_chain) refl
+  indexable_moved (moved.prefixed op a) = simp (open_prefixed) refl
+  indexable_moved (moved.tailed a b) = simp (open_tailed) (ap not (has_splat_moved b))
+  indexable_moved (moved.plain a) = simp (open_plain) refl
+
+call_spread : (a : List ℕ) (b : List Expr) (c : Bool) → (out-Call (roll-Call (record { names = a; arguments = b; expand_final = c }))).expand_final ≡ c
+call_spread a b c = search (rules, the_lemmas)
+
+at_call : (pairs : List Pair) (i j : ℕ) (ns : List ℕ) (es : List Expr) (s : Bool)
+    → lookup_findings pairs i j (out-Primary (node.call ns es s)) ≡ (if s || not (is_lookup pairs ns) then [] else pair_findings pairs i j (two_arguments es))
+unfolding node.call
+at_call pairs i j ns es s = simp (open_call) (simp (call_names, call_spread, call_arguments) refl)
+
+module _ (old new : List Pair) {from to count : ℕ} (w : SameTokens (tokens_of old) (tokens_of new) from to count) where
+  is_lookup_moved : {ns ns' : List ℕ} → MovedNumbers (Here w) (Same w) ns ns' → is_lookup new ns' ≡ is_lookup old ns
+  is_lookup_moved moved.no_numbers = refl
+  is_lookup_moved (moved.numbers t moved.no_numbers) = ap is_lookup_token (spelling_moved old new w t)
+  is_lookup_moved (moved.numbers t (moved.numbers u us)) = refl
+
+  movable_moved : {i i' j j' : ℕ} {a a' b b' : Expr} → Here w i i' → Here w j j' → MovedExpr (Here w) (Same w) a a' → MovedExpr (Here w) (Same w) b b'
+      → is_lookup_fixable new i' j' a' b' ≡ is_lookup_fixable old i j a b
+  movable_moved h g a b =
+      moves.both (indexable_moved (form_of a)) (moves.both (ap not (break_moved old new w true 0 (first_here a) (past_here a)))
+      (moves.both (ap not (trivia_moved old new w h (first_here a))) (moves.both (ap not (trivia_moved old new w (past_here a) (first_here b)))
+      (ap not (trivia_moved old new w (past_here b) g)))))
+
+  two_moved : {i i' j j' : ℕ} {a a' b b' : Expr} → Here w i i' → Here w j j' → MovedExpr (Here w) (Same w) a a' → MovedExpr (Here w) (Same w) b b'
+      → Moves old new from to (pair_findings old i j (Some (a, b))) (pair_findings new i' j' (Some (a', b')))
+  two_moved h g m n =
+      let kept_two = moves.keeps insertion.OpenBracket (first_here m) (past_here m) (moves.keeps insertion.CloseBracket (first_here n) (past_here n) moves.no_kept) in
+      moves.finding_moves old new w DeprecatedLookup h g refl (moves.fix_when old new w (movable_moved h g m n) (moves.tokens insertion.Nothing kept_two))
+
+  pair_moved : {i i' j j' : ℕ} {es es' : List Expr} → Here w i i' → Here w j j' → MovedExprs (Here w) (Same w) es es'
+      → Moves old new from to (pair_findings old i j (two_arguments es)) (pair_findings new i' j' (two_arguments es'))
+  pair_moved h g moved.no_exprs = moves.none
+  pair_moved h g (moved.exprs a moved.no_exprs) = moves.none
+  pair_moved h g (moved.exprs a (moved.exprs b moved.no_exprs)) = two_moved h g a b
+  pair_moved h g (moved.exprs a (moved.exprs b (moved.exprs c d))) = moves.none
+
+  pub lookup_moved : {i i' j j' : ℕ} {x x' : Primary} → Here w i i' → Here w j j' → MovedShape (Here w) (Same w) x x'
+      → Moves old new from to (lookup_findings old i j (out-Primary x)) (lookup_findings new i' j' (out-Primary x'))
+  unfolding node.for_tuple node.for_object
+  lookup_moved h g moved.number = simp (open_number) moves.none
+  lookup_moved h g moved.identifier = simp (open_identifier) moves.none
+  lookup_moved {i} {i'} {j} {j'} h g (moved.call s {ns} {ns'} {es} {es'} a b) =
+      let name = ap (λ (x : Bool). s || not x) (is_lookup_moved a) in
+      rw (at_call old i j ns es s, at_call new i' j' ns' es' s) (moves.either name moves.none (pair_moved h g b))
+  lookup_moved h g (moved.tuple a) = simp (open_tuple) moves.none
+  lookup_moved h g (moved.object a) = simp (open_object) moves.none
+  lookup_moved h g (moved.for_tuple a b c) = simp (open_for_tuple) moves.none
+  lookup_moved h g (moved.for_object s a b c d) = simp (open_for_object) moves.none
+  lookup_moved h g (moved.quoted a) = simp (open_quoted) moves.none
+  lookup_moved h g (moved.heredoc a) = simp (open_heredoc) moves.none
+  lookup_moved h g (moved.parens a) = simp (open_parens) moves.none
+
+-- ---- over a text that parses, the numbers are in order
+
+looked_up : (first past a b c d : ℕ) → first < a → a < b → b ≤ c → c < d → d ≤ past → is_in_order first past (keep_two insertion.Nothing (kept a b insertion.OpenBracket) (kept c d insertion.CloseBracket)) ≡ true
+looked_up first past a b c d p q r s t =
+    valid.and (nat_lt first a) (nat_lt a b && (nat_le b c && (nat_lt c d && nat_le d past))) (grind (arith, p))
+    (valid.and (nat_lt a b) (nat_le b c && (nat_lt c d && nat_le d past)) (grind (arith, q))
+    (valid.and (nat_le b c) (nat_lt c d && nat_le d past) (grind (arith, r))
+    (valid.and (nat_lt c d) (nat_le d past) (grind (arith, s)) (grind (arith, t)))))
+
+module _ (pairs : List Pair) (ts : List Token) (count : length ts ≡ length pairs) where
+  pair_is_valid : {d : ℕ} {m : Bool} (t : Term) → IsTerm ts d m t t.first t.past → (c : Call) → out-Primary t.kind ≡ Primary-F.Call c → (o : Option (Expr × Expr)) → two_arguments (out-Call c).arguments ≡ o
+      → AreValid (length pairs) (pair_findings pairs t.first t.past o)
+  pair_is_valid t w c h None e = valid.none
+  pair_is_valid t w c h (Some (a, b)) e =
+      let s = term_sits w in let o = call_in w c h a b e in let movable = is_lookup_fixable pairs t.first t.past a b in
+      valid.keep (length pairs) DeprecatedLookup t.first t.past plain_message _ s.some (omega (arith, s.within, count))
+      (valid.fits t.first t.past movable (keep_two insertion.Nothing (kept a.first a.past insertion.OpenBracket) (kept b.first b.past insertion.CloseBracket))
+      (looked_up t.first t.past a.first a.past b.first b.past (omega (arith, o.begun)) o.left o.between o.right o.ended))
+
+  pub lookup_is_valid : {d : ℕ} {m : Bool} (t : Term) → IsTerm ts d m t t.first t.past → (l : PrimaryLayer) → out-Primary t.kind ≡ l
+      → AreValid (length pairs) (lookup_findings pairs t.first t.past l)
+  lookup_is_valid t w (Primary-F.Call c) h = valid.choose ((out-Call c).expand_final || not (is_lookup pairs (out-Call c).names)) valid.none (pair_is_valid t w c h (two_arguments (out-Call c).arguments) refl)
+  lookup_is_valid t w Primary-F.Number h = valid.none
+  lookup_is_valid t w Primary-F.Identifier h = valid.none
+  lookup_is_valid t w (Primary-F.Tuple es) h = valid.none
+  lookup_is_valid t w (Primary-F.Object es) h = valid.none
+  lookup_is_valid t w (Primary-F.ForTuple f) h = valid.none
+  lookup_is_valid t w (Primary-F.ForObject f) h = valid.none
+  lookup_is_valid t w (Primary-F.Quoted x) h = valid.none
+  lookup_is_valid t w (Primary-F.Heredoc x) h = valid.none
+  lookup_is_valid t w (Primary-F.Parens e) h = valid.none
+
+-- ---- where all tokens are quiet, nothing is found
+
+one_name : (pairs : List Pair) (n : ℕ) (ns : List ℕ) → is_lookup_token (spelling_of pairs n) ≡ false → is_lookup pairs (n ∷ ns) ≡ false
+one_name pairs n [] h = h
+one_name pairs n (x ∷ ns) h = refl
+
+module _ (pairs : List Pair) (quiet : AllQuiet (tokens_of pairs)) where
+  abbrev ts : List Token
+  ts = tokens_of pairs
+
+  name_quiet : (m : Bool) (i : ℕ) → NextIs ts m k.Identifier i → (ns : List ℕ) → is_lookup pairs (next_index ts m i ∷ ns) ≡ false
+  name_quiet m i p ns =
+      let w = not_lookup ts quiet m i p in
+      one_name pairs (next_index ts m i) ns (ap is_lookup_token (spelled pairs (next_index ts m i) w.token w.is) ∙ w.other)
+
+  pub lookup_nothing : {d : ℕ} {m : Bool} {t : Term} {i j : ℕ} (first past : ℕ) → IsTerm ts d m t i j → Nothing (lookup_findings pairs first past (out-Primary t.kind))
+  unfolding node.term node.call node.for_tuple node.for_object node.template
+  lookup_nothing first past (number p) = simp (open_number) empty.none
+  lookup_nothing first past (identifier p q r) = simp (open_identifier) empty.none
+  lookup_nothing first past (call {m} {names} {expand_final} {i} p ns q xs) = simp (open_call) (simp (call_names) (empty.unless_not _ _ _ (name_quiet m i p names) empty.none))
+  lookup_nothing first past (tuple p w xs) = simp (open_tuple) empty.none
+  lookup_nothing first past (object p w l es) = simp (open_object) empty.none
+  lookup_nothing first past (for_tuple p y c v f) = simp (open_for_tuple) empty.none
+  lookup_nothing first past (for_object p y c a w v s f) = simp (open_for_object) empty.none
+  lookup_nothing first past (quoted p xs q) = simp (open_quoted) empty.none
+  lookup_nothing first past (heredoc p xs q) = simp (open_heredoc) empty.none
+  lookup_nothing first past (parens p w q) = simp (open_parens) empty.none

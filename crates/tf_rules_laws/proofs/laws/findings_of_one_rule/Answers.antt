@@ -1,0 +1,5 @@
+use Rattle.tf_rules_laws.proofs.OneRule as one_rule
+use Rattle.tf_rules_laws.proofs.laws.findings_of_one_rule.Goals as goal
+
+pub returns : goal.returns
+returns c = one_rule.found_by_one
