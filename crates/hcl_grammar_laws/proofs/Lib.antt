@@ -15,8 +15,6 @@ pub mod Restart
 pub mod Opens
 pub mod RestartBodies
 pub mod Own
-pub mod DerivedNodes
-pub mod EachNode
 pub mod Climb
 pub mod Alike
 pub mod AlikeExpressions

@@ -1,40 +1,35 @@
--- Directives, templates and bodies from their first tokens on.
-use Rattle.std.proofs.Common.{◌≡◌, ℕ, Bool, false, List, sym, ap, ◌∙◌, subst}
-use Rattle.hcl_grammar.specs.declared.tree.Body.{Body}
+-- Directives from their first tokens on.
+use Rattle.std.proofs.Common.{◌≡◌, ℕ, Bool, List, sym, ap, ◌∙◌, subst}
 use Rattle.hcl_grammar.specs.declared.tree.Expr.{Expr}
 use Rattle.hcl_grammar.specs.declared.tree.ForDirective.{ForDirective}
 use Rattle.hcl_grammar.specs.declared.tree.IfDirective.{IfDirective, out-IfDirective}
 use Rattle.hcl_grammar.specs.declared.tree.Part.{Part, out-Part}
 use Rattle.hcl_grammar.specs.declared.tree.Part.TheVariants as part
-use Rattle.hcl_grammar.specs.declared.tree.Template.{Template}
-use Rattle.hcl_grammar.specs.Bodies.{IsMembers}
-use Rattle.hcl_grammar.specs.Grammar.{IsParts, IsPart, quote_text, here_text, interp, if_directive, for_directive}
+use Rattle.hcl_grammar.specs.Grammar.{IsPart, quote_text, here_text, interp, if_directive, for_directive}
 use Rattle.hcl_grammar.specs.Nodes as node
-use Rattle.hcl_grammar.specs.Tokens.{Token, first_token_in}
+use Rattle.hcl_grammar.specs.Tokens.{Token}
 use Rattle.hcl_grammar_laws.proofs.Opens.{open_literal, open_interp, open_if, open_for, if_directive_first, if_directive_past}
-use Rattle.hcl_grammar_laws.proofs.RestartBodies.{own_part, own_parts, own_members}
+use Rattle.hcl_grammar_laws.proofs.RestartBodies.{own_part}
 
--- ---- directives
-
-pub if_is : {x y : IfDirective} → part.If x ≡ part.If y → x ≡ y
+if_is : {x y : IfDirective} → part.If x ≡ part.If y → x ≡ y
 if_is {x} {y} e = let f = sym (open_if x) ∙ ap out-Part e ∙ open_if y in cc
 
-pub for_is : {x y : ForDirective} → part.For x ≡ part.For y → x ≡ y
+for_is : {x y : ForDirective} → part.For x ≡ part.For y → x ≡ y
 for_is {x} {y} e = let f = sym (open_for x) ∙ ap out-Part e ∙ open_for y in cc
 
-pub literal_if : (n : ℕ) (y : IfDirective) → part.Literal n ≡ part.If y → ⊥
+literal_if : (n : ℕ) (y : IfDirective) → part.Literal n ≡ part.If y → ⊥
 literal_if n y e = let f = sym (open_literal n) ∙ ap out-Part e ∙ open_if y in absurd (cc)
 
-pub literal_for : (n : ℕ) (y : ForDirective) → part.Literal n ≡ part.For y → ⊥
+literal_for : (n : ℕ) (y : ForDirective) → part.Literal n ≡ part.For y → ⊥
 literal_for n y e = let f = sym (open_literal n) ∙ ap out-Part e ∙ open_for y in absurd (cc)
 
-pub interp_if : (x : Expr) (y : IfDirective) → part.Interp x ≡ part.If y → ⊥
+interp_if : (x : Expr) (y : IfDirective) → part.Interp x ≡ part.If y → ⊥
 interp_if x y e = let f = sym (open_interp x) ∙ ap out-Part e ∙ open_if y in absurd (cc)
 
-pub interp_for : (x : Expr) (y : ForDirective) → part.Interp x ≡ part.For y → ⊥
+interp_for : (x : Expr) (y : ForDirective) → part.Interp x ≡ part.For y → ⊥
 interp_for x y e = let f = sym (open_interp x) ∙ ap out-Part e ∙ open_for y in absurd (cc)
 
-pub if_for : (x : IfDirective) (y : ForDirective) → part.If x ≡ part.For y → ⊥
+if_for : (x : IfDirective) (y : ForDirective) → part.If x ≡ part.For y → ⊥
 if_for x y e = let f = sym (open_if x) ∙ ap out-Part e ∙ open_for y in absurd (cc)
 
 module _ {ts : List Token} where
@@ -54,11 +49,3 @@ module _ {ts : List Token} where
   own_for (interp p y q) x e = absurd (interp_for _ x e)
   own_for (if_directive p w c q ps o) x e = absurd (if_for _ x e)
   own_for {d} {m} (for_directive p y q ps s) x e = subst (λ y. IsPart ts d m (part.For y) y.first y.past) (for_is e) (own_part (for_directive p y q ps s))
-
-  -- ---- templates and bodies
-
-  pub own_template : {d : ℕ} {m : Bool} {i j : ℕ} (x : Template) → IsParts ts d m x.parts i j → x.first ≡ first_token_in ts m i j → x.past ≡ j → IsParts ts d m x.parts x.first x.past
-  own_template {d} {m} {i} {j} x w e f = subst (λ l. IsParts ts d m x.parts x.first l) (sym f) (subst (λ n. IsParts ts d m x.parts n j) (sym e) (own_parts w))
-
-  pub own_body : {d i j : ℕ} (x : Body) → IsMembers ts d x.members i j → x.first ≡ first_token_in ts false i j → x.past ≡ j → IsMembers ts d x.members x.first x.past
-  own_body {d} {i} {j} x w e f = subst (λ l. IsMembers ts d x.members x.first l) (sym f) (subst (λ n. IsMembers ts d x.members n j) (sym e) (own_members w))

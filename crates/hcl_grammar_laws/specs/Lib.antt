@@ -1,6 +1,5 @@
 pub mod OneTree
 pub mod Nesting
-pub mod NodeSpans
 pub mod Comments
 pub mod Glue
 pub mod Members

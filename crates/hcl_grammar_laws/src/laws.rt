@@ -1,7 +1,6 @@
 //! What holds of the grammar. Each law is the contract of a function that does nothing.
 
 ghost use Rattle.hcl_grammar_laws.specs.Comments.{CommentTextIsIgnored};
-ghost use Rattle.hcl_grammar_laws.specs.NodeSpans.{NodesSpanTheirTokens};
 ghost use Rattle.hcl_grammar_laws.specs.Glue.{NoGlue};
 ghost use Rattle.hcl_grammar_laws.specs.Nesting.{NestingIsMonotone};
 ghost use Rattle.hcl_grammar_laws.specs.OneTree.{OneTree};
@@ -28,12 +27,6 @@ pub fn nesting_is_monotone()
 /// index, nor a number next to a name that begins with `e` or `E`.
 pub fn no_glue()
     ensures { NoGlue }
-{}
-
-/// Each node of the tree of a list of tokens is derived by those from its `first` up to
-/// its `past`, without those that are dropped.
-pub fn nodes_span_their_tokens()
-    ensures { NodesSpanTheirTokens }
 {}
 
 /// For a parser: an answer that is the pure parser's, memory aside, is the tree that is derived, or

@@ -19,7 +19,6 @@ use Rattle.hcl_token.specs.declared.kind.Kind.TheVariants as k
 use Rattle.tf_quiet.proofs.Nothing.{Nothing, none, choose, unless, append}
 use Rattle.tf_quiet.proofs.TokensThere.{has_kind_at, here, following, only}
 use Rattle.tf_quiet.specs.QuietHeads.{is_text_label, is_snake_label, is_quiet_after_word, is_quiet_head, QuietHeadsHaveNoFindings}
-use Rattle.tf_reuse.specs.OneMember.{IsOneMember}
 use Rattle.tf_reuse.specs.OneMember as alone
 use Rattle.tf_rules.specs.Attributes.{attributes, has_attribute}
 use Rattle.tf_rules.specs.RuleSets.{has_rule}

@@ -1,5 +1,5 @@
 -- Runs of quiet tokens, and walks through interpolations, token by token.
-use Rattle.std.proofs.Common.{◌≡◌, ◌≢◌, ℕ, zero, suc, ◌+◌, ◌<◌, ◌≤◌, Bool, true, false, List, [], ◌∷◌, length, drop, Some, ◌⊎◌, inl, inr, refl, ap, ◌∙◌, subst, arith}
+use Rattle.std.proofs.Common.{◌≡◌, ◌≢◌, ℕ, zero, suc, ◌+◌, ◌<◌, ◌≤◌, Bool, true, false, List, [], ◌∷◌, drop, Some, ◌⊎◌, inl, inr, refl, ap, ◌∙◌, subst, arith}
 use Rattle.hcl_token.specs.TokenizedText.{kind_of}
 use Rattle.hcl_token.specs.declared.kind.Kind.{Kind}
 use Rattle.hcl_token.specs.declared.kind.Kind.TheVariants as k
@@ -50,16 +50,7 @@ stops_over t more rest (inr (inl e)) = rw e refl
 stops_over t more rest (inr (inr (inl e))) = rw e refl
 stops_over t more rest (inr (inr (inr e))) = rw e refl
 
-pub no_run_continues : (pairs : List Pair) (n : ℕ) → length pairs ≤ n → continues_after (drop n pairs) ≡ false
-no_run_continues [] zero l = refl
-no_run_continues [] (suc n) l = refl
-no_run_continues (p ∷ ps) zero l = absurd (omega (arith, l))
-no_run_continues (p ∷ ps) (suc n) l = no_run_continues ps n (omega (arith, l))
-
 -- ---- runs
-
-pub fewer : (pairs : List Pair) (from n to : ℕ) → AreQuiet pairs from n → to ≤ n → AreQuiet pairs from to
-fewer pairs from n to a l = record { each = λ i m h. a.each i m (omega (arith, h, l)) }
 
 pub joined_runs : (pairs : List Pair) (from n to : ℕ) → AreQuiet pairs from n → AreQuiet pairs n to → AreQuiet pairs from to
 joined_runs pairs from n to a b = record { each = λ i l m. elim (below_or_not i n) [ inl h ↦ a.each i l h | inr h ↦ b.each i h m ] }

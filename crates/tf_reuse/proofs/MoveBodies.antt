@@ -20,7 +20,7 @@ use Rattle.tf_reuse.specs.OneMember.{IsOneMember}
 use Rattle.tf_reuse.specs.OneMember as alone
 use Rattle.tf_reuse.proofs.MoveExpressions.{move_expr}
 use Rattle.tf_reuse.proofs.MoveLines.{move_line}
-use Rattle.tf_reuse.proofs.RenumberedNodes.{MovedExpr, MovedLabels, MovedOnLine, MovedMember, MovedMembers}
+use Rattle.tf_reuse.proofs.RenumberedNodes.{MovedLabels, MovedOnLine, MovedMember, MovedMembers}
 use Rattle.tf_reuse.proofs.RenumberedNodes as moved
 use Rattle.tf_reuse.proofs.Window.{Here, Same, NextIsWithin, starts, starts_here, afters, nexts, some_next, next_within_end, next_within, earlier, firsts}
 

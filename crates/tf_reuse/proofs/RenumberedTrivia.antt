@@ -105,9 +105,6 @@ module _ (old new : List Pair) {from to count : ℕ} (w : SameTokens (tokens_of 
   pub moved_token : {i j : ℕ} → Same w i j → j ≡ renumber from to i
   moved_token {i} {j} h = omega (arith, h.in_old, h.in_new)
 
-  pub here_of : {i j : ℕ} → Same w i j → Here w i j
-  here_of {i} {j} h = record { before = h.before; within = omega (arith, h.within); in_old = h.in_old; in_new = h.in_new }
-
   pub here_after : {i j : ℕ} → Same w i j → Here w (i + 1) (j + 1)
   here_after {i} {j} h = record { before = h.before + 1; within = omega (arith, h.within); in_old = omega (arith, h.in_old); in_new = omega (arith, h.in_new) }
 

@@ -6,7 +6,7 @@ use Rattle.std.specs.Option.{option_map}
 use Rattle.hcl_scan.specs.Follows.{tokens_of}
 use Rattle.hcl_token.specs.Tokens.{Pair}
 use Rattle.tf_reuse.proofs.RenumberedTrivia.{moved_is, lt_moved, le_moved, is_le, token_of}
-use Rattle.tf_reuse.proofs.Window.{Here, Same}
+use Rattle.tf_reuse.proofs.Window.{Here}
 use Rattle.tf_reuse.specs.SameTokens.{SameTokens}
 use Rattle.tf_reuse.specs.Renumbering.{renumber, renumber_kept, renumber_fix, renumber_message, renumber_finding}
 use Rattle.tf_rules.specs.declared.finding.Finding.{Finding}

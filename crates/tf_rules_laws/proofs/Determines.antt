@@ -31,7 +31,7 @@ use Rattle.tf_rules.specs.declared.role.Role.{Role}
 use Rattle.tf_rules.specs.declared.role.Role.TheVariants.{Element, Argument, Elsewhere}
 use Rattle.hcl_grammar.specs.TreeLayers.{ExprKindLayer, PrimaryLayer, TailLayer, PartLayer, ContentLayer, MemberLayer}
 use Rattle.tf_rules.specs.Preorder as nodes
-use Rattle.tf_rules.specs.Preorder.{Node, expr, term, tail, part, member, children, nodes_of_tails, splat_after, expr_kind_children, elem_children, filter_children, for_tuple_children, for_object_children, primary_children, tail_children, else_children, if_children, part_children, option_children, content_children, member_children, IsPreorder}
+use Rattle.tf_rules.specs.Preorder.{Node, expr, term, tail, part, member, nodes_of_tails, splat_after, expr_kind_children, elem_children, filter_children, for_tuple_children, for_object_children, primary_children, tail_children, else_children, if_children, part_children, content_children, member_children, IsPreorder}
 use Rattle.tf_rules_laws.specs.Payload.{Payload, node_key, PreorderDeterminesTree, expr_kind_payload, intro_payload, primary_payload, tail_payload, else_payload, part_payload, attribute_payload, content_payload, member_payload, ChildrenAreComplete}
 
 -- ---- what opens to one layer is one

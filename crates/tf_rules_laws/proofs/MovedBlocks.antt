@@ -1,5 +1,5 @@
 -- What the rules on blocks look at in a block whose tokens are elsewhere too.
-use Rattle.std.proofs.Common.{◌≡◌, ◌∙◌, ℕ, Bool, true, false, not, List, [], ◌∷◌, Option, Some, None, refl, sym, ap, ap₂, codes, arith, ◌+◌, ◌<◌, ◌||◌, zero, suc, slice_get, unwrap_or}
+use Rattle.std.proofs.Common.{◌≡◌, ◌∙◌, ℕ, Bool, true, false, not, List, [], ◌∷◌, Option, Some, None, refl, sym, ap, ap₂, codes, arith, ◌<◌, ◌||◌, zero, suc, slice_get, unwrap_or}
 use Rattle.std.specs.List.{flat_map, list_any}
 use Rattle.std.specs.Option.{option_map}
 use Rattle.hcl_grammar.specs.Nodes as node

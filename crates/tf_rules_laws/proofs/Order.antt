@@ -24,7 +24,7 @@ use Rattle.hcl_grammar.specs.declared.tree.Tail.{Tail, out-Tail}
 use Rattle.hcl_grammar.specs.declared.tree.Template.{Template}
 use Rattle.hcl_grammar.specs.declared.tree.Term.{Term}
 use Rattle.hcl_grammar.specs.Bodies.{IsLabels, word_label, text_label, empty_label, IsOneLineBody, nothing, one as just, IsMembers, no_members, blank, attribute, block, line_block}
-use Rattle.hcl_grammar.specs.Grammar.{IsExpr, plain, conditional, IsLevel, lowest, level, IsOperations, no_operations, operation, IsUnary, with_operator, post, IsTails, no_tails, tails, IsTail, by_name, legacy, attribute_splat, full_splat, index, IsTerm, number, identifier, call, tuple, object, for_tuple, for_object, quoted, heredoc, parens, IsArguments, no_arguments, last_argument, spread_argument, argument, IsParts, no_parts, parts, IsPart, quote_text, here_text, interp, if_directive, for_directive}
+use Rattle.hcl_grammar.specs.Grammar.{IsExpr, plain, conditional, IsLevel, lowest, level, IsOperations, no_operations, operation, IsUnary, with_operator, post, no_tails, tails, IsTail, by_name, legacy, attribute_splat, full_splat, index, IsTerm, number, identifier, call, tuple, object, for_tuple, for_object, quoted, heredoc, parens, IsArguments, no_arguments, last_argument, spread_argument, argument, IsParts, no_parts, parts, IsPart, quote_text, here_text, interp, if_directive, for_directive}
 use Rattle.hcl_grammar.specs.Lookahead.{NextIs}
 use Rattle.hcl_grammar.specs.Nodes as node
 use Rattle.hcl_grammar.specs.Tokens.{Token, next_index, next_token, next_kind, after_next, first_token_in}
@@ -35,7 +35,6 @@ use Rattle.hcl_grammar_laws.proofs.RestartBodies.{some_is, attribute_is, block_i
 use Rattle.hcl_grammar_laws.proofs.Spans.{Takes, step, loose, both, ahead, span_expr, span_level, span_links, span_unary, span_tails, span_term, span_names, span_labels}
 use Rattle.tf_rules.specs.Rules.Interpolation.{sole_part, sole_interpolation, part_interpolation}
 use Rattle.tf_rules.specs.Arguments.{two_arguments}
-use Rattle.tf_rules_laws.proofs.Grammar.{Each}
 
 begins : (ts : List Token) (m : Bool) (i : ℕ) → i ≤ next_index ts m i
 unfolding next_index
@@ -181,7 +180,7 @@ module _ {ts : List Token} where
 
   -- ---- tails
 
-  tail_legacy : {d : ℕ} {m : Bool} {x : Tail} {i j : ℕ} → IsTail ts d m x i j → IsLegacyToken ts x
+  pub tail_legacy : {d : ℕ} {m : Bool} {x : Tail} {i j : ℕ} → IsTail ts d m x i j → IsLegacyToken ts x
   tail_legacy (by_name {m} {i} p q) n h = let f = open_name (next_index ts m (after_next ts m i)) in absurd (cc)
   tail_legacy (legacy {m} {i} p) n h =
       let f = open_legacy (next_index ts m i) in
@@ -190,30 +189,6 @@ module _ {ts : List Token} where
   tail_legacy (attribute_splat p q) n h = let f = open_attribute_splat in absurd (cc)
   tail_legacy (full_splat p q c) n h = let f = open_full_splat in absurd (cc)
   tail_legacy (index {e} p x q) n h = let f = open_index e in absurd (cc)
-
-  tails_legacy : {d : ℕ} {m : Bool} {xs : List Tail} {i j : ℕ} → IsTails ts d m xs i j → Each (IsLegacyToken ts) xs
-  tails_legacy no_tails = tt
-  tails_legacy (tails x xs) = (tail_legacy x, tails_legacy xs)
-
-  tails_unary : {d : ℕ} {m : Bool} {e : Expr} {i j : ℕ} → IsUnary ts d m e i j → (t : Term) (xs : List Tail) → out-ExprKind e.kind ≡ ExprKind-F.Postfix t xs → Each (IsLegacyToken ts) xs
-  unfolding node.expr
-  tails_unary (with_operator {op} {e = x} p o w) t xs h = let f = open_prefixed op x in absurd (cc)
-  tails_unary (post {head = u} p no_tails) t xs h = let f = open_plain u in absurd (cc)
-  tails_unary (post {head = u} p (tails {x} {xs = ys} w ws)) t xs h =
-      let f = open_tailed u (x ∷ ys) in
-      let same : (x ∷ ys) ≡ xs = cc in
-      subst (Each (IsLegacyToken ts)) same (tails_legacy (tails w ws))
-
-  tails_level : {d : ℕ} {m : Bool} {n : ℕ} {e : Expr} {i j : ℕ} → IsLevel ts d m n e i j → (t : Term) (xs : List Tail) → out-ExprKind e.kind ≡ ExprKind-F.Postfix t xs → Each (IsLegacyToken ts) xs
-  unfolding node.expr
-  tails_level (lowest p) t xs h = tails_unary p t xs h
-  tails_level (level p no_operations) t xs h = tails_level p t xs h
-  tails_level (level {head = x} p (operation {op} {x = y} {links} q o w ws)) t xs h = let f = open_chain x (node.operation op y ∷ links) in absurd (cc)
-
-  pub tails_in : {d : ℕ} {m : Bool} {e : Expr} {i j : ℕ} → IsExpr ts d m e i j → (t : Term) (xs : List Tail) → out-ExprKind e.kind ≡ ExprKind-F.Postfix t xs → Each (IsLegacyToken ts) xs
-  unfolding node.expr
-  tails_in (plain p) t xs h = tails_level p t xs h
-  tails_in (conditional {c} {then_branch} {else_branch} p q x s y) t xs h = let f = open_conditional c then_branch else_branch in absurd (cc)
 
   -- ---- a quoted text that is one interpolation
 

@@ -6,7 +6,6 @@ use Rattle.std.specs.Option.{option_map}
 use Rattle.hcl_grammar.specs.Bodies.{no_members, IsFile, file, no_mark, at_end}
 use Rattle.hcl_grammar.specs.Nodes as node
 use Rattle.hcl_grammar.specs.Tokens.{Token, is_skipped, next_index, next_token, next_kind, first_token_in}
-use Rattle.hcl_grammar_laws.specs.NodeSpans.{NodesSpanTheirTokens}
 use Rattle.hcl_grammar_laws.proofs.Spans.{span_members}
 use Rattle.hcl_scan.specs.Follows.{tokens_of}
 use Rattle.hcl_token.specs.TokenizedText.{kind_of, spelling_of}
@@ -15,7 +14,8 @@ use Rattle.hcl_token.specs.declared.kind.Kind.{Kind}
 use Rattle.hcl_token.specs.declared.kind.Kind.TheVariants as k
 use Rattle.tf_quiet.proofs.LineEnds.{ends_line_by}
 use Rattle.tf_quiet.proofs.QuietTokens.{spelled}
-use Rattle.tf_rules_laws.proofs.QuietNodes.{body_nothing}
+use Rattle.tf_rules_laws.proofs.QuietNodes.{nodes_nothing}
+use Rattle.tf_rules_laws.proofs.TreeNodes.{each_derived}
 use Rattle.tf_quiet.proofs.QuietRuns.{kind_same, continues_at}
 use Rattle.tf_quiet.proofs.QuietTokens.{AllQuiet}
 use Rattle.tf_rules_laws.specs.QuietMembers.{QuietMembersHaveNoFindings}
@@ -26,6 +26,7 @@ use Rattle.tf_reuse.proofs.Window.{Here, one_place, each_same}
 use Rattle.tf_reuse.specs.SameTokens.{SameTokens}
 use Rattle.tf_reuse.specs.Renumbering.{renumber_finding}
 use Rattle.tf_rules.specs.Findings.{valid_findings}
+use Rattle.tf_rules.specs.Preorder.{PreorderIsUnique}
 use Rattle.tf_rules.specs.Rules.{node_findings}
 use Rattle.tf_rules.specs.declared.finding.Finding.{Finding}
 
@@ -133,9 +134,9 @@ module _ (pairs : List Pair) (from count : ℕ) (w : SameTokens (tokens_of pairs
         };
   }
 
-pub quiet_members : NodesSpanTheirTokens → QuietMembersHaveNoFindings
+pub quiet_members : PreorderIsUnique → QuietMembersHaveNoFindings
 unfolding node.tree node.body
-quiet_members each_node rules pairs depth from to x is line fits quiet =
+quiet_members unique rules pairs depth from to x is line fits quiet =
     let ts = tokens_of pairs in
     let end_token = token_at pairs (to - 1) k.LineEnd line in
     let inner = inside ts (to - 1) end_token.token end_token.is in
@@ -152,6 +153,6 @@ quiet_members each_node rules pairs depth from to x is line fits quiet =
     let s = found_member rules pairs sub w m in
     let body = node.body (first_token_in (tokens_of sub) false 0 j) j (y ∷ []) in
     let is_file : IsFile (tokens_of sub) depth (node.tree (length (tokens_of sub)) body) = file no_mark (member_first d' no_members) (at_end (none_at_end (tokens_of sub) j (omega (arith, place, long)))) in
-    let nothing = body_nothing rules sub (all_quiet pairs from count w long (subst (AreQuiet pairs from) (sym whole) quiet)) body (each_node (tokens_of sub) depth (node.tree (length (tokens_of sub)) body) is_file) s.nodes' s.is_preorder' in
+    let nothing = nodes_nothing rules sub (all_quiet pairs from count w long (subst (AreQuiet pairs from) (sym whole) quiet)) s.nodes' (each_derived unique is_file s.is_preorder') in
     let moved = sym (ap (valid_findings (length sub)) nothing.is) ∙ s.found.is in
     record { nodes = s.nodes; preorder = s.preorder; are = sym (nothing_moved (renumber_finding from 0) (valid_findings (length pairs) (flat_map (node_findings rules pairs) s.nodes)) moved) }

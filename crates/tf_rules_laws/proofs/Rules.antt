@@ -7,6 +7,7 @@ pub mod Interpolation
 pub mod Lookup
 pub mod Missing
 pub mod Naming
+use Rattle.std.specs.List.{AllByRecursion}
 use Rattle.std.proofs.Common.{◌≡◌, ℕ, Bool, true, List, refl, length, arith, slice_get}
 use Rattle.hcl_grammar.specs.Nodes as node
 use Rattle.hcl_grammar.specs.Tokens.{Token}
@@ -14,13 +15,10 @@ use Rattle.hcl_grammar.specs.TreeLayers.{MemberLayer}
 use Rattle.hcl_grammar.specs.declared.tree.Block.{Block}
 use Rattle.hcl_grammar.specs.declared.tree.Content.TheOpen.{Member-F}
 use Rattle.hcl_grammar.specs.declared.tree.Expr.{Expr}
-use Rattle.hcl_grammar.specs.declared.tree.ExprKind.TheOpen.{ExprKind-F}
 use Rattle.hcl_grammar.specs.declared.tree.ExprKind.{out-ExprKind}
 use Rattle.hcl_grammar.specs.declared.tree.Primary.{out-Primary}
 use Rattle.hcl_grammar.specs.declared.tree.Tail.{out-Tail, Tail}
 use Rattle.hcl_grammar.specs.declared.tree.Term.{Term}
-use Rattle.hcl_grammar_laws.specs.NodeSpans as g
-use Rattle.hcl_grammar_laws.specs.NodeSpans.{Derives}
 use Rattle.hcl_scan.specs.Follows.{tokens_of}
 use Rattle.hcl_token.specs.Tokens.{Pair}
 use Rattle.tf_quiet.proofs.Nothing as empty
@@ -33,7 +31,7 @@ use Rattle.tf_reuse.proofs.Renumbering as moves
 use Rattle.tf_reuse.proofs.Renumbering.{Moves}
 use Rattle.tf_reuse.proofs.Window.{Here, Same}
 use Rattle.tf_reuse.specs.SameTokens.{SameTokens}
-use Rattle.tf_rules.specs.Preorder.{Node, expr, term, tail, part, member}
+use Rattle.tf_rules.specs.Preorder.{Node, expr, term, tail, part, member, member_children}
 use Rattle.tf_rules.specs.RuleSets.{has_rule}
 use Rattle.tf_rules.specs.Rules.CommentSyntax.{comment_findings}
 use Rattle.tf_rules.specs.Rules.Interpolation.{sole_interpolation}
@@ -43,9 +41,7 @@ use Rattle.tf_rules.specs.declared.role.Role.{Role}
 use Rattle.tf_rules.specs.declared.rule.Rule.TheVariants.{DeprecatedIndex, DeprecatedInterpolation, EmptyListEquality, DeprecatedLookup, NamingConvention}
 use Rattle.tf_rules.specs.declared.rule.Rule.{Rule}
 use Rattle.tf_rules.specs.declared.rule_set.RuleSet.{RuleSet}
-use Rattle.tf_rules_laws.proofs.Grammar.{Each}
 use Rattle.tf_rules_laws.proofs.MovedBlocks.{label_at, SameBlock}
-use Rattle.tf_rules_laws.proofs.Order.{IsLegacyToken, tails_in}
 use Rattle.tf_rules_laws.proofs.Picks.{Picks, nothing, both, chosen}
 use Rattle.tf_rules_laws.proofs.Rules.CommentSyntax as comment_syntax
 use Rattle.tf_rules_laws.proofs.Rules.Equality as equality
@@ -56,6 +52,7 @@ use Rattle.tf_rules_laws.proofs.Rules.Missing as missing_rule
 use Rattle.tf_rules_laws.proofs.Rules.Naming as naming
 use Rattle.tf_rules_laws.proofs.Valid as valid
 use Rattle.tf_rules_laws.proofs.Valid.{AreValid}
+use Rattle.tf_rules_laws.specs.NodeSpans.{DerivesMember, Derives}
 
 -- ---- what is found is of the rule
 
@@ -108,51 +105,36 @@ module _ (old new : List Pair) {from to count : ℕ} (w : SameTokens (tokens_of 
 
 -- ---- over a text that parses, the numbers are in order
 
--- what is known of each tail
-abbrev pub IsTailOfTokens : List Token → Tail → Type 0
-IsTailOfTokens ts x = IsLegacyToken ts x
-
-pub tails_of_tokens : {ts : List Token} (e : Expr) → Derives ts (g.expr e) → (t : Term) (xs : List Tail) → out-ExprKind e.kind ≡ ExprKind-F.Postfix t xs → Each (IsTailOfTokens ts) xs
-tails_of_tokens e (g.is_expr w) t xs h = tails_in w t xs h
-
 module _ (rules : RuleSet) (pairs : List Pair) (ts : List Token) (count : length ts ≡ length pairs) where
-  pub expr_is_valid : (role : Role) (e : Expr) → Derives ts (g.expr e) → AreValid (length pairs) (node_findings rules pairs (expr role e))
-  expr_is_valid role e (g.is_expr w) = valid.choose (has_rule rules EmptyListEquality) (equality.equality_is_valid pairs ts count e w (out-ExprKind e.kind) refl) valid.none
+  pub expr_is_valid : (role : Role) (e : Expr) → Derives ts (expr role e) → AreValid (length pairs) (node_findings rules pairs (expr role e))
+  expr_is_valid role e s = valid.choose (has_rule rules EmptyListEquality) (equality.equality_is_valid pairs ts count e s.2 (out-ExprKind e.kind) refl) valid.none
 
-  pub term_is_valid : (role : Role) (t : Term) → Derives ts (g.term t) → AreValid (length pairs) (node_findings rules pairs (term role t))
-  term_is_valid role t (g.is_term w) =
-      valid.append (valid.choose (has_rule rules DeprecatedInterpolation) (interpolation.interpolation_is_valid pairs ts count role t w (sole_interpolation (out-Primary t.kind)) refl) valid.none)
-      (valid.choose (has_rule rules DeprecatedLookup) (lookup.lookup_is_valid pairs ts count t w (out-Primary t.kind) refl) valid.none)
+  pub term_is_valid : (role : Role) (t : Term) → Derives ts (term role t) → AreValid (length pairs) (node_findings rules pairs (term role t))
+  term_is_valid role t s =
+      valid.append (valid.choose (has_rule rules DeprecatedInterpolation) (interpolation.interpolation_is_valid pairs ts count role t s.0.2 (sole_interpolation (out-Primary t.kind)) refl) valid.none)
+      (valid.choose (has_rule rules DeprecatedLookup) (lookup.lookup_is_valid pairs ts count t s.0.2 (out-Primary t.kind) refl) valid.none)
 
-  pub tail_is_valid : (splat : Bool) (x : Tail) → IsTailOfTokens ts x → AreValid (length pairs) (node_findings rules pairs (tail splat x))
-  tail_is_valid splat x w = valid.choose (has_rule rules DeprecatedIndex) (index.index_is_valid pairs ts count splat x w (out-Tail x) refl) valid.none
+  pub tail_is_valid : (splat : Bool) (x : Tail) → Derives ts (tail splat x) → AreValid (length pairs) (node_findings rules pairs (tail splat x))
+  tail_is_valid splat x s = valid.choose (has_rule rules DeprecatedIndex) (index.index_is_valid pairs ts count splat s.4 (out-Tail x) refl) valid.none
 
-  pub block_is_valid : (root : g.Node) (each : (n : g.Node) → g.IsWithin n root → Derives ts n) (b : Block) → g.IsWithin (g.block b) root
+  pub block_is_valid : (b : Block) → DerivesMember ts (Member-F.Block b) → AllByRecursion (Derives ts) (member_children (Member-F.Block b))
       → AreValid (length pairs) (top_level_layer_findings rules pairs (Member-F.Block b))
-  block_is_valid root each b s =
-      valid.append (valid.choose (has_rule rules NamingConvention) (naming.naming_is_valid pairs ts count root each b s) valid.none)
-      (missing_rule.missing_is_valid rules pairs ts count b (each (g.block b) s))
+  block_is_valid b s inside =
+      valid.append (valid.choose (has_rule rules NamingConvention) (naming.naming_is_valid pairs ts count b s inside) valid.none) (missing_rule.missing_is_valid rules pairs ts count b s)
 
   pub comments_are_valid : AreValid (length pairs) (comment_findings rules pairs)
   comments_are_valid = valid.choose _ (comment_syntax.comments_are_valid pairs 0 pairs (omega arith)) valid.none
 
 -- ---- where all tokens are quiet, nothing is found at a node
 
--- what is known of each tail
-abbrev pub IsQuietTail : Tail → Type 0
-IsQuietTail x = index.IsNoIndex x
-
-pub quiet_tails : {ts : List Token} → AllQuiet ts → (e : Expr) → Derives ts (g.expr e) → (t : Term) (xs : List Tail) → out-ExprKind e.kind ≡ ExprKind-F.Postfix t xs → Each IsQuietTail xs
-quiet_tails quiet e (g.is_expr w) t xs h = index.tails_expr quiet w t xs h
-
 module _ (rules : RuleSet) (pairs : List Pair) (quiet : AllQuiet (tokens_of pairs)) where
-  pub expr_nothing : (role : Role) (e : Expr) → Derives (tokens_of pairs) (g.expr e) → Nothing (node_findings rules pairs (expr role e))
-  expr_nothing role e (g.is_expr w) = empty.choose (has_rule rules EmptyListEquality) (equality.equality_nothing quiet pairs e w (out-ExprKind e.kind) refl) empty.none
+  pub expr_nothing : (role : Role) (e : Expr) → Derives (tokens_of pairs) (expr role e) → Nothing (node_findings rules pairs (expr role e))
+  expr_nothing role e s = empty.choose (has_rule rules EmptyListEquality) (equality.equality_nothing quiet pairs e s.2 (out-ExprKind e.kind) refl) empty.none
 
-  pub term_nothing : (role : Role) (t : Term) → Derives (tokens_of pairs) (g.term t) → Nothing (node_findings rules pairs (term role t))
-  term_nothing role t (g.is_term w) =
-      empty.append (empty.choose (has_rule rules DeprecatedInterpolation) (interpolation.interpolation_nothing pairs role t.first t.past (sole_interpolation (out-Primary t.kind)) (interpolation.quoted_quiet quiet w)) empty.none)
-      (empty.choose (has_rule rules DeprecatedLookup) (lookup.lookup_nothing pairs quiet t.first t.past w) empty.none)
+  pub term_nothing : (role : Role) (t : Term) → Derives (tokens_of pairs) (term role t) → Nothing (node_findings rules pairs (term role t))
+  term_nothing role t s =
+      empty.append (empty.choose (has_rule rules DeprecatedInterpolation) (interpolation.interpolation_nothing pairs role t.first t.past (sole_interpolation (out-Primary t.kind)) (interpolation.quoted_quiet quiet s.0.2)) empty.none)
+      (empty.choose (has_rule rules DeprecatedLookup) (lookup.lookup_nothing pairs quiet t.first t.past s.0.2) empty.none)
 
-  pub tail_nothing : (splat : Bool) (x : Tail) → IsQuietTail x → Nothing (node_findings rules pairs (tail splat x))
-  tail_nothing splat x w = empty.choose (has_rule rules DeprecatedIndex) (index.index_nothing pairs splat x w (out-Tail x) refl) empty.none
+  pub tail_nothing : (splat : Bool) (x : Tail) → Derives (tokens_of pairs) (tail splat x) → Nothing (node_findings rules pairs (tail splat x))
+  tail_nothing splat x s = empty.choose (has_rule rules DeprecatedIndex) (index.index_nothing quiet pairs splat s.4 (out-Tail x) refl) empty.none

@@ -1,6 +1,6 @@
 -- Findings of which the test drops none.
 use Rattle.std.proofs.Common.{◌≡◌, ◌∙◌, ℕ, ◌&&◌, Bool, true, false, List, [], ◌∷◌, ◌++◌, Option, refl, ap, arith, ◌<◌, nat_lt, nat_le, ◌≤◌, if◌then◌else◌}
-use Rattle.std.specs.List.{flat_map}
+use Rattle.std.specs.List.{flat_map, AllByRecursion}
 use Rattle.std.proofs.lemmas.List.Elements.{filter-append}
 use Rattle.tf_rules.specs.Findings.{is_valid, valid_findings, finding_at, is_fix_valid}
 use Rattle.tf_rules.specs.Fixes.{when, is_in_order}
@@ -8,7 +8,6 @@ use Rattle.tf_rules.specs.declared.finding.Finding.{Finding}
 use Rattle.tf_rules.specs.declared.finding.Message.{Message}
 use Rattle.tf_rules.specs.declared.fix.Fix.{Fix}
 use Rattle.tf_rules.specs.declared.rule.Rule.{Rule}
-use Rattle.tf_rules_laws.proofs.Grammar.{Each}
 use Rattle.tf_rules_laws.proofs.MovedBlocks.{message}
 
 -- ---- the test
@@ -51,10 +50,6 @@ choose false h k = k
 pub append : {count : ℕ} {xs ys : List Finding} → AreValid count xs → AreValid count ys → AreValid count (xs ++ ys)
 append {count} {xs} {ys} h k = record { is = filter-append (is_valid count) xs ys ∙ (ap (λ l. l ++ valid_findings count ys) h.is ∙ ap (λ l. xs ++ l) k.is) }
 
-pub mapped : {X : Type 0} {count : ℕ} (f : X → List Finding) (xs : List X) → Each (λ x. AreValid count (f x)) xs → AreValid count (flat_map f xs)
+pub mapped : {X : Type 0} {count : ℕ} (f : X → List Finding) (xs : List X) → AllByRecursion (λ x. AreValid count (f x)) xs → AreValid count (flat_map f xs)
 mapped f [] a = none
 mapped f (x ∷ xs) a = append a.0 (mapped f xs a.1)
-
-pub each_implies : {X : Type 0} (P Q : X → Type 0) → ((x : X) → P x → Q x) → (xs : List X) → Each P xs → Each Q xs
-each_implies P Q t [] a = tt
-each_implies P Q t (x ∷ xs) a = (t x a.0, each_implies P Q t xs a.1)

@@ -1,6 +1,6 @@
 //! What holds of what the rules find. Each law is the contract of a function that does nothing.
 
-ghost use Rattle.tf_rules_laws.specs.NodeLists.{EveryNodeIsVisited, EveryVisitedNodeIsInGrammar};
+ghost use Rattle.tf_rules_laws.specs.NodeSpans.{NodesSpanTheirTokens};
 ghost use Rattle.tf_rules_laws.specs.Payload.{ChildrenAreComplete, PreorderDeterminesTree};
 ghost use Rattle.tf_rules_laws.specs.NothingDropped.{NoFindingIsDropped};
 ghost use Rattle.tf_rules_laws.specs.LegacyIndices.{LegacyIndicesAreAll, LegacyIndicesAreTokens};
@@ -20,17 +20,12 @@ pub fn preorder_determines_tree()
     ensures { PreorderDeterminesTree }
 {}
 
-/// Each expression, term, directive, attribute and block in the grammar's list of a body is in the
-/// rules' list: the rules visit it. Of the attribute of a block on one line they visit only the
-/// value.
-pub fn every_node_is_visited()
-    ensures { EveryNodeIsVisited }
-{}
-
-/// Each expression, term, directive, attribute and block of a body that the rules visit is in the
-/// grammar's list. Tails, literals and interpolations have no node there.
-pub fn every_visited_node_is_in_grammar()
-    ensures { EveryVisitedNodeIsInGrammar }
+/// The tree of a list of tokens has a list of all its nodes, and each is derived by the tokens from
+/// its `first` up to its `past`; so are the bodies, labels and templates, what begins a `for` and
+/// the attribute of a block on one line, which are no nodes. A tail, a literal and an interpolation
+/// have no such numbers: some of the tokens derive each.
+pub fn nodes_span_their_tokens()
+    ensures { NodesSpanTheirTokens }
 {}
 
 /// The expressions and terms in a node have the roles that they have in the syntax tree, and no
@@ -45,7 +40,7 @@ pub fn roles_are_right()
 pub fn legacy_indices_are_tokens()
     ensures { LegacyIndicesAreTokens }
 {
-    hcl_grammar_laws::laws::nodes_span_their_tokens();
+    tf_findings::laws::preorder_is_unique();
 }
 
 /// In a text that parses, the legacy indices among its tokens are those that the rules visit, each
@@ -61,7 +56,7 @@ pub fn legacy_indices_are_all()
 pub fn no_finding_is_dropped()
     ensures { NoFindingIsDropped }
 {
-    hcl_grammar_laws::laws::nodes_span_their_tokens();
+    tf_findings::laws::preorder_is_unique();
 }
 
 /// What one rule of a set finds is what is of that rule in what the set finds.
@@ -86,5 +81,5 @@ pub fn unchanged_members_keep_findings()
 pub fn quiet_members_have_no_findings()
     ensures { QuietMembersHaveNoFindings }
 {
-    hcl_grammar_laws::laws::nodes_span_their_tokens();
+    tf_findings::laws::preorder_is_unique();
 }

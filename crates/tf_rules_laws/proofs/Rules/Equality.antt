@@ -1,4 +1,5 @@
 -- Comparisons with an empty list.
+use Rattle.std.specs.List.{AllByRecursion}
 use Rattle.std.proofs.Common.{◌≡◌, ◌∙◌, ℕ, ◌==◌, ◌&&◌, Bool, true, false, not, List, [], ◌∷◌, Option, Some, None, refl, sym, ap, subst, length, arith, ◌+◌, ◌-◌, ◌<◌, nat_lt, nat_le, ◌≤◌, if◌then◌else◌}
 use Rattle.hcl_grammar.specs.Grammar.{IsExpr, IsTerm, plain, conditional, IsLevel, lowest, level, IsOperations, no_operations, operation, IsUnary, with_operator, post, no_tails, tails, number, identifier, call, tuple, object, for_tuple, for_object, quoted, heredoc, parens, no_items, last_item, item}
 use Rattle.hcl_grammar.specs.Lookahead.{NextIs}
@@ -39,7 +40,6 @@ use Rattle.tf_rules.specs.declared.fix.Insertion.TheVariants as insertion
 use Rattle.tf_rules.specs.declared.rule.Rule.TheVariants.{EmptyListEquality}
 use Rattle.tf_rules_laws.proofs.OfRule as found
 use Rattle.tf_rules_laws.proofs.OfRule.{From}
-use Rattle.tf_rules_laws.proofs.Grammar.{Each}
 use Rattle.tf_rules_laws.proofs.Order.{Rising, expr_sits, chain_in}
 use Rattle.tf_rules_laws.proofs.Valid as valid
 use Rattle.tf_rules_laws.proofs.Valid.{AreValid}
@@ -197,7 +197,7 @@ IsNoEmptyBefore head [] = Unit {0}
 IsNoEmptyBefore head (l ∷ ls) = is_equality l.operator ≡ true → is_empty_list head ≡ false
 
 record QuietChain (head : Expr) (ls : List Operation) : Type 0 where
-  links : Each IsNoEmpty ls
+  links : AllByRecursion IsNoEmpty ls
   first : IsNoEmptyBefore head ls
 
 link_nothing : (equality on_right on_left : Bool) (xs ys : List Finding) → (equality ≡ true → on_right ≡ false) → (equality ≡ true → on_left ≡ false)
@@ -211,7 +211,7 @@ is_false : (b : Bool) → (b ≡ true → ⊥) → b ≡ false
 is_false true h = absurd (h refl)
 is_false false h = refl
 
-rest_nothing : (pairs : List Pair) (first : ℕ) (left : Expr) (ls : List Operation) → Each IsNoEmpty ls → Nothing (chain_findings pairs first false left ls)
+rest_nothing : (pairs : List Pair) (first : ℕ) (left : Expr) (ls : List Operation) → AllByRecursion IsNoEmpty ls → Nothing (chain_findings pairs first false left ls)
 rest_nothing pairs first left [] a = empty.none
 rest_nothing pairs first left (l ∷ ls) a = empty.append (link_nothing (is_equality l.operator) (is_empty_list l.operand) false _ [] a.0 (λ h. refl)) (rest_nothing pairs first l.operand ls a.1)
 
@@ -271,7 +271,7 @@ module _ {ts : List Token} (quiet : AllQuiet ts) where
   empty_level (level p no_operations) h = empty_level p h
   empty_level (level p (operation q o w ws)) h = let f : false ≡ true = simp (open_chain) at h in absurd (cc)
 
-  links_quiet : {d : ℕ} {m : Bool} {n : ℕ} {ls : List Operation} {i j : ℕ} → IsOperations ts d m n ls i j → Each IsNoEmpty ls
+  links_quiet : {d : ℕ} {m : Bool} {n : ℕ} {ls : List Operation} {i j : ℕ} → IsOperations ts d m n ls i j → AllByRecursion IsNoEmpty ls
   unfolding node.operation
   links_quiet no_operations = tt
   links_quiet (operation {m} {n} {t} {op} {x} {i} p o w ws) =

@@ -3,16 +3,15 @@ use Rattle.std.proofs.Common.{◌≡◌, ℕ, ◌&&◌, true, false, not, List, 
 use Rattle.std.specs.Str.{bytes_eq}
 use Rattle.hcl_grammar.specs.Tokens.{Token}
 use Rattle.hcl_grammar.specs.declared.tree.Block.{Block}
+use Rattle.hcl_grammar.specs.declared.tree.Content.TheOpen.{Member-F}
 use Rattle.hcl_grammar.specs.declared.tree.Label.{Label}
-use Rattle.hcl_grammar_laws.specs.NodeSpans as g
-use Rattle.hcl_grammar_laws.specs.NodeSpans.{Derives}
 use Rattle.hcl_scan.specs.Follows.{tokens_of}
 use Rattle.hcl_token.specs.Tokens.{Pair}
 use Rattle.tf_reuse.proofs.RenumberedNodes.{MovedNumber}
-use Rattle.tf_reuse.proofs.RenumberedTrivia.{here_of, here_after}
+use Rattle.tf_reuse.proofs.RenumberedTrivia.{here_after}
 use Rattle.tf_reuse.proofs.Renumbering as moves
 use Rattle.tf_reuse.proofs.Renumbering.{Moves}
-use Rattle.tf_reuse.proofs.Window.{Here, Same}
+use Rattle.tf_reuse.proofs.Window.{Here, Same, same_here}
 use Rattle.tf_reuse.specs.SameTokens.{SameTokens}
 use Rattle.tf_rules.specs.Attributes.{attributes, has_attribute}
 use Rattle.tf_rules.specs.RuleSets.{has_rule}
@@ -32,6 +31,7 @@ use Rattle.tf_rules_laws.proofs.Picks as picks
 use Rattle.tf_rules_laws.proofs.Picks.{Picks}
 use Rattle.tf_rules_laws.proofs.Valid as valid
 use Rattle.tf_rules_laws.proofs.Valid.{AreValid}
+use Rattle.tf_rules_laws.specs.NodeSpans.{DerivesMember}
 
 -- ---- what is found is of the rule
 
@@ -59,7 +59,7 @@ module _ (rules : RuleSet) (rule : Rule) (has : has_rule rules rule ≡ true) wh
 module _ (old new : List Pair) {from to count : ℕ} (w : SameTokens (tokens_of old) (tokens_of new) from to count) where
   missing_moves : (rule : Rule) (b b' : Block) → SameBlock old new w b b' → {o o' : Option ℕ} → MovedNumber (Here w) (Same w) o o'
       → Moves old new from to (missing_finding rule b o) (missing_finding rule b' o')
-  missing_moves rule b b' s n = moves.finding_moves old new w rule (here_of old new w s.name) (here_after old new w s.name) (ap (λ (m : Option ℕ). message None m) (number_moves old new w n)) moves.no_fix
+  missing_moves rule b b' s n = moves.finding_moves old new w rule (same_here w s.name) (here_after old new w s.name) (ap (λ (m : Option ℕ). message None m) (number_moves old new w n)) moves.no_fix
 
   untyped_moves : (rules : RuleSet) (b b' : Block) → SameBlock old new w b b' → (l l' : Label) → MovedNumber (Here w) (Same w) l.name l'.name
       → Moves old new from to (untyped_findings rules old b l) (untyped_findings rules new b' l')
@@ -87,8 +87,8 @@ module _ (old new : List Pair) {from to count : ℕ} (w : SameTokens (tokens_of 
 -- ---- over a text that parses, the numbers are in order
 
 module _ (rules : RuleSet) (pairs : List Pair) (ts : List Token) (count : length ts ≡ length pairs) where
-  block_type_within : (b : Block) → Derives ts (g.block b) → b.block_type < length pairs
-  block_type_within b (g.is_block w) = let n = word_within w b refl in omega (arith, n, count)
+  block_type_within : (b : Block) → DerivesMember ts (Member-F.Block b) → b.block_type < length pairs
+  block_type_within b s = let n = word_within s.0.1 b refl in omega (arith, n, count)
 
   finding_is_valid : (rule : Rule) (b : Block) (name : Option ℕ) → b.block_type < length pairs → AreValid (length pairs) (missing_finding rule b name)
   finding_is_valid rule b name h = valid.keep (length pairs) rule b.block_type (b.block_type + 1) (record { kind = None; name = name }) None (omega arith) (omega (arith, h)) refl
@@ -105,5 +105,5 @@ module _ (rules : RuleSet) (pairs : List Pair) (ts : List Token) (count : length
       (finding_is_valid TypedVariables b l.name h) valid.none)
       (valid.append (undocumented_is_valid DocumentedVariables (codes "variable") b l h) (undocumented_is_valid DocumentedOutputs (codes "output") b l h))
 
-  pub missing_is_valid : (b : Block) → Derives ts (g.block b) → AreValid (length pairs) (missing_findings rules pairs b (slice_get b.labels 0))
+  pub missing_is_valid : (b : Block) → DerivesMember ts (Member-F.Block b) → AreValid (length pairs) (missing_findings rules pairs b (slice_get b.labels 0))
   missing_is_valid b s = labelled_is_valid b (slice_get b.labels 0) (block_type_within b s)

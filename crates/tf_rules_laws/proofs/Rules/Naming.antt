@@ -1,6 +1,6 @@
 -- Names.
 use Rattle.std.proofs.Common.{◌≡◌, ℕ, List, [], ◌∷◌, Option, Some, None, refl, sym, ap, subst, codes, length, arith, ◌+◌, ◌<◌, ◌≤◌, zero, suc, map, slice_get}
-use Rattle.std.specs.List.{flat_map}
+use Rattle.std.specs.List.{flat_map, AllByRecursion}
 use Rattle.std.specs.Str.{bytes_eq}
 use Rattle.hcl_grammar.specs.Tokens.{Token}
 use Rattle.hcl_grammar.specs.TreeLayers.{MemberLayer, ContentLayer}
@@ -10,18 +10,17 @@ use Rattle.hcl_grammar.specs.declared.tree.Content.TheOpen.{Member-F, Content-F}
 use Rattle.hcl_grammar.specs.declared.tree.Content.{out-Content}
 use Rattle.hcl_grammar.specs.declared.tree.Label.{Label}
 use Rattle.hcl_grammar.specs.declared.tree.Member.{Member, out-Member}
-use Rattle.hcl_grammar_laws.specs.NodeSpans as g
-use Rattle.hcl_grammar_laws.specs.NodeSpans.{Derives}
 use Rattle.hcl_scan.specs.Follows.{tokens_of}
 use Rattle.hcl_token.specs.Tokens.{Pair}
 use Rattle.tf_reuse.proofs.RenumberedNodes as moved
 use Rattle.tf_reuse.proofs.RenumberedNodes.{MovedNumber, MovedLabels}
-use Rattle.tf_reuse.proofs.RenumberedTrivia.{here_of, here_after}
+use Rattle.tf_reuse.proofs.RenumberedTrivia.{here_after}
 use Rattle.tf_reuse.proofs.Renumbering as moves
 use Rattle.tf_reuse.proofs.Renumbering.{Moves}
-use Rattle.tf_reuse.proofs.Window.{Here, Same}
+use Rattle.tf_reuse.proofs.Window.{Here, Same, same_here}
 use Rattle.tf_reuse.specs.SameTokens.{SameTokens}
 use Rattle.tf_rules.specs.Attributes.{attributes, layer_attributes, member_attributes, layer_attribute}
+use Rattle.tf_rules.specs.Preorder.{member, content_children, member_children}
 use Rattle.tf_rules.specs.Rules.Naming.{naming_finding, declared_name, label_findings, declared_findings, local_findings, naming_findings}
 use Rattle.tf_rules.specs.SnakeCase.{is_snake_case}
 use Rattle.tf_rules.specs.Spelling.{token_text, name_text}
@@ -30,12 +29,13 @@ use Rattle.tf_rules.specs.declared.finding.NameKind.{NameKind}
 use Rattle.tf_rules.specs.declared.rule.Rule.TheVariants.{NamingConvention}
 use Rattle.tf_rules_laws.proofs.OfRule as found
 use Rattle.tf_rules_laws.proofs.OfRule.{From}
-use Rattle.tf_rules_laws.proofs.Grammar.{Each, first_each, last_each, both_each, inside_in_preorder}
+use Rattle.tf_rules_laws.proofs.All.{both_all}
 use Rattle.tf_rules_laws.proofs.MovedBlocks as blocks
 use Rattle.tf_rules_laws.proofs.MovedBlocks.{SameAttributes, SameLabel, label_at, SameBlock, word_moves, name_moves, number_moves, message}
 use Rattle.tf_rules_laws.proofs.Order.{label_within, name_on_line, name_within}
 use Rattle.tf_rules_laws.proofs.Valid as valid
 use Rattle.tf_rules_laws.proofs.Valid.{AreValid}
+use Rattle.tf_rules_laws.specs.NodeSpans.{DerivesLabel, DerivesContent, DerivesMember, Derives}
 
 -- ---- what is found is of the rule
 
@@ -76,7 +76,7 @@ module _ (old new : List Pair) {from to count : ℕ} (w : SameTokens (tokens_of 
 
   locals_moves : {xs xs' : List Attribute} → SameAttributes old new w xs xs' → Moves old new from to (flat_map (local_findings old) xs) (flat_map (local_findings new) xs')
   locals_moves blocks.none = moves.none
-  locals_moves (blocks.more h e r) = moves.append (naming_moves Local (moved.one_number h) (here_of old new w h) (here_after old new w h)) (locals_moves r)
+  locals_moves (blocks.more h e r) = moves.append (naming_moves Local (moved.one_number h) (same_here w h) (here_after old new w h)) (locals_moves r)
 
   pub naming_moved : (b b' : Block) → SameBlock old new w b b' → Moves old new from to (naming_findings old b) (naming_findings new b')
   naming_moved b b' s =
@@ -88,14 +88,14 @@ module _ (old new : List Pair) {from to count : ℕ} (w : SameTokens (tokens_of 
 -- ---- over a text that parses, the numbers are in order
 
 module _ (pairs : List Pair) (ts : List Token) (count : length ts ≡ length pairs) where
-  label_sits : (l : Label) → Derives ts (g.label l) → (l.first < l.past) × (l.past ≤ length pairs)
-  label_sits l (g.is_label w) = let s = label_within w in (s.forth, omega (arith, s.within, count))
+  label_sits : (l : Label) → DerivesLabel ts l → (l.first < l.past) × (l.past ≤ length pairs)
+  label_sits l w = let s = label_within w in (s.forth, omega (arith, s.within, count))
 
-  attribute_named : (a : Attribute) → Derives ts (g.attribute a) → a.name < length pairs
-  attribute_named a (g.is_attribute w) = let n = name_within w a refl in omega (arith, n, count)
+  attribute_named : (a : Attribute) → DerivesMember ts (Member-F.Attribute a) → a.name < length pairs
+  attribute_named a s = let n = name_within s.1 a refl in omega (arith, n, count)
 
-  on_line_named : (a : Attribute) → Derives ts (g.one_line_attribute a) → a.name < length pairs
-  on_line_named a (g.is_one_line_attribute w) = let n = name_on_line w a refl in omega (arith, n, count)
+  on_line_named : (a : Attribute) → DerivesContent ts (Content-F.OneLine (Some a)) → a.name < length pairs
+  on_line_named a s = let n = name_on_line s.1 a refl in omega (arith, n, count)
 
   name_is_valid : (named : NameKind) (name : Option ℕ) (first past : ℕ) → first < past → past ≤ length pairs → AreValid (length pairs) (naming_finding pairs named name first past)
   name_is_valid named name first past a b =
@@ -104,43 +104,36 @@ module _ (pairs : List Pair) (ts : List Token) (count : length ts ≡ length pai
   local_is_valid : (a : Attribute) → a.name < length pairs → AreValid (length pairs) (local_findings pairs a)
   local_is_valid a h = name_is_valid Local (Some a.name) a.name (a.name + 1) (omega arith) (omega (arith, h))
 
-  module _ (root : g.Node) (each : (n : g.Node) → g.IsWithin n root → Derives ts n) where
-    abbrev S : g.Node → Type 0
-    S n = g.IsWithin n root
+  label_in : (ls : List Label) → AllByRecursion (DerivesLabel ts) ls → (i : ℕ) (l : Label) → slice_get ls i ≡ Some l → DerivesLabel ts l
+  label_in [] a i l h = absurd (cc)
+  label_in (x ∷ ls) a zero l h = let same : x ≡ l = cc in subst (DerivesLabel ts) same a.0
+  label_in (x ∷ ls) a (suc i) l h = label_in ls a.1 i l h
 
-    label_in : (ls : List Label) → Each S (map g.label ls) → (i : ℕ) (l : Label) → slice_get ls i ≡ Some l → S (g.label l)
-    label_in [] a i l h = absurd (cc)
-    label_in (x ∷ ls) a zero l h = let same : x ≡ l = cc in subst (λ (z : Label). S (g.label z)) same a.0
-    label_in (x ∷ ls) a (suc i) l h = label_in ls a.1 i l h
+  label_is_valid : (named : NameKind) (ls : List Label) → AllByRecursion (DerivesLabel ts) ls → (i : ℕ) (o : Option Label) → slice_get ls i ≡ o → AreValid (length pairs) (label_findings pairs named o)
+  label_is_valid named ls a i None h = valid.none
+  label_is_valid named ls a i (Some l) h = let s = label_sits l (label_in ls a i l h) in name_is_valid named l.name l.first l.past s.0 s.1
 
-    label_is_valid : (named : NameKind) (ls : List Label) → Each S (map g.label ls) → (i : ℕ) (o : Option Label) → slice_get ls i ≡ o → AreValid (length pairs) (label_findings pairs named o)
-    label_is_valid named ls a i None h = valid.none
-    label_is_valid named ls a i (Some l) h = let s = label_sits l (each (g.label l) (label_in ls a i l h)) in name_is_valid named l.name l.first l.past s.0 s.1
+  declared_is_valid : (b : Block) → AllByRecursion (DerivesLabel ts) b.labels → (o : Option (NameKind × ℕ)) → AreValid (length pairs) (declared_findings pairs b o)
+  declared_is_valid b a None = valid.none
+  declared_is_valid b a (Some (named, i)) = label_is_valid named b.labels a i (slice_get b.labels i) refl
 
-    declared_is_valid : (b : Block) → Each S (map g.label b.labels) → (o : Option (NameKind × ℕ)) → AreValid (length pairs) (declared_findings pairs b o)
-    declared_is_valid b a None = valid.none
-    declared_is_valid b a (Some (named, i)) = label_is_valid named b.labels a i (slice_get b.labels i) refl
+  abbrev IsValidLocal : Attribute → Type 0
+  IsValidLocal a = AreValid (length pairs) (local_findings pairs a)
 
-    abbrev IsValidLocal : Attribute → Type 0
-    IsValidLocal a = AreValid (length pairs) (local_findings pairs a)
+  of_member : (l : MemberLayer) → DerivesMember ts l → AllByRecursion IsValidLocal (layer_attribute l)
+  of_member (Member-F.Attribute a) s = (local_is_valid a (attribute_named a s), tt)
+  of_member (Member-F.Block b) s = tt
 
-    of_member : (l : MemberLayer) → S (g.member_node l) → Each IsValidLocal (layer_attribute l)
-    of_member (Member-F.Attribute a) s = (local_is_valid a (attribute_named a (each (g.attribute a) s)), tt)
-    of_member (Member-F.Block b) s = tt
+  of_members : (ms : List Member) → AllByRecursion (Derives ts) (map member ms) → AllByRecursion IsValidLocal (flat_map member_attributes ms)
+  of_members [] a = tt
+  of_members (m ∷ ms) a = both_all IsValidLocal (member_attributes m) (flat_map member_attributes ms) (of_member (out-Member m) a.0) (of_members ms a.1)
 
-    of_members : (ms : List Member) → Each S (g.members_nodes ms) → Each IsValidLocal (flat_map member_attributes ms)
-    of_members [] a = tt
-    of_members (m ∷ ms) a = both_each IsValidLocal (member_attributes m) (flat_map member_attributes ms) (of_member (out-Member m) a.0) (of_members ms a.1)
+  of_content : (l : ContentLayer) → DerivesContent ts l → AllByRecursion (Derives ts) (content_children l) → AllByRecursion IsValidLocal (layer_attributes l)
+  of_content (Content-F.Body b) c a = of_members b.members a
+  of_content (Content-F.OneLine None) c a = tt
+  of_content (Content-F.OneLine (Some x)) c a = (local_is_valid x (on_line_named x c), tt)
 
-    of_content : (l : ContentLayer) → Each S (g.content_nodes l) → Each IsValidLocal (layer_attributes l)
-    of_content (Content-F.Body b) a = of_members b.members (inside_in_preorder root (g.body b) a.0)
-    of_content (Content-F.OneLine None) a = tt
-    of_content (Content-F.OneLine (Some x)) a = (local_is_valid x (on_line_named x (each (g.one_line_attribute x) a.0)), tt)
-
-    pub naming_is_valid : (b : Block) → S (g.block b) → AreValid (length pairs) (naming_findings pairs b)
-    naming_is_valid b s =
-        let inside = inside_in_preorder root (g.block b) s in
-        let labels = first_each S (map g.label b.labels) (g.content_nodes (out-Content b.content)) inside in
-        let content = last_each S (map g.label b.labels) (g.content_nodes (out-Content b.content)) inside in
-        let names = valid.mapped (local_findings pairs) (attributes b) (of_content (out-Content b.content) content) in
-        valid.append (declared_is_valid b labels (declared_name (token_text pairs b.block_type))) (valid.choose (bytes_eq (token_text pairs b.block_type) (codes "locals")) names valid.none)
+  pub naming_is_valid : (b : Block) → DerivesMember ts (Member-F.Block b) → AllByRecursion (Derives ts) (member_children (Member-F.Block b)) → AreValid (length pairs) (naming_findings pairs b)
+  naming_is_valid b s inside =
+      let names = valid.mapped (local_findings pairs) (attributes b) (of_content (out-Content b.content) s.2 inside) in
+      valid.append (declared_is_valid b s.1 (declared_name (token_text pairs b.block_type))) (valid.choose (bytes_eq (token_text pairs b.block_type) (codes "locals")) names valid.none)

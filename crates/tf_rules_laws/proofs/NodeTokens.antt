@@ -1,0 +1,127 @@
+-- What is derived from some tokens is derived from those from its `first` up to its `past`.
+use Rattle.std.proofs.Common.{◌≡◌, ℕ, zero, suc, ◌+◌, Bool, false, List, [], ◌∷◌, Option, refl, sym, subst, arith}
+use Rattle.std.specs.List.{AllByRecursion}
+use Rattle.hcl_grammar.specs.declared.tree.Attribute.{Attribute}
+use Rattle.hcl_grammar.specs.declared.tree.Block.{Block}
+use Rattle.hcl_grammar.specs.declared.tree.Content.{out-Content}
+use Rattle.hcl_grammar.specs.declared.tree.Content.TheOpen.{Content-F}
+use Rattle.hcl_grammar.specs.declared.tree.Expr.{Expr}
+use Rattle.hcl_grammar.specs.declared.tree.ForDirective.{ForDirective}
+use Rattle.hcl_grammar.specs.declared.tree.IfDirective.{IfDirective, out-IfDirective}
+use Rattle.hcl_grammar.specs.declared.tree.Intro.{Intro}
+use Rattle.hcl_grammar.specs.declared.tree.Label.{Label}
+use Rattle.hcl_grammar.specs.declared.tree.Member.{Member, out-Member}
+use Rattle.hcl_grammar.specs.declared.tree.Member.TheVariants as member_of
+use Rattle.hcl_grammar.specs.declared.tree.Part.{Part, out-Part}
+use Rattle.hcl_grammar.specs.declared.tree.Part.TheVariants as part_of
+use Rattle.hcl_grammar.specs.declared.tree.Primary.{out-Primary}
+use Rattle.hcl_grammar.specs.declared.tree.Tail.{Tail}
+use Rattle.hcl_grammar.specs.declared.tree.Template.{Template}
+use Rattle.hcl_grammar.specs.declared.tree.Term.{Term}
+use Rattle.hcl_grammar.specs.Bodies.{IsLabels, no_labels, word_label, text_label, empty_label, IsOneLineBody, nothing, one as just, IsMembers, blank, attribute, block, line_block}
+use Rattle.hcl_grammar.specs.Grammar.{IsExpr, plain, IsLevel, level, no_operations, IsTail, IsTerm, number, identifier, call, tuple, object, for_tuple, for_object, quoted, heredoc, parens, IsIntro, IsParts, IsPart, quote_text, here_text, interp, if_directive, for_directive, IsElse, no_else, has_else}
+use Rattle.hcl_grammar.specs.Nodes as node
+use Rattle.hcl_grammar.specs.Operators.{levels}
+use Rattle.hcl_grammar.specs.Tokens.{Token, first_token_in}
+use Rattle.hcl_grammar_laws.proofs.Opens.{open_number, open_identifier, open_call, open_tuple, open_object, open_for_tuple, open_for_object, open_quoted, open_heredoc, open_parens, open_literal, open_interp, open_if, open_for, open_lines, open_line, open_attribute, open_block, for_tuple_intro, for_object_intro, if_directive_met, if_directive_unmet}
+use Rattle.hcl_grammar_laws.proofs.Own.{own_if, own_for}
+use Rattle.hcl_grammar_laws.proofs.Restart.{own_expr, own_term}
+use Rattle.hcl_grammar_laws.proofs.RestartBodies.{own_intro, own_label, own_on_line, own_attribute, own_block, own_parts, own_members}
+use Rattle.tf_rules.specs.declared.role.Role.{Role}
+use Rattle.tf_rules.specs.Preorder.{expr, term, tail, part, member}
+use Rattle.tf_rules_laws.specs.NodeSpans.{DerivesBody, DerivesLabel, DerivesIntro, DerivesTemplate, DerivesElse, DerivesContent, DerivesPrimary, DerivesPart, DerivesMember, Derives}
+
+module _ {ts : List Token} where
+  -- ---- expressions
+
+  -- what is on a level is an expression
+  lift : {d : ℕ} {m : Bool} {l : ℕ} {x : Expr} {i j : ℕ} (k : ℕ) → k + l ≡ levels → IsLevel ts d m l x i j → IsExpr ts d m x i j
+  lift {d} {m} {l} {x} {i} {j} zero e w = let top : l ≡ levels = omega (arith, e) in plain (subst (λ z. IsLevel ts d m z x i j) top w)
+  lift (suc k) e w = lift k (omega (arith, e)) (level w no_operations)
+
+  pub expr_derived : {d : ℕ} {m : Bool} {x : Expr} {i j : ℕ} (role : Role) → IsExpr ts d m x i j → Derives ts (expr role x)
+  expr_derived {d} {m} role w = (d, m, own_expr w)
+
+  pub level_derived : {d : ℕ} {m : Bool} {l : ℕ} {x : Expr} {i j : ℕ} (role : Role) (k : ℕ) → k + l ≡ levels → IsLevel ts d m l x i j → Derives ts (expr role x)
+  level_derived role k e w = expr_derived role (lift k e w)
+
+  pub tail_derived : {d : ℕ} {m : Bool} {x : Tail} {i j : ℕ} (splat : Bool) → IsTail ts d m x i j → Derives ts (tail splat x)
+  tail_derived {d} {m} {i = i} {j = j} splat w = (d, m, i, j, w)
+
+  -- ---- terms
+
+  template_derived : {d : ℕ} {m : Bool} {ps : List Part} {i j : ℕ} → IsParts ts d m ps i j → DerivesTemplate ts (node.template (first_token_in ts m i j) j ps)
+  unfolding node.template
+  template_derived {d} {m} w = (d, m, own_parts w)
+
+  intro_derived : {d : ℕ} {x : Intro} {i j : ℕ} → IsIntro ts d x i j → DerivesIntro ts x
+  intro_derived {d} w = (d, own_intro w)
+
+  primary_derived : {d : ℕ} {m : Bool} {x : Term} {i j : ℕ} → IsTerm ts d m x i j → DerivesPrimary ts (out-Primary x.kind)
+  unfolding node.term node.call node.for_tuple node.for_object
+  primary_derived (number p) = simp (open_number) tt
+  primary_derived (identifier p q r) = simp (open_identifier) tt
+  primary_derived (call p ns q xs) = simp (open_call) tt
+  primary_derived (tuple p w xs) = simp (open_tuple) tt
+  primary_derived (object p w l es) = simp (open_object) tt
+  primary_derived (for_tuple {x} {value} {filter} p y c v f) = simp (open_for_tuple) (subst (DerivesIntro ts) (sym (for_tuple_intro x value filter)) (intro_derived y))
+  primary_derived (for_object {x} {key} {value} {grouped} {filter} p y c a w v s f) =
+      simp (open_for_object) (subst (DerivesIntro ts) (sym (for_object_intro x key value grouped filter)) (intro_derived y))
+  primary_derived (quoted p ps q) = simp (open_quoted) (template_derived ps)
+  primary_derived (heredoc p ps q) = simp (open_heredoc) (template_derived ps)
+  primary_derived (parens p x q) = simp (open_parens) tt
+
+  pub term_derived : {d : ℕ} {m : Bool} {x : Term} {i j : ℕ} (role : Role) → IsTerm ts d m x i j → Derives ts (term role x)
+  term_derived {d} {m} role w = ((d, m, own_term w), primary_derived w)
+
+  -- ---- parts of templates
+
+  else_derived : {d : ℕ} {m : Bool} {o : Option Template} {i j : ℕ} → IsElse ts d m o i j → DerivesElse ts o
+  else_derived (no_else e) = tt
+  else_derived (has_else q ps e) = template_derived ps
+
+  if_derived : {d : ℕ} {m : Bool} {i j : ℕ} (x : IfDirective) → IsPart ts d m (part_of.If x) i j → DerivesTemplate ts (out-IfDirective x).then_branch → DerivesElse ts (out-IfDirective x).else_branch
+      → DerivesPart ts (out-Part (part_of.If x))
+  if_derived {d} {m} x w t u = subst (DerivesPart ts) (sym (open_if x)) ((d, m, own_if w x refl), t, u)
+
+  for_derived : {d : ℕ} {m : Bool} {i j : ℕ} (x : ForDirective) → IsPart ts d m (part_of.For x) i j → DerivesIntro ts x.intro → DerivesTemplate ts x.body → DerivesPart ts (out-Part (part_of.For x))
+  for_derived {d} {m} x w y t = subst (DerivesPart ts) (sym (open_for x)) ((d, m, own_for w x refl), y, t)
+
+  pub part_derived : {d : ℕ} {m : Bool} {x : Part} {i j : ℕ} → IsPart ts d m x i j → Derives ts (part x)
+  unfolding node.if_part node.for_part
+  part_derived {d} {m} (quote_text {i} p) = simp (open_literal) (d, m, _, _, quote_text {d = d} p)
+  part_derived {d} {m} (here_text {i} p) = simp (open_literal) (d, m, _, _, here_text {d = d} p)
+  part_derived {m} (interp {d} p x q) = simp (open_interp) (suc d, m, _, _, interp p x q)
+  part_derived (if_directive p w c q ps o) =
+      if_derived _ (if_directive p w c q ps o) (subst (DerivesTemplate ts) (sym (if_directive_met _ _ _ _ _)) (template_derived ps)) (subst (DerivesElse ts) (sym (if_directive_unmet _ _ _ _ _)) (else_derived o))
+  part_derived (for_directive p y q ps s) = for_derived _ (for_directive p y q ps s) (intro_derived y) (template_derived ps)
+
+  -- ---- members
+
+  labels_derived : {ls : List Label} {i j : ℕ} → IsLabels ts ls i j → AllByRecursion (DerivesLabel ts) ls
+  labels_derived no_labels = tt
+  labels_derived (word_label p r) = (own_label (word_label p no_labels) 0 _ refl, labels_derived r)
+  labels_derived (text_label p q s r) = (own_label (text_label p q s no_labels) 0 _ refl, labels_derived r)
+  labels_derived (empty_label p q r) = (own_label (empty_label p q no_labels) 0 _ refl, labels_derived r)
+
+  line_derived : {d : ℕ} {o : Option Attribute} {i j : ℕ} → IsOneLineBody ts d o i j → DerivesContent ts (Content-F.OneLine o)
+  line_derived nothing = tt
+  line_derived {d} (just p q y) = (d, own_on_line (just p q y))
+
+  pub body_derived : {d : ℕ} {ms : List Member} {i j : ℕ} → IsMembers ts d ms i j → DerivesBody ts (node.body (first_token_in ts false i j) j ms)
+  unfolding node.body
+  body_derived {d} w = (d, own_members w)
+
+  attribute_derived : {d : ℕ} {x : Attribute} {i j : ℕ} → IsMembers ts d (member_of.Attribute x ∷ []) i j → DerivesMember ts (out-Member (member_of.Attribute x))
+  attribute_derived {d} {x} w = subst (DerivesMember ts) (sym (open_attribute x)) (d, own_attribute w 0 x refl)
+
+  block_derived : {d : ℕ} {x : Block} {i j : ℕ} → IsMembers ts d (member_of.Block x ∷ []) i j → AllByRecursion (DerivesLabel ts) x.labels → DerivesContent ts (out-Content x.content)
+      → DerivesMember ts (out-Member (member_of.Block x))
+  block_derived {d} {x} w ls c = subst (DerivesMember ts) (sym (open_block x)) ((d, own_block w 0 x refl), ls, c)
+
+  pub member_derived : {d : ℕ} {x : Member} {i j : ℕ} → IsMembers ts d (x ∷ []) i j → Derives ts (member x)
+  unfolding node.block
+  member_derived (blank l r) = member_derived r
+  member_derived (attribute p q y s r) = attribute_derived (attribute p q y s r)
+  member_derived (block p ns b s ms c l r) = block_derived (block p ns b s ms c l r) (labels_derived ns) (simp (open_lines) (body_derived ms))
+  member_derived (line_block p ns b t c l r) = block_derived (line_block p ns b t c l r) (labels_derived ns) (simp (open_line) (line_derived t))
