@@ -11,7 +11,9 @@ pub enum SavedFile {
     Journal,
 }
 
-/// A system call. A part's *new file* is the one next to it that is to replace it.
+/// A system call. A part's *new file* is the one next to it that is to replace it. Each call names
+/// both by the handle of their folder, which was opened before the first call, and a name in it: it
+/// is made in that folder, whatever has the folder's own name by then.
 #[derive(Clone, Copy)]
 pub enum Syscall {
     /// Opens the part for writing, and changes nothing.
@@ -27,16 +29,16 @@ pub enum Syscall {
     Write(SavedFile),
     /// Waits until the bytes of the new file are durable (`fsync`).
     Sync(SavedFile),
-    /// Waits until the names in the part's directory are durable (`fsync` of the directory). The
-    /// reply for a directory that can't be opened for that is `CannotReplace`; for a file system
-    /// that has no such call, `Done`.
+    /// Waits until the names in the part's directory are durable (`fsync` of its handle). The reply
+    /// for a directory that can't be opened to be read is `CannotReplace`; for a file system that
+    /// has no such call, `Done`.
     SyncDirectory(SavedFile),
     /// Compares the file under the new file's name with the one that this command created: device
     /// and inode. Any reply but `Done` means that it is another, or that the system doesn't say.
     CompareNew(SavedFile),
-    /// Compares text and journal with the files that this command read: device, inode, size and
-    /// time of modification, from before the first read, the text last. Any reply but `Done` means
-    /// that one has changed, or that the system doesn't say.
+    /// Compares text and journal with the files that this command read: device, inode, size, time
+    /// of modification, owner, group and mode, from before the first read, the text last. Any reply
+    /// but `Done` means that one has changed, or that the system doesn't say.
     Compare,
     /// Reads the new journal that was found alone. The reply is `Done` if it may replace the
     /// journal, `NotFound` if it may not: it can't be decoded, or the journal's last record can be
@@ -44,7 +46,8 @@ pub enum Syscall {
     CanAdopt,
     /// Renames the new file to the part's name.
     Rename(SavedFile),
-    /// Removes the new file.
+    /// Removes the new file; of what an interrupted command has left only what was found before the
+    /// first call.
     Remove(SavedFile),
 }
 
