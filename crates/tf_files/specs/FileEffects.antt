@@ -25,7 +25,7 @@ IsToSave paths seen (Some saved) (Some file) =
 abbrev pub HasEffectOnFile : Command → JournaledFile → FileEffect → Type 0
 HasEffectOnFile command read made =
     (effect : Effect)
-    × HasEffect command (string_bytes read.paths.text) read.contents.text.items read.contents.journal.items
+    × HasEffect command (string_bytes read.paths.name) read.contents.text.items read.contents.journal.items
     effect
     × (made.done ≡ effect.done) × (made.lines ≡ effect.lines)
     × IsToSave read.paths read.contents.seen effect.saved made.file

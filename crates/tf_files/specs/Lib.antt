@@ -4,3 +4,5 @@ pub mod Snapshots
 pub mod FileEffects
 pub mod Ends
 pub mod Opening
+pub mod Modes
+pub mod Trust

@@ -1,9 +1,11 @@
 //! Decides whether a new journal that was found alone may replace the journal.
 
-use crate::journaled_file::read_session;
+use crate::file_paths::FilePaths;
+use crate::folder::SystemFiles;
+use crate::reading::{ReadContents, read, read_with};
 use std::alloc::Global;
-use std::rt::Files;
-use tf_session::{Command, Fault, RunFault};
+use std::fs::File;
+use tf_session::{Command, Fault, RunFault, Session};
 
 /// Returns whether the new journal may replace the old one. It may unless it can't be decoded, or
 /// the old one's last record can be reverted in the text and the new one's can't: then it came from
@@ -12,29 +14,43 @@ use tf_session::{Command, Fault, RunFault};
 /// # Errors
 ///
 /// `Memory`; `Read` and others where a file can't be read.
-pub fn can_adopt<R: Files>(
+pub fn can_adopt<R: SystemFiles>(
     rt: &R,
     alloc: Global,
-    text: &str,
-    old: &str,
-    new: &str,
+    paths: &FilePaths,
+    new: &File,
 ) -> Result<bool, RunFault> {
-    match can_revert(rt, alloc, text, new) {
+    match can_revert(alloc, read_with(rt, alloc, paths, new)) {
         Ok(true) => Ok(true),
-        Ok(false) => is_unrevertible(rt, alloc, text, old),
+        Ok(false) => is_unrevertible(alloc, read(rt, alloc, paths)),
+        Err(RunFault::BadJournal(_)) => Ok(false),
+        Err(fault) => Err(fault),
+    }
+}
+
+/// Returns whether the journal can be decoded; one that is not there can.
+///
+/// # Errors
+///
+/// As those of [`can_adopt`].
+pub fn has_good_journal<R: SystemFiles>(
+    rt: &R,
+    alloc: Global,
+    paths: &FilePaths,
+) -> Result<bool, RunFault> {
+    match can_revert(alloc, read(rt, alloc, paths)) {
+        Ok(_) => Ok(true),
         Err(RunFault::BadJournal(_)) => Ok(false),
         Err(fault) => Err(fault),
     }
 }
 
 /// Returns whether nothing can be reverted in the text by this journal.
-fn is_unrevertible<R: Files>(
-    rt: &R,
+fn is_unrevertible(
     alloc: Global,
-    text: &str,
-    journal: &str,
+    contents: Result<ReadContents, RunFault>,
 ) -> Result<bool, RunFault> {
-    match can_revert(rt, alloc, text, journal) {
+    match can_revert(alloc, contents) {
         Ok(can_revert) => Ok(!can_revert),
         Err(RunFault::BadJournal(_)) => Ok(true),
         Err(fault) => Err(fault),
@@ -42,13 +58,9 @@ fn is_unrevertible<R: Files>(
 }
 
 /// Returns whether the journal's last record can be reverted in the text.
-fn can_revert<R: Files>(
-    rt: &R,
-    alloc: Global,
-    text: &str,
-    journal: &str,
-) -> Result<bool, RunFault> {
-    let mut session = read_session(rt, alloc, text, journal)?;
+fn can_revert(alloc: Global, contents: Result<ReadContents, RunFault>) -> Result<bool, RunFault> {
+    let ReadContents { text, journal, .. } = contents?;
+    let mut session = Session::from_texts(alloc, text, journal)?;
     match session.step(alloc, Command::Revert) {
         Ok(_) => Ok(true),
         Err(Fault::Memory) => Err(RunFault::Memory),

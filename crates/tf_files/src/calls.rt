@@ -5,42 +5,44 @@ ghost use Rattle.std.specs.Prelude.{◌≡◌, string_bytes};
 use crate::adoption::can_adopt;
 use crate::file_part::{session_part, write_part};
 use crate::file_paths::{FilePaths, is_not_found};
+use crate::folder::{Folder, SystemFiles};
+use crate::found_files::FileId;
+use crate::leftovers::open_found;
 use crate::new_file::{
     copy_attributes, create_new, find_new, find_own_new, start_writing, truncate,
 };
 use crate::snapshot::Snapshots;
 use std::alloc::Global;
-use std::fs::{self, OpenFile, OpenOptions};
+use std::fs::{self, File, OpenFile, OpenOptions};
 use std::io::{self, ErrorKind};
-use std::path::Path;
-use std::rt::Files;
 use tf_saving::{Reply, SavedFile, Syscall};
 use tf_session::RunFault;
 
 /// What is known of a part's new file.
 #[derive(Drop)]
-pub enum NewFile<F: Drop> {
-    /// An interrupted command may have left one.
-    Left,
+pub enum NewFile {
+    /// What an interrupted command has left, as it was found; nothing else is touched.
+    Left(Option<FileId>),
     /// This command has created none; another may have.
     NotCreated,
     /// Its creation failed, and may have been done all the same.
     InDoubt,
-    /// It stays open until it replaces the old one, so that no other file gets its inode meanwhile.
-    Created(F),
+    /// This command has created it, or read what was left. It stays open until it replaces the old
+    /// one, so that no other file gets its inode meanwhile.
+    Open(File),
 }
 
-/// One of the two files that are saved.
+/// One of the two files that are saved. Its paths begin at the handle of its folder.
 #[derive(Drop)]
-pub struct PartFile<'a, F: Drop> {
-    /// The name by which it is opened.
-    pub given: &'a str,
-    /// What that name leads to.
+pub struct PartFile<'a> {
+    /// The folder in which both names are.
+    pub folder: &'a Folder,
+    /// The path of the old file.
     pub own: &'a str,
-    /// The name of the new file.
+    /// The path of the new file.
     pub new: &'a str,
     pub paths: &'a FilePaths,
-    pub new_file: NewFile<F>,
+    pub new_file: NewFile,
     pub bytes: &'a [u8],
     /// How many bytes were written.
     pub sent: usize,
@@ -51,24 +53,24 @@ pub struct PartFile<'a, F: Drop> {
     starts_early: bool,
 }
 
-impl<'a, F: Drop> PartFile<'a, F> {
+impl<'a> PartFile<'a> {
     /// Returns the text's file. `read` is what both files were before they were read.
     pub fn text(
         paths: &'a FilePaths,
         bytes: &'a [u8],
         read: Option<Snapshots>,
-        new_file: NewFile<F>,
+        new_file: NewFile,
         starts_early: bool,
-    ) -> PartFile<'a, F>
-        ensures given { result.given.now ≡ string_bytes paths.now.text }
-        ensures own { result.own.now ≡ string_bytes paths.now.real_text }
+    ) -> PartFile<'a>
+        ensures own { result.own.now ≡ string_bytes paths.now.text }
+        ensures new { result.new.now ≡ string_bytes paths.now.new_text }
         ensures paths { result.paths.now ≡ paths.now }
         ensures bytes { result.bytes.now ≡ bytes.now }
         ensures read { result.read ≡ read }
     {
         PartFile {
-            given: paths.text.as_str(),
-            own: paths.real_text.as_str(),
+            folder: paths.text_folder(),
+            own: paths.text.as_str(),
             new: paths.new_text.as_str(),
             paths,
             new_file,
@@ -85,17 +87,17 @@ impl<'a, F: Drop> PartFile<'a, F> {
         paths: &'a FilePaths,
         bytes: &'a [u8],
         read: Option<Snapshots>,
-        new_file: NewFile<F>,
+        new_file: NewFile,
         starts_early: bool,
-    ) -> PartFile<'a, F>
-        ensures given { result.given.now ≡ string_bytes paths.now.journal }
+    ) -> PartFile<'a>
         ensures own { result.own.now ≡ string_bytes paths.now.journal }
+        ensures new { result.new.now ≡ string_bytes paths.now.new_journal }
         ensures paths { result.paths.now ≡ paths.now }
         ensures bytes { result.bytes.now ≡ bytes.now }
         ensures read { result.read ≡ read }
     {
         PartFile {
-            given: paths.journal.as_str(),
+            folder: paths.journal_folder(),
             own: paths.journal.as_str(),
             new: paths.new_journal.as_str(),
             paths,
@@ -110,20 +112,20 @@ impl<'a, F: Drop> PartFile<'a, F> {
 }
 
 /// Makes one call for the part that it is about.
-pub fn make<R: Files>(
+pub fn make<R: SystemFiles>(
     rt: &R,
     alloc: Global,
-    file: &mut PartFile<'_, R::File>,
+    file: &mut PartFile<'_>,
     call: Syscall,
 ) -> Reply {
     match call {
-        Syscall::Open(_) => open(rt, file.given),
+        Syscall::Open(_) => open(rt, file.own),
         Syscall::FindNew(_) => find_new(rt, file),
         Syscall::CreateNew(_) => create_new(rt, file),
         Syscall::CopyAttributes(part) => copy_attributes(rt, part, file),
         Syscall::Write(part) => write(rt, part, file),
         Syscall::Sync(_) => sync(file),
-        Syscall::SyncDirectory(_) => sync_directory(rt, file.own),
+        Syscall::SyncDirectory(_) => file.folder.sync(),
         Syscall::CompareNew(_) => compare_new(rt, file),
         Syscall::Compare => compare(rt, file),
         Syscall::CanAdopt => adopt(rt, alloc, file),
@@ -144,7 +146,7 @@ pub fn reply_to<T: Drop>(answer: io::Result<T>) -> Reply {
 
 /// Opens a file to be written, and writes nothing. A name that is too long can be found nowhere,
 /// and can't be written either.
-fn open<R: Files>(rt: &R, name: &str) -> Reply {
+fn open<R: SystemFiles>(rt: &R, name: &str) -> Reply {
     let mut options = OpenOptions::new();
     options.write(true);
     match options.open(rt, name) {
@@ -155,8 +157,8 @@ fn open<R: Files>(rt: &R, name: &str) -> Reply {
 }
 
 /// Writes the bytes of the part into its new file, and keeps in `sent` how many were written.
-fn write<R: Files>(rt: &R, part: SavedFile, file: &mut PartFile<'_, R::File>) -> Reply {
-    let NewFile::Created(created) = &mut file.new_file else {
+fn write<R: SystemFiles>(rt: &R, part: SavedFile, file: &mut PartFile<'_>) -> Reply {
+    let NewFile::Open(created) = &mut file.new_file else {
         return Reply::Failed;
     };
     if file.starts_early && truncate(created).is_err() {
@@ -179,50 +181,16 @@ fn write<R: Files>(rt: &R, part: SavedFile, file: &mut PartFile<'_, R::File>) ->
 }
 
 /// Waits until the new file is durable; `Failed` if this command has created none.
-fn sync<F: OpenFile + Drop>(file: &mut PartFile<'_, F>) -> Reply {
+fn sync(file: &PartFile<'_>) -> Reply {
     match &file.new_file {
-        NewFile::Created(created) => reply_to(created.sync_all()),
+        NewFile::Open(created) => reply_to(created.sync_all()),
         _ => Reply::Failed,
-    }
-}
-
-/// Syncs the directory of this name.
-pub fn sync_directory<R: Files>(rt: &R, name: &str) -> Reply {
-    match open_directory(rt, name) {
-        Ok(directory) => sync_opened(&directory),
-        Err(reply) => reply,
-    }
-}
-
-/// Opens the directory of this name to be synced.
-///
-/// # Errors
-///
-/// The reply to the sync: `CannotReplace` without the permission to read the directory, else
-/// `Failed`.
-pub fn open_directory<R: Files>(rt: &R, name: &str) -> Result<R::File, Reply> {
-    let directory = match Path::new(name).parent() {
-        Some(directory) if !directory.as_str().is_empty() => directory.as_str(),
-        _ => ".",
-    };
-    match fs::open(rt, directory) {
-        Ok(directory) => Ok(directory),
-        Err(error) if error.kind() == ErrorKind::PermissionDenied => Err(Reply::CannotReplace),
-        Err(_) => Err(Reply::Failed),
-    }
-}
-
-/// Syncs an opened directory. A file system that can't sync directories has nothing to wait for.
-pub fn sync_opened<F: OpenFile>(directory: &F) -> Reply {
-    match directory.sync_all() {
-        Err(error) if error.kind() == ErrorKind::InvalidInput => Reply::Done,
-        answer => reply_to(answer),
     }
 }
 
 /// Looks whether the new file is this command's own. If another program has changed a file, nothing
 /// of what was written is to be reported.
-fn compare_new<R: Files>(rt: &R, file: &mut PartFile<'_, R::File>) -> Reply {
+fn compare_new<R: SystemFiles>(rt: &R, file: &mut PartFile<'_>) -> Reply {
     match find_own_new(rt, file) {
         Reply::Done => Reply::Done,
         _ => {
@@ -234,7 +202,7 @@ fn compare_new<R: Files>(rt: &R, file: &mut PartFile<'_, R::File>) -> Reply {
 
 /// Looks whether the file and its journal are as they were read. If another program has changed one
 /// of them, nothing of what was written is to be reported.
-fn compare<R: Files>(rt: &R, file: &mut PartFile<'_, R::File>) -> Reply {
+fn compare<R: SystemFiles>(rt: &R, file: &mut PartFile<'_>) -> Reply {
     let now = Snapshots::of(rt, file.paths);
     if now.is_some() && now == file.read {
         Reply::Done
@@ -245,10 +213,20 @@ fn compare<R: Files>(rt: &R, file: &mut PartFile<'_, R::File>) -> Reply {
 }
 
 /// Looks whether the new journal can be adopted: `Done` if it can, `NotFound` if not, and `Failed`
-/// after an error. Then `is_out_of_memory` says whether memory ran out.
-fn adopt<R: Files>(rt: &R, alloc: Global, journal: &mut PartFile<'_, R::File>) -> Reply {
-    match can_adopt(rt, alloc, &journal.paths.text, journal.own, journal.new) {
-        Ok(true) => Reply::Done,
+/// after an error. Then `is_out_of_memory` says whether memory ran out. One that can be adopted
+/// stays open.
+fn adopt<R: SystemFiles>(rt: &R, alloc: Global, journal: &mut PartFile<'_>) -> Reply {
+    let NewFile::Left(Some(left)) = journal.new_file else {
+        return Reply::Failed;
+    };
+    let Some(new) = open_found(rt, journal.new, left) else {
+        return Reply::Failed;
+    };
+    match can_adopt(rt, alloc, journal.paths, &new) {
+        Ok(true) => {
+            journal.new_file = NewFile::Open(new);
+            Reply::Done
+        }
         Ok(false) => Reply::NotFound,
         Err(fault) => {
             journal.is_out_of_memory = fault == RunFault::Memory;
@@ -259,7 +237,7 @@ fn adopt<R: Files>(rt: &R, alloc: Global, journal: &mut PartFile<'_, R::File>) -
 
 /// Renames the new file to the part. Nothing is renamed over what is mounted. No look precedes
 /// the rename of the text, which follows the comparison of its file at once.
-fn rename<R: Files>(rt: &R, file: &PartFile<'_, R::File>) -> Reply {
+fn rename<R: SystemFiles>(rt: &R, file: &PartFile<'_>) -> Reply {
     match fs::rename(rt, file.new, file.own) {
         Err(error) if error.kind() == ErrorKind::ResourceBusy => Reply::CannotReplace,
         answer => reply_to(answer),
@@ -268,7 +246,7 @@ fn rename<R: Files>(rt: &R, file: &PartFile<'_, R::File>) -> Reply {
 
 /// Renames the new journal to the journal; `Failed` if the new one is known to be gone or another
 /// command's: no journal that another command is known to have created since is renamed.
-fn rename_journal<R: Files>(rt: &R, journal: &PartFile<'_, R::File>) -> Reply {
+fn rename_journal<R: SystemFiles>(rt: &R, journal: &PartFile<'_>) -> Reply {
     match find_own_new(rt, journal) {
         Reply::NotFound => Reply::Failed,
         _ => rename(rt, journal),
@@ -276,10 +254,12 @@ fn rename_journal<R: Files>(rt: &R, journal: &PartFile<'_, R::File>) -> Reply {
 }
 
 /// Removes the new file; `NotFound` if it is known to be gone or another command's: no file that
-/// another command is known to have created since is removed.
-fn remove<R: Files>(rt: &R, file: &PartFile<'_, R::File>) -> Reply {
-    match find_own_new(rt, file) {
-        Reply::NotFound => Reply::NotFound,
+/// another command is known to have created since is removed, and of what was left only what is
+/// known to be the file that was found.
+fn remove<R: SystemFiles>(rt: &R, file: &PartFile<'_>) -> Reply {
+    match (find_own_new(rt, file), &file.new_file) {
+        (Reply::NotFound, _) => Reply::NotFound,
+        (Reply::Failed, NewFile::Left(_)) => Reply::Failed,
         _ => reply_to(fs::remove_file(rt, file.new)),
     }
 }

@@ -4,12 +4,12 @@ ghost use Rattle.std.specs.Prelude.{◌≡◌, ◌↔◌, true, map, IfOk, IsOk,
 ghost use Rattle.tf_files.specs.Common.{MayHaveCommon};
 
 use crate::file_paths::FilePaths;
+use crate::folder::SystemFiles;
 use crate::found_files::FoundFiles;
 use crate::overwrite_files::overwrite;
 use crate::saves::{Attempt, NewContents, Save, save_in_rows};
 use crate::snapshot::Snapshots;
 use std::alloc::{AllocError, Global};
-use std::rt::Files;
 use tf_session::RunFault;
 
 /// A file with the text and the journal that it is to have. Neither is written yet.
@@ -58,7 +58,7 @@ impl ChangedFile {
 
     /// Returns the save of this text and this journal under this file's names, before its first
     /// call.
-    fn new_save<F: Drop>(&self, is_in_company: bool) -> Save<'_, F>
+    fn new_save(&self, is_in_company: bool) -> Save<'_>
         ensures text { result.text.bytes.now ≡ self.now.text.items }
         ensures text_paths { result.text.paths.now ≡ self.now.paths }
         ensures text_read { result.text.read ≡ self.now.read }
@@ -76,8 +76,8 @@ impl ChangedFile {
     ///
     /// `Write` with the part and the number of its bytes that were written, 0 where another program
     /// has changed a file meanwhile; `Read` where it is not known what the next recovery will find.
-    pub fn save<R: Files>(&self, rt: &R, alloc: Global) -> Result<(), RunFault> {
-        let mut save = self.new_save::<R::File>(false);
+    pub fn save<R: SystemFiles>(&self, rt: &R, alloc: Global) -> Result<(), RunFault> {
+        let mut save = self.new_save(false);
         let is_replaced = save.result(rt, alloc)?;
         if is_replaced {
             return Ok(());
@@ -92,7 +92,7 @@ impl ChangedFile {
     /// # Errors
     ///
     /// As those of `save`.
-    pub fn complete<R: Files>(
+    pub fn complete<R: SystemFiles>(
         &self,
         rt: &R,
         alloc: Global,
@@ -114,7 +114,7 @@ impl ChangedFile {
     /// # Errors
     ///
     /// Those of [`overwrite`].
-    fn overwrite<R: Files>(&self, rt: &R, alloc: Global) -> Result<(), RunFault> {
+    fn overwrite<R: SystemFiles>(&self, rt: &R, alloc: Global) -> Result<(), RunFault> {
         overwrite(rt, alloc, &self.paths, self.contents(), self.read)
     }
 }
@@ -125,12 +125,12 @@ impl ChangedFile {
 /// # Errors
 ///
 /// Where there is no memory for that nothing is done.
-pub fn save_together<R: Files>(
+pub fn save_together<R: SystemFiles>(
     rt: &R,
     alloc: Global,
     files: &[&ChangedFile],
 ) -> Result<Vec<Attempt>, AllocError> {
-    let mut saves = new_saves::<R::File>(alloc, files)?;
+    let mut saves = new_saves(alloc, files)?;
     let mut attempts = Vec::with_capacity(alloc, files.len())?;
     for _ in files {
         attempts.push(Attempt::Refused)?;
@@ -143,10 +143,7 @@ pub fn save_together<R: Files>(
 }
 
 /// Returns the saves of files, in their order, each of one file's text and journal under its names.
-fn new_saves<'a, F: Drop>(
-    alloc: Global,
-    files: &[&'a ChangedFile],
-) -> Result<Vec<Save<'a, F>>, AllocError>
+fn new_saves<'a>(alloc: Global, files: &[&'a ChangedFile]) -> Result<Vec<Save<'a>>, AllocError>
     ensures texts { IfOk result (λ saves. map (λ save. save.text.bytes.now) saves.items
         ≡ map (λ file. file.now.text.items) files.now) }
     ensures journals { IfOk result (λ saves. map (λ save. save.journal.bytes.now) saves.items

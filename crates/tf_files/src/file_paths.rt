@@ -1,12 +1,13 @@
 //! The names of a file, of its journal, and of the new files that are to replace them.
 
-ghost use Rattle.std.specs.Prelude.{◌≡◌, IfOk, IfErr, string_bytes};
+ghost use Rattle.std.specs.Prelude.{◌≡◌, true, IfOk, IfErr, string_bytes};
+ghost use Rattle.tf_files.specs.Opening.{is_file_fault};
 
-use crate::adoption::can_adopt;
+use crate::folder::{Folder, SystemFiles};
+use crate::trust::{Access, caller};
 use std::alloc::{AllocError, Global};
-use std::fs;
+use std::fs::{self, Metadata};
 use std::io::{self, ErrorKind};
-use std::rt::Files;
 use tf_session::RunFault;
 
 /// The suffix that the name of a journal adds to that of its file.
@@ -18,81 +19,281 @@ const NEW_TEXT: &str = ".tfnew";
 /// The suffix that the name of a new journal adds to that of the journal that it is to replace.
 const NEW_JOURNAL: &str = ".new";
 
-/// The names of a file, of its journal, and of the new files that are to replace them. If a name is
-/// a link, the new file is next to the file that the link leads to, so that the link stays.
+/// So many links are followed, each leading to the next. No more does Linux follow.
+const MOST_LINKS: u32 = 40;
+
+/// A name in an open folder.
+#[derive(Drop)]
+struct Place {
+    folder: Folder,
+    name: String,
+}
+
+/// Where a file and its journal are.
+#[derive(Drop)]
+struct Places {
+    /// The file by the name that was given.
+    given: Place,
+    /// What that leads to, if it is a link to a name.
+    text: Option<Place>,
+    /// What the journal leads to, if it is a link.
+    journal: Option<Place>,
+    /// Whether the file is a link to what has no name, as `/dev/stdin` may be.
+    is_text_link: bool,
+}
+
+/// The paths of a file, of its journal, and of the new files that are to replace them. If a file is
+/// a link, the new file is next to what the link leads to, so that the link stays. Each path begins
+/// at the handle of an open folder.
 #[derive(Drop)]
 pub struct FilePaths {
-    /// The name of the file as it was given. The file is read and overwritten by this name: what
-    /// `/dev/stdin` leads to has a name that cannot be opened.
+    /// The name of the file as it was given.
+    pub name: String,
+    places: Places,
     pub text: String,
-    /// The name of the file that `text` leads to.
-    pub real_text: String,
     pub new_text: String,
-    /// The name of the file that `text` with the suffix leads to.
     pub journal: String,
     pub new_journal: String,
 }
 
+/// The four paths.
+#[derive(Drop)]
+struct FourPaths {
+    text: String,
+    new_text: String,
+    journal: String,
+    new_journal: String,
+}
+
 impl FilePaths {
-    /// Returns the names for a file of this name.
+    /// Opens the folders of a file with this name, and returns the paths.
     ///
     /// # Errors
     ///
-    /// `Memory`.
-    pub fn of<R: Files>(rt: &R, alloc: Global, name: &str) -> Result<FilePaths, RunFault>
-        ensures text { IfOk result (λ paths. string_bytes paths.text ≡ name.now) }
-        ensures fault { IfErr result (λ fault. fault ≡ RunFault.Memory) }
+    /// `Memory`; `Read` if a folder can't be opened, or the journal is a link that may not be
+    /// followed.
+    pub fn of<R: SystemFiles>(rt: &R, alloc: Global, name: &str) -> Result<FilePaths, RunFault>
+        ensures name { IfOk result (λ paths. string_bytes paths.name ≡ name.now) }
+        ensures fault { IfErr result (λ fault. is_file_fault fault ≡ true) }
     {
-        let text = String::from_str(alloc, name)?;
-        let real_text = String::from_str(alloc, name)?;
-        let real_text = resolve(rt, alloc, real_text)?;
-        let new_text = with_suffix(alloc, real_text.as_str(), NEW_TEXT)?;
-        let journal = with_suffix(alloc, name, JOURNAL)?;
-        let journal = resolve(rt, alloc, journal)?;
-        let new_journal = with_suffix(alloc, journal.as_str(), NEW_JOURNAL)?;
+        let given = Place::open(rt, alloc, "", name)?;
+        let places = Places::of(rt, alloc, given)?;
+        let paths = places.paths(alloc)?;
+        let name = String::from_str(alloc, name)?;
         Ok(FilePaths {
+            name,
+            places,
+            text: paths.text,
+            new_text: paths.new_text,
+            journal: paths.journal,
+            new_journal: paths.new_journal,
+        })
+    }
+
+    /// Returns the folder of the text.
+    pub fn text_folder(&self) -> &Folder {
+        match &self.places.text {
+            Some(text) => &text.folder,
+            None => &self.places.given.folder,
+        }
+    }
+
+    /// Returns the folder of the journal.
+    pub fn journal_folder(&self) -> &Folder {
+        match &self.places.journal {
+            Some(journal) => &journal.folder,
+            None => &self.places.given.folder,
+        }
+    }
+
+    /// Returns what is found under the path of the text. What a link leads to counts only where it
+    /// has no name of its own, as what `/dev/stdin` leads to: what other programs put in the place
+    /// of a file is not followed.
+    ///
+    /// # Errors
+    ///
+    /// Those of the system's calls.
+    pub fn look_at_text<R: SystemFiles>(&self, rt: &R) -> io::Result<Metadata> {
+        if self.places.is_text_link {
+            fs::metadata(rt, &self.text)
+        } else {
+            fs::symlink_metadata(rt, &self.text)
+        }
+    }
+}
+
+impl Places {
+    /// Returns where the file and its journal are, of which the file has this name.
+    fn of<R: SystemFiles>(rt: &R, alloc: Global, given: Place) -> Result<Places, RunFault>
+        ensures { IfErr result (λ fault. is_file_fault fault ≡ true) }
+    {
+        let is_link = given.is_link(rt, alloc, "")?;
+        let text = if is_link {
+            given.end_of_links(rt, alloc)?
+        } else {
+            None
+        };
+        let journal = given.linked_journal(rt, alloc)?;
+        let is_text_link = is_link && text.is_none();
+        Ok(Places {
+            given,
             text,
-            real_text,
+            journal,
+            is_text_link,
+        })
+    }
+
+    /// Returns the paths of the files at these places.
+    fn paths(&self, alloc: Global) -> Result<FourPaths, AllocError> {
+        let of_text = self.text.as_ref().unwrap_or(&self.given);
+        let text = of_text.path(alloc, "", "")?;
+        let new_text = of_text.path(alloc, NEW_TEXT, "")?;
+        let (of_journal, suffix) = match &self.journal {
+            Some(journal) => (journal, ""),
+            None => (&self.given, JOURNAL),
+        };
+        let journal = of_journal.path(alloc, suffix, "")?;
+        let new_journal = of_journal.path(alloc, suffix, NEW_JOURNAL)?;
+        Ok(FourPaths {
+            text,
             new_text,
             journal,
             new_journal,
         })
     }
+}
 
-    /// Returns the name of the journal that belongs to the text: the new one if a command was
-    /// interrupted after it had replaced the text.
+impl Place {
+    /// Opens the folder of a name. One that does not begin with a slash is joined to `base`, which
+    /// is empty or ends in a slash.
+    fn open<R: SystemFiles>(
+        rt: &R,
+        alloc: Global,
+        base: &str,
+        name: &str,
+    ) -> Result<Place, RunFault>
+        ensures { IfErr result (λ fault. is_file_fault fault ≡ true) }
+    {
+        let base = if name.starts_with('/') { "" } else { base };
+        let (folder, last) = match name.rsplit_once('/') {
+            Some((folder, last)) => (format!(in alloc; "{base}{folder}/")?, last),
+            None => (String::from_str(alloc, base)?, name),
+        };
+        let name = String::from_str(alloc, last)?;
+        let folder = Folder::open(rt, alloc, folder)?;
+        Ok(Place { folder, name })
+    }
+
+    /// Returns the path of this name, with the suffixes.
+    fn path(&self, alloc: Global, suffix: &str, second: &str) -> Result<String, AllocError> {
+        let prefix = self.folder.prefix();
+        let name = self.name.as_str();
+        format!(in alloc; "{prefix}{name}{suffix}{second}")
+    }
+
+    /// Returns what has this name with the suffix; none if nothing has, or the system doesn't say.
+    fn look<R: SystemFiles>(
+        &self,
+        rt: &R,
+        alloc: Global,
+        suffix: &str,
+    ) -> Result<Option<Metadata>, AllocError> {
+        let path = self.path(alloc, suffix, "")?;
+        Ok(fs::symlink_metadata(rt, &path).ok())
+    }
+
+    /// Returns whether this name with the suffix is that of a link.
+    fn is_link<R: SystemFiles>(
+        &self,
+        rt: &R,
+        alloc: Global,
+        suffix: &str,
+    ) -> Result<bool, AllocError> {
+        match self.look(rt, alloc, suffix)? {
+            Some(found) => Ok(found.is_symlink()),
+            None => Ok(false),
+        }
+    }
+
+    /// Returns what this name leads to: of links that lead one to the next, what the last one leads
+    /// to. None where it leads to nothing that has a name.
+    fn end_of_links<R: SystemFiles>(&self, rt: &R, alloc: Global) -> Result<Option<Place>, RunFault>
+        ensures { IfErr result (λ fault. is_file_fault fault ≡ true) }
+    {
+        let Some(mut place) = self.follow(rt, alloc, "")? else {
+            return Ok(None);
+        };
+        for _ in 0..MOST_LINKS {
+            if !place.is_link(rt, alloc, "")? {
+                let is_found = place.look(rt, alloc, "")?.is_some();
+                return Ok(is_found.then_some(place));
+            }
+            match place.follow(rt, alloc, "")? {
+                Some(next) => place = next,
+                None => return Ok(None),
+            }
+        }
+        Ok(None)
+    }
+
+    /// Returns what the link of this name with the suffix leads to; none if the system doesn't say
+    /// it in UTF-8.
+    fn follow<R: SystemFiles>(
+        &self,
+        rt: &R,
+        alloc: Global,
+        suffix: &str,
+    ) -> Result<Option<Place>, RunFault>
+        ensures { IfErr result (λ fault. is_file_fault fault ≡ true) }
+    {
+        let path = self.path(alloc, suffix, "")?;
+        match rt.read_link(alloc, path.as_str()) {
+            Ok(link) => {
+                let place = Place::open(rt, alloc, self.folder.prefix(), link.as_str())?;
+                Ok(Some(place))
+            }
+            Err(error) if error.kind() == ErrorKind::OutOfMemory => Err(RunFault::Memory),
+            Err(_) => Ok(None),
+        }
+    }
+
+    /// Returns what the journal of the file of this name leads to, if it is a link.
     ///
     /// # Errors
     ///
-    /// `Read` if the system does not report whether a file exists.
-    pub fn current_journal<R: Files>(&self, rt: &R, alloc: Global) -> Result<&str, RunFault> {
-        let is_new = is_found(rt, &self.new_journal)?
-            && !is_found(rt, &self.new_text)?
-            && can_adopt(rt, alloc, &self.text, &self.journal, &self.new_journal)?;
-        Ok(if is_new {
-            self.new_journal.as_str()
-        } else {
-            self.journal.as_str()
-        })
+    /// `Memory`; `Read` if the link may not be followed.
+    fn linked_journal<R: SystemFiles>(
+        &self,
+        rt: &R,
+        alloc: Global,
+    ) -> Result<Option<Place>, RunFault>
+        ensures { IfErr result (λ fault. is_file_fault fault ≡ true) }
+    {
+        let link = match self.look(rt, alloc, JOURNAL)? {
+            Some(found) if found.is_symlink() => found,
+            _ => return Ok(None),
+        };
+        let Some(target) = self.follow(rt, alloc, JOURNAL)? else {
+            return Err(RunFault::Read);
+        };
+        match target.look(rt, alloc, "")? {
+            Some(found) if target.may_be_journal(rt, &link, &found) => Ok(Some(target)),
+            _ => Err(RunFault::Read),
+        }
+    }
+
+    /// Returns whether a link may make the file of this name a journal: it has the name of one, and
+    /// the link belongs to the caller, or to the owner of the file.
+    fn may_be_journal<R: SystemFiles>(&self, rt: &R, link: &Metadata, file: &Metadata) -> bool {
+        let link = Access::of(link);
+        self.name.as_str().ends_with(JOURNAL)
+            && (link.is_of(caller(rt)) || link.has_owner_of(&Access::of(file)))
     }
 }
 
-/// Returns whether there is a file of this name.
-///
-/// # Errors
-///
-/// `Read` if the system does not report it.
-fn is_found<R: Files>(rt: &R, name: &str) -> Result<bool, RunFault> {
-    match fs::symlink_metadata(rt, name) {
-        Ok(_) => Ok(true),
-        Err(error) if is_not_found(&error) => Ok(false),
-        Err(_) => Err(RunFault::Read),
-    }
-}
-
-/// Returns true only if the system reports that no file has this name.
-pub fn is_absent<R: Files>(rt: &R, name: &str) -> bool {
-    match fs::symlink_metadata(rt, name) {
+/// Returns true only if the system reports that no file has this path.
+pub fn is_absent<R: SystemFiles>(rt: &R, path: &str) -> bool {
+    match fs::symlink_metadata(rt, path) {
         Ok(_) => false,
         Err(error) => is_not_found(&error),
     }
@@ -105,23 +306,4 @@ pub fn is_not_found(error: &io::Error) -> bool {
         error.kind(),
         ErrorKind::NotFound | ErrorKind::InvalidFilename
     )
-}
-
-/// Returns the name of the file that a name leads to; the name itself if the system does not report
-/// it.
-fn resolve<R: Files>(rt: &R, alloc: Global, name: String) -> Result<String, RunFault>
-    ensures { IfErr result (λ fault. fault ≡ RunFault.Memory) }
-{
-    match rt.canonicalize(alloc, name.as_str()) {
-        Ok(path) => Ok(path.into_string()),
-        Err(error) if error.kind() == ErrorKind::OutOfMemory => Err(RunFault::Memory),
-        Err(_) => Ok(name),
-    }
-}
-
-/// Returns a name with the suffix added.
-fn with_suffix(alloc: Global, name: &str, suffix: &str) -> Result<String, AllocError> {
-    let mut joined = String::from_str(alloc, name)?;
-    joined.push_str(suffix)?;
-    Ok(joined)
 }

@@ -4,10 +4,10 @@ ghost use Rattle.std.specs.Prelude.{◌≡◌, ◌↔◌, true};
 ghost use Rattle.tf_files.specs.Common.{IsFileOf, IsSomeFileOf, HaveCommon};
 
 use crate::file_paths::{FilePaths, is_absent, is_not_found};
+use crate::folder::SystemFiles;
 use std::alloc::Global;
 use std::fs::{self, Metadata, OpenFile};
 use std::os::unix::fs::MetadataExt;
-use std::rt::Files;
 
 /// What identifies a file or a directory, whatever its names are.
 #[derive(Clone, Copy, PartialEq, Eq)]
@@ -48,7 +48,7 @@ impl FoundFiles {
     /// Returns the files of a file with this name. None where the text, or a journal that is there,
     /// is no regular file, or the system does not say, or memory runs out: then it may have
     /// anything in common with others.
-    pub fn of_name<R: Files>(rt: &R, alloc: Global, name: &str) -> Option<FoundFiles> {
+    pub fn of_name<R: SystemFiles>(rt: &R, alloc: Global, name: &str) -> Option<FoundFiles> {
         match FilePaths::of(rt, alloc, name) {
             Ok(paths) => FoundFiles::of(rt, &paths),
             Err(_) => None,
@@ -57,7 +57,7 @@ impl FoundFiles {
 
     /// Returns the files at these paths. None where the text, or a journal that is there, is no
     /// regular file, or the system does not say.
-    pub fn of<R: Files>(rt: &R, paths: &FilePaths) -> Option<FoundFiles> {
+    pub fn of<R: SystemFiles>(rt: &R, paths: &FilePaths) -> Option<FoundFiles> {
         let text = regular_file(rt, &paths.text)?;
         let journal = journal_file(rt, &paths.journal)?;
         let new_text = new_file(rt, &paths.new_text)?;
@@ -102,7 +102,7 @@ impl FoundFiles {
 }
 
 /// Returns the id of the file that this name leads to, if it is a regular one.
-fn regular_file<R: Files>(rt: &R, name: &str) -> Option<FileId> {
+fn regular_file<R: SystemFiles>(rt: &R, name: &str) -> Option<FileId> {
     match fs::metadata(rt, name) {
         Ok(found) if found.is_file() => Some(FileId::of(&found)),
         _ => None,
@@ -111,7 +111,7 @@ fn regular_file<R: Files>(rt: &R, name: &str) -> Option<FileId> {
 
 /// Returns the id of a journal, or `Some(None)` if nothing has its name; none where something else
 /// has, such as a link to nothing, or the system does not say.
-fn journal_file<R: Files>(rt: &R, name: &str) -> Option<Option<FileId>> {
+fn journal_file<R: SystemFiles>(rt: &R, name: &str) -> Option<Option<FileId>> {
     if is_absent(rt, name) {
         Some(None)
     } else {
@@ -121,7 +121,7 @@ fn journal_file<R: Files>(rt: &R, name: &str) -> Option<Option<FileId>> {
 
 /// Returns the id of what an interrupted command has left under this name, or `Some(None)` if it
 /// has left nothing; none if the system does not say.
-fn new_file<R: Files>(rt: &R, name: &str) -> Option<Option<FileId>> {
+fn new_file<R: SystemFiles>(rt: &R, name: &str) -> Option<Option<FileId>> {
     match fs::symlink_metadata(rt, name) {
         Ok(found) => Some(Some(FileId::of(&found))),
         Err(error) if is_not_found(&error) => Some(None),

@@ -5,33 +5,23 @@ ghost use Rattle.tf_session.specs.Invocations.{is_limit};
 ghost use Rattle.tf_files.specs.FileEffects.{IsToSave, HasEffectOnFile, HasNoEffectOnFile};
 ghost use Rattle.tf_files.specs.Opening.{is_file_fault};
 
+use crate::adoption::{can_adopt, has_good_journal};
 use crate::changed_file::ChangedFile;
-use crate::file_paths::{FilePaths, is_absent, is_not_found};
-use crate::found_files::FoundFiles;
+use crate::file_paths::FilePaths;
+use crate::folder::SystemFiles;
+use crate::found_files::{FileId, FoundFiles};
+use crate::leftovers::{Leftovers, open_found};
+use crate::reading::{ReadContents, read, read_with};
 use crate::saves::recover;
-use crate::snapshot::{Snapshot, Snapshots};
+use crate::snapshot::Snapshots;
 use std::alloc::Global;
-use std::io::{ErrorKind, Read};
-use std::rt::Files;
-use std::{fs, io};
-use tf_session::{
-    Command, Done, Effect, RunFault, SavedTexts, Session, Told, invoke, take_journal, take_text,
-};
+use tf_session::{Command, Done, Effect, RunFault, SavedTexts, Session, invoke};
 
 /// A file and its journal, as they were read. A journal that is not there is the empty one.
 #[derive(Drop)]
 pub struct JournaledFile {
     paths: FilePaths,
     contents: ReadContents,
-}
-
-/// What was read of a file and its journal.
-#[derive(Drop)]
-struct ReadContents {
-    text: Vec<u8>,
-    journal: Vec<u8>,
-    /// Both files from before they were read; none if the system does not say.
-    seen: Option<Snapshots>,
 }
 
 /// What a command did to a file. Nothing is written yet.
@@ -59,13 +49,17 @@ impl JournaledFile {
     ///
     /// Those of [`recover`] and of `load` of tf_session, for a file that can't be opened as for one
     /// that can't be read: `Read`. `Memory`.
-    pub fn open<R: Files>(rt: &R, alloc: Global, name: &str) -> Result<JournaledFile, RunFault>
-        ensures name { IfOk result (λ file. string_bytes file.paths.text ≡ name.now) }
+    pub fn open<R: SystemFiles>(
+        rt: &R,
+        alloc: Global,
+        name: &str,
+    ) -> Result<JournaledFile, RunFault>
+        ensures name { IfOk result (λ file. string_bytes file.paths.name ≡ name.now) }
         ensures fault { IfErr result (λ fault. is_file_fault fault ≡ true) }
     {
         let paths = FilePaths::of(rt, alloc, name)?;
-        recover(rt, alloc, &paths)?;
-        let contents = read(rt, alloc, &paths.text, &paths.journal)?;
+        recover_left(rt, alloc, &paths)?;
+        let contents = read(rt, alloc, &paths)?;
         Ok(JournaledFile { paths, contents })
     }
 
@@ -75,7 +69,7 @@ impl JournaledFile {
     /// # Errors
     ///
     /// As those of [`tf_session::invoke`]: nothing is to be saved.
-    pub fn change<R: Files>(
+    pub fn change<R: SystemFiles>(
         self,
         rt: &R,
         alloc: Global,
@@ -92,7 +86,7 @@ impl JournaledFile {
             journal,
             seen,
         } = contents;
-        match invoke(alloc, &mut text, journal, command, &paths.text) {
+        match invoke(alloc, &mut text, journal, command, &paths.name) {
             Ok(Effect { done, saved, lines }) => Ok(FileEffect {
                 done,
                 lines,
@@ -104,7 +98,7 @@ impl JournaledFile {
 }
 
 /// Returns the file with the texts that are to be saved, if there are any.
-fn to_save<R: Files>(
+fn to_save<R: SystemFiles>(
     rt: &R,
     paths: FilePaths,
     read: Option<Snapshots>,
@@ -113,7 +107,11 @@ fn to_save<R: Files>(
     ensures { IsToSave paths read saved result }
 {
     let SavedTexts { text, journal } = saved?;
-    let found = FoundFiles::of(rt, &paths);
+    let found = if paths.text_folder().can_open_more() {
+        FoundFiles::of(rt, &paths)
+    } else {
+        None
+    };
     Some(ChangedFile {
         paths,
         read,
@@ -123,85 +121,76 @@ fn to_save<R: Files>(
     })
 }
 
-/// Reads a file and its journal, and writes nothing.
+/// Recovers from a command that was interrupted, if it has left new files and the journal can be
+/// decoded: else nothing is removed or renamed.
 ///
 /// # Errors
 ///
-/// Those of `FilePaths::current_journal` and of `load` of tf_session; `Read` for a file that can't
-/// be opened; `Memory`.
-pub fn load_read_only<R: Files>(rt: &R, alloc: Global, name: &str) -> Result<Session, RunFault> {
-    let paths = FilePaths::of(rt, alloc, name)?;
-    read_session(rt, alloc, &paths.text, paths.current_journal(rt, alloc)?)
-}
-
-/// A journal that is there and cannot be opened: its first read fails.
-#[derive(Drop)]
-struct Unreadable;
-
-impl Read for Unreadable {
-    fn read(&mut self, _buf: &mut [u8]) -> io::Result<usize> {
-        Err(io::Error::from(ErrorKind::PermissionDenied))
+/// Those of [`recover`]; `Read` if a file there may not be taken for a new one; `Memory`.
+fn recover_left<R: SystemFiles>(rt: &R, alloc: Global, paths: &FilePaths) -> Result<(), RunFault>
+    ensures { IfErr result (λ fault. is_file_fault fault ≡ true) }
+{
+    let left = Leftovers::of(rt, paths)?;
+    if left.are_none() {
+        return Ok(());
+    }
+    match has_good_journal(rt, alloc, paths) {
+        Ok(true) => recover(rt, alloc, paths, left),
+        // the command itself will say what is wrong with it
+        Ok(false) => Ok(()),
+        Err(RunFault::Memory) => Err(RunFault::Memory),
+        Err(RunFault::Endless) => Err(RunFault::Endless),
+        Err(_) => Err(RunFault::Read),
     }
 }
 
-/// Reads a text and a journal of these names.
+/// Reads a file and its journal, and writes nothing. The journal is the new one if it has yet to
+/// replace the old one, as the next command would have it.
 ///
 /// # Errors
 ///
-/// Those of `load` of tf_session; `Read` for a file that can't be opened.
-pub fn read_session<R: Files>(
+/// Those of `load` of tf_session; `Read` for a file that can't be opened, or may not be taken for a
+/// journal or a new file; `Memory`.
+pub fn load_read_only<R: SystemFiles>(
     rt: &R,
     alloc: Global,
-    text: &str,
-    journal: &str,
+    name: &str,
 ) -> Result<Session, RunFault> {
-    let ReadContents { text, journal, .. } = read(rt, alloc, text, journal)?;
-    Session::from_texts(alloc, text, journal)
+    let paths = FilePaths::of(rt, alloc, name)?;
+    let contents = read_current(rt, alloc, &paths)?;
+    Session::from_texts(alloc, contents.text, contents.journal)
 }
 
-/// Reads a text and a journal. What they were is found out by the handles that are read, since
-/// another program may put other files in the place of the names. A journal that is not there is
-/// the empty one; a link to nothing is no such journal, since to write it would create a file
-/// wherever the link leads.
-fn read<R: Files>(
+/// Reads a file and the journal that belongs to it: the new one if a command was interrupted after
+/// it had replaced the text.
+fn read_current<R: SystemFiles>(
     rt: &R,
     alloc: Global,
-    text: &str,
-    journal: &str,
-) -> Result<ReadContents, RunFault>
-    ensures { IfErr result (λ fault. is_file_fault fault ≡ true) }
-{
-    let Ok(text) = fs::open(rt, text) else {
+    paths: &FilePaths,
+) -> Result<ReadContents, RunFault> {
+    let left = Leftovers::of(rt, paths)?;
+    let Some(id) = left.lone_journal() else {
+        return read(rt, alloc, paths);
+    };
+    let Some(new) = open_found(rt, &paths.new_journal, id) else {
         return Err(RunFault::Read);
     };
-    let seen = Snapshot::of_opened(&text);
-    match fs::open(rt, journal) {
-        Ok(journal) => {
-            let seen = Snapshots::with_journal(seen, Snapshot::of_opened(&journal));
-            read_both(alloc, text, journal, seen)
-        }
-        Err(error) if is_not_found(&error) && is_absent(rt, journal) => {
-            let seen = Snapshots::without_journal(seen);
-            read_both(alloc, text, b"".as_slice(), seen)
-        }
-        Err(_) => read_both(alloc, text, Unreadable, None),
+    if has_good_journal(rt, alloc, paths)? && can_adopt(rt, alloc, paths, &new)? {
+        reread_with(rt, alloc, paths, id)
+    } else {
+        read(rt, alloc, paths)
     }
 }
 
-/// Reads a text and then a journal, each up to its end.
-fn read_both<T: Read + Drop, J: Read + Drop>(
+/// Reads a file and its new journal, which has this id.
+fn reread_with<R: SystemFiles>(
+    rt: &R,
     alloc: Global,
-    text: T,
-    journal: J,
-    seen: Option<Snapshots>,
-) -> Result<ReadContents, RunFault>
-    ensures { IfErr result (λ fault. is_file_fault fault ≡ true) }
-{
-    let text = take_text(alloc, &mut Told::new(text))?;
-    let journal = take_journal(alloc, &mut Told::new(journal))?;
-    Ok(ReadContents {
-        text,
-        journal,
-        seen,
-    })
+    paths: &FilePaths,
+    id: FileId,
+) -> Result<ReadContents, RunFault> {
+    match open_found(rt, &paths.new_journal, id) {
+        Some(new) => read_with(rt, alloc, paths, &new),
+        None => Err(RunFault::Read),
+    }
 }

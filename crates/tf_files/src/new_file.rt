@@ -1,25 +1,32 @@
 //! The new file that is to replace an old one.
 
-ghost use Rattle.std.specs.Prelude.{◌≡◌, bit_and};
-ghost use Rattle.std.specs.Fs.{metadata_mode, permissions_mode};
+ghost use Rattle.std.specs.Prelude.{◌≡◌};
+ghost use Rattle.tf_files.specs.Modes.{first_journal_mode};
 
 use crate::calls::{NewFile, PartFile, reply_to};
 use crate::file_paths::{FilePaths, is_not_found};
+use crate::folder::SystemFiles;
 use crate::found_files::FileId;
-use crate::owner::copy_owner;
 use crate::snapshot::Snapshot;
-use std::fs::{self, Metadata, OpenFile, OpenOptions, Permissions};
+use std::fs::{self, File, Metadata, OpenFile, OpenOptions, Permissions};
 use std::io::{self, ErrorKind, Seek, Write};
-use std::os::unix::fs::{MetadataExt, OpenOptionsExt, PermissionsExt};
-use std::rt::Files;
+use std::os::unix::fs::{MetadataExt, OpenOptionsExt, PermissionsExt, fchown};
 use tf_saving::{Reply, SavedFile};
 
 /// The mode of a new file until it gets that of the old one, so that nobody else can open it.
 pub const PRIVATE: u32 = 0o600;
 
+/// The bits of a mode by which a file is read and written: all, those of all but the owner, and those
+/// of all but owner and group.
+const READ_AND_WRITE: u32 = 0o666;
+
+const SHARED: u32 = 0o066;
+
+const OTHERS: u32 = 0o006;
+
 /// Creates the new file, empty. What is no regular file is not replaced, nor one with other names,
 /// which would keep the old text.
-pub fn create_new<R: Files>(rt: &R, file: &mut PartFile<'_, R::File>) -> Reply {
+pub fn create_new<R: SystemFiles>(rt: &R, file: &mut PartFile<'_>) -> Reply {
     match fs::symlink_metadata(rt, file.own) {
         Ok(old) if old.is_file() && old.nlink() == 1 => {}
         Ok(_) => return Reply::CannotReplace,
@@ -30,7 +37,7 @@ pub fn create_new<R: Files>(rt: &R, file: &mut PartFile<'_, R::File>) -> Reply {
     options.write(true).create_new(true).mode(PRIVATE);
     match options.open(rt, file.new) {
         Ok(created) => {
-            file.new_file = NewFile::Created(created);
+            file.new_file = NewFile::Open(created);
             Reply::Done
         }
         Err(error) if error.kind() == ErrorKind::AlreadyExists => reply_if_taken(rt, file.new),
@@ -45,7 +52,7 @@ pub fn create_new<R: Files>(rt: &R, file: &mut PartFile<'_, R::File>) -> Reply {
 /// Returns the reply where the new file's name is taken, though a recovery has just removed what
 /// had it: it could not remove it, or another program has created it since. A removal by the call
 /// for another kind of file shows which, and removes nothing.
-fn reply_if_taken<R: Files>(rt: &R, name: &str) -> Reply {
+fn reply_if_taken<R: SystemFiles>(rt: &R, name: &str) -> Reply {
     let removed = match fs::symlink_metadata(rt, name) {
         Ok(found) if found.is_dir() => fs::remove_file(rt, name),
         Ok(_) => fs::remove_dir(rt, name),
@@ -77,8 +84,8 @@ fn is_ruled_out(error: &io::Error) -> bool {
 /// Gives the new file the owner, group and mode of the old one; a first journal those of the text's
 /// file. Where the old one is not the file that was read, it may have an owner or a mode that no
 /// new file is to have here, such as root's.
-pub fn copy_attributes<R: Files>(rt: &R, part: SavedFile, file: &PartFile<'_, R::File>) -> Reply {
-    let (Some(read), NewFile::Created(created)) = (file.read, &file.new_file) else {
+pub fn copy_attributes<R: SystemFiles>(rt: &R, part: SavedFile, file: &PartFile<'_>) -> Reply {
+    let (Some(read), NewFile::Open(created)) = (file.read, &file.new_file) else {
         return Reply::Failed;
     };
     match (part, read.journal) {
@@ -90,9 +97,9 @@ pub fn copy_attributes<R: Files>(rt: &R, part: SavedFile, file: &PartFile<'_, R:
 
 /// Gives the new file the owner, group and mode of a file that was read. The owner comes first,
 /// since a change of it takes bits of the mode away.
-fn make_like<R: Files>(rt: &R, name: &str, seen: Snapshot, created: &R::File) -> Reply {
+fn make_like<R: SystemFiles>(rt: &R, name: &str, seen: Snapshot, created: &File) -> Reply {
     match fs::symlink_metadata(rt, name) {
-        Ok(old) if Snapshot::of_found(&old) == seen => match copy_owner(rt, &old, created) {
+        Ok(old) if Snapshot::of_found(&old) == seen => match copy_owner(&old, created) {
             Reply::Done => set_permissions(created, old.permissions()),
             reply => reply,
         },
@@ -103,41 +110,95 @@ fn make_like<R: Files>(rt: &R, name: &str, seen: Snapshot, created: &R::File) ->
 }
 
 /// Returns whether what was found is the new file itself.
-fn is_created<F: OpenFile>(found: &Metadata, created: &F) -> bool {
+fn is_created(found: &Metadata, created: &File) -> bool {
     match created.metadata() {
         Ok(own) => FileId::of(found) == FileId::of(&own),
         Err(_) => false,
     }
 }
 
-/// Gives a first journal the owner and group of the text's file, and of its mode what a journal
-/// needs.
-pub fn make_first_journal<R: Files>(
-    rt: &R,
-    paths: &FilePaths,
-    seen: Snapshot,
-    created: &R::File,
-) -> Reply {
-    match fs::metadata(rt, &paths.text) {
-        Ok(text) if Snapshot::of_found(&text) == seen => match copy_owner(rt, &text, created) {
-            Reply::Done => set_permissions(created, journal_permissions(&text)),
-            reply => reply,
-        },
-        _ => Reply::Failed,
+/// Gives an open file the owner and group of the old one, unless it has them already. It is done by
+/// the handle, since another program may have put any file in the place of the name.
+fn copy_owner(old: &Metadata, file: &File) -> Reply {
+    match file.metadata() {
+        Ok(new) if new.uid() == old.uid() && new.gid() == old.gid() => Reply::Done,
+        Ok(_) => reply_to_owner(fchown(file, Some(old.uid()), Some(old.gid()))),
+        Err(_) => Reply::Failed,
     }
 }
 
-/// Returns the permissions of a first journal. It is read and written as the text is, and never
-/// run.
-fn journal_permissions(text: &Metadata) -> Permissions
-    ensures { permissions_mode result ≡ bit_and (metadata_mode text.now) 0o666 }
+/// Returns the reply to a change of the owner: `CannotReplace` if the file can't have this one.
+fn reply_to_owner(answer: io::Result<()>) -> Reply {
+    match answer {
+        Ok(()) => Reply::Done,
+        // no user of this number is known here
+        Err(error) if error.kind() == ErrorKind::InvalidInput => Reply::CannotReplace,
+        Err(error) => reply_to_refusal(&error),
+    }
+}
+
+/// Gives a first journal the owner and group of the text's file, and of its mode what a journal
+/// needs.
+fn make_first_journal<R: SystemFiles>(
+    rt: &R,
+    paths: &FilePaths,
+    seen: Snapshot,
+    created: &File,
+) -> Reply {
+    let Some(text) = find_seen_text(rt, paths, seen) else {
+        return Reply::Failed;
+    };
+    match copy_owner(&text, created) {
+        Reply::Done => {
+            let mode = first_journal_mode(text.permissions().mode(), true, true);
+            set_permissions(created, Permissions::from_mode(mode))
+        }
+        reply => reply,
+    }
+}
+
+/// Gives a first journal, which is written in place, as much of that as the system lets it: the
+/// owner and the group, or the group alone, and a mode for those of them that it has.
+pub fn adapt_first_journal<R: SystemFiles>(
+    rt: &R,
+    paths: &FilePaths,
+    seen: Snapshot,
+    created: &File,
+) {
+    if let Some(text) = find_seen_text(rt, paths, seen) {
+        let has_owner = matches!(copy_owner(&text, created), Reply::Done);
+        let has_group = has_owner || fchown(created, None, Some(text.gid())).is_ok();
+        let mode = first_journal_mode(text.permissions().mode(), has_owner, has_group);
+        let _ = set_permissions(created, Permissions::from_mode(mode));
+    }
+}
+
+/// Returns what is found of the text, if it is the file that was seen.
+fn find_seen_text<R: SystemFiles>(rt: &R, paths: &FilePaths, seen: Snapshot) -> Option<Metadata> {
+    match paths.look_at_text(rt) {
+        Ok(text) if Snapshot::of_found(&text) == seen => Some(text),
+        _ => None,
+    }
+}
+
+/// Returns the mode of a first journal beside a text of this mode. It is read and written as the
+/// text is, and never run. Without the owner of the text, its own one may read and write it; without
+/// the group, its own group may not.
+fn first_journal_mode(text: u32, has_owner: bool, has_group: bool) -> u32
+    ensures { result ≡ first_journal_mode text has_owner has_group }
 {
-    Permissions::from_mode(text.permissions().mode() & 0o666)
+    if has_owner {
+        text & READ_AND_WRITE
+    } else if has_group {
+        PRIVATE | text & SHARED
+    } else {
+        PRIVATE | text & OTHERS
+    }
 }
 
 /// Gives the new file these permissions; `CannotReplace` if it can't have them, `Failed` after any
 /// other error.
-fn set_permissions<F: OpenFile>(created: &F, permissions: Permissions) -> Reply {
+fn set_permissions(created: &File, permissions: Permissions) -> Reply {
     match created.set_permissions(permissions) {
         Ok(()) => Reply::Done,
         Err(error) => reply_to_refusal(&error),
@@ -159,7 +220,7 @@ pub fn truncate<F: Write + Seek + OpenFile>(file: &mut F) -> io::Result<()> {
 /// Has the system start to write out the new file, which was emptied before it was written, by
 /// closing a handle to it. A sync then finds less to wait for, or nothing. Where it fails, that
 /// sync only takes longer.
-pub fn start_writing<R: Files>(rt: &R, file: &PartFile<'_, R::File>) {
+pub fn start_writing<R: SystemFiles>(rt: &R, file: &PartFile<'_>) {
     if matches!(find_own_new(rt, file), Reply::Done) {
         let _ = fs::open(rt, file.new);
     }
@@ -167,32 +228,44 @@ pub fn start_writing<R: Files>(rt: &R, file: &PartFile<'_, R::File>) {
 
 /// Looks whether there is a new file. That of this command is there until it has become the part:
 /// if another command has removed it, it was not renamed either.
-pub fn find_new<R: Files>(rt: &R, file: &PartFile<'_, R::File>) -> Reply {
+pub fn find_new<R: SystemFiles>(rt: &R, file: &PartFile<'_>) -> Reply {
     match &file.new_file {
-        NewFile::Created(created) => match find_created(rt, created, file.own) {
+        NewFile::Open(created) => match find_created(rt, created, file.own) {
             Reply::Done => Reply::NotFound,
             Reply::NotFound => Reply::Done,
             reply => reply,
         },
-        _ => reply_to(fs::symlink_metadata(rt, file.new)),
+        NewFile::Left(left) => find_left(rt, *left, file.new),
+        NewFile::NotCreated | NewFile::InDoubt => reply_to(fs::symlink_metadata(rt, file.new)),
     }
 }
 
-/// Looks whether the file of the new file's name is this command's own: `NotFound` where there is
-/// none, or another one. A recovery takes any for its own.
-pub fn find_own_new<R: Files>(rt: &R, file: &PartFile<'_, R::File>) -> Reply {
+/// Looks whether the file of the new file's name is this command's own, or that which was left:
+/// `NotFound` where there is none, or another command's.
+pub fn find_own_new<R: SystemFiles>(rt: &R, file: &PartFile<'_>) -> Reply {
     match &file.new_file {
-        NewFile::Left | NewFile::InDoubt => Reply::Done,
+        NewFile::Left(left) => find_left(rt, *left, file.new),
+        NewFile::InDoubt => Reply::Done,
         NewFile::NotCreated => Reply::NotFound,
-        NewFile::Created(created) => find_created(rt, created, file.new),
+        NewFile::Open(created) => find_created(rt, created, file.new),
     }
 }
 
-/// Looks whether the file of this name is the one that this command created.
-pub fn find_created<R: Files>(rt: &R, created: &R::File, name: &str) -> Reply {
-    match (created.metadata(), fs::symlink_metadata(rt, name)) {
+/// Looks whether the file of this name is the one that was left, if one was: `Failed` where another
+/// has come.
+fn find_left<R: SystemFiles>(rt: &R, left: Option<FileId>, path: &str) -> Reply {
+    match (fs::symlink_metadata(rt, path), left) {
+        (Ok(found), Some(left)) if FileId::of(&found) == left => Reply::Done,
+        (Err(error), _) if is_not_found(&error) => Reply::NotFound,
+        _ => Reply::Failed,
+    }
+}
+
+/// Looks whether the file of this name is the one with this handle.
+pub fn find_created<R: SystemFiles>(rt: &R, created: &File, path: &str) -> Reply {
+    match (created.metadata(), fs::symlink_metadata(rt, path)) {
         (Ok(created), Ok(found)) => {
-            if created.dev() == found.dev() && created.ino() == found.ino() {
+            if FileId::of(&created) == FileId::of(&found) {
                 Reply::Done
             } else {
                 Reply::NotFound

@@ -1,16 +1,16 @@
 //! Writes a text and its journal in place, where no new files can replace them.
 
-use crate::calls::sync_directory;
 use crate::file_part::{write_fault, write_part};
 use crate::file_paths::FilePaths;
-use crate::new_file::{PRIVATE, find_created, make_first_journal};
+use crate::folder::SystemFiles;
+use crate::new_file::{PRIVATE, adapt_first_journal, find_created};
 use crate::saves::NewContents;
+use crate::size_limit::size_limit;
 use crate::snapshot::{Snapshot, Snapshots};
 use std::alloc::Global;
-use std::fs::{self, OpenFile, OpenOptions};
+use std::fs::{self, File, OpenFile, OpenOptions};
 use std::io::{ErrorKind, Read, Seek, Write};
 use std::os::unix::fs::OpenOptionsExt;
-use std::rt::Files;
 use tf_saving::Reply;
 use tf_session::{RunFault, SessionPart};
 
@@ -24,7 +24,7 @@ use tf_session::{RunFault, SessionPart};
 ///
 /// `Write` with the part and the number of its bytes that were written, 0 where another program has
 /// changed a file meanwhile; `Read` and `Memory` where an old file can't be read for its backup.
-pub fn overwrite<R: Files>(
+pub fn overwrite<R: SystemFiles>(
     rt: &R,
     alloc: Global,
     paths: &FilePaths,
@@ -41,7 +41,7 @@ pub fn overwrite<R: Files>(
 }
 
 /// Overwrites the journal and the text. After an error it puts the old bytes of both back.
-fn overwrite_both<R: Files>(
+fn overwrite_both<R: SystemFiles>(
     rt: &R,
     alloc: Global,
     paths: &FilePaths,
@@ -57,6 +57,7 @@ fn overwrite_both<R: Files>(
         seen_journal,
     )?;
     let old_text = old_bytes(rt, alloc, SessionPart::Text, &paths.text, seen)?;
+    check_sizes(size_limit(rt, alloc), contents, &old_text, &old_journal)?;
     let mut journal = open_seen(rt, SessionPart::Journal, &paths.journal, seen_journal)?;
     let mut text = open_seen(rt, SessionPart::Text, &paths.text, seen)?;
     let put = write_both(&mut journal, &mut text, contents);
@@ -69,7 +70,7 @@ fn overwrite_both<R: Files>(
 
 /// Creates the journal, writes it, and overwrites the text. After an error it puts the old bytes of
 /// the text back and removes the journal.
-fn create_and_overwrite<R: Files>(
+fn create_and_overwrite<R: SystemFiles>(
     rt: &R,
     alloc: Global,
     paths: &FilePaths,
@@ -77,6 +78,7 @@ fn create_and_overwrite<R: Files>(
     seen: Snapshot,
 ) -> Result<(), RunFault> {
     let old_text = old_bytes(rt, alloc, SessionPart::Text, &paths.text, seen)?;
+    check_sizes(size_limit(rt, alloc), contents, &old_text, &None)?;
     let mut journal = create_journal(rt, paths, seen)?;
     let put = overwrite_text(rt, paths, contents, seen, &mut journal, &old_text);
     if put.is_err() {
@@ -86,15 +88,15 @@ fn create_and_overwrite<R: Files>(
 }
 
 /// Writes both, the journal into the file that was created for it.
-fn overwrite_text<R: Files>(
+fn overwrite_text<R: SystemFiles>(
     rt: &R,
     paths: &FilePaths,
     contents: NewContents<'_>,
     seen: Snapshot,
-    journal: &mut R::File,
+    journal: &mut File,
     old_text: &Option<Vec<u8>>,
 ) -> Result<(), RunFault> {
-    sync_journal_name(rt, paths)?;
+    sync_journal_name(paths)?;
     let mut text = open_seen(rt, SessionPart::Text, &paths.text, seen)?;
     if len_of(journal) != Some(0) {
         return Err(write_fault(SessionPart::Journal, 0));
@@ -122,20 +124,57 @@ fn write_both<F: Write + OpenFile>(
     sync(SessionPart::Text, text, contents.text.len())
 }
 
+/// Tests that no file would get more bytes than this limit: neither by the new bytes, nor by the old
+/// ones if they are put back.
+///
+/// # Errors
+///
+/// `Write` with no byte sent.
+fn check_sizes(
+    limit: Option<u64>,
+    contents: NewContents<'_>,
+    old_text: &Option<Vec<u8>>,
+    old_journal: &Option<Vec<u8>>,
+) -> Result<(), RunFault> {
+    check_size(limit, SessionPart::Journal, contents.journal, old_journal)?;
+    check_size(limit, SessionPart::Text, contents.text, old_text)
+}
+
+/// Tests that a part and its old bytes are within this limit.
+fn check_size(
+    limit: Option<u64>,
+    part: SessionPart,
+    new: &[u8],
+    old: &Option<Vec<u8>>,
+) -> Result<(), RunFault> {
+    let Some(limit) = limit else {
+        return Ok(());
+    };
+    let old = match old {
+        Some(bytes) => bytes.len(),
+        None => 0,
+    };
+    if new.len() as u64 <= limit && old as u64 <= limit {
+        Ok(())
+    } else {
+        Err(write_fault(part, 0))
+    }
+}
+
 /// Creates an empty journal with the owner, group and mode of the text's file, as far as the system
 /// lets it: a journal of one's own next to another's file serves as well. Where the call fails, an
 /// empty journal that is there all the same may be another command's and stays: it means what no
 /// journal means.
-fn create_journal<R: Files>(
+fn create_journal<R: SystemFiles>(
     rt: &R,
     paths: &FilePaths,
     seen: Snapshot,
-) -> Result<R::File, RunFault> {
+) -> Result<File, RunFault> {
     let mut options = OpenOptions::new();
     options.write(true).create_new(true).mode(PRIVATE);
     match options.open(rt, &paths.journal) {
         Ok(journal) => {
-            let _ = make_first_journal(rt, paths, seen, &journal);
+            adapt_first_journal(rt, paths, seen, &journal);
             Ok(journal)
         }
         Err(_) => Err(write_fault(SessionPart::Journal, 0)),
@@ -143,8 +182,8 @@ fn create_journal<R: Files>(
 }
 
 /// Waits until the name of a new journal is durable.
-fn sync_journal_name<R: Files>(rt: &R, paths: &FilePaths) -> Result<(), RunFault> {
-    match sync_directory(rt, &paths.journal) {
+fn sync_journal_name(paths: &FilePaths) -> Result<(), RunFault> {
+    match paths.journal_folder().sync() {
         Reply::Failed | Reply::NotFound => Err(write_fault(SessionPart::Journal, 0)),
         Reply::Done | Reply::CannotReplace => Ok(()),
     }
@@ -152,7 +191,7 @@ fn sync_journal_name<R: Files>(rt: &R, paths: &FilePaths) -> Result<(), RunFault
 
 /// Removes the journal that was created, unless it is known that the name leads to another file, or
 /// that another program has written into it.
-fn remove_created<R: Files>(rt: &R, journal: &R::File, name: &str) {
+fn remove_created<R: SystemFiles>(rt: &R, journal: &File, name: &str) {
     let is_own = !matches!(find_created(rt, journal, name), Reply::NotFound);
     if is_own && len_of(journal).unwrap_or(0) == 0 {
         let _ = fs::remove_file(rt, name);
@@ -173,12 +212,12 @@ fn len_of<F: OpenFile>(file: &F) -> Option<u64> {
 ///
 /// `Write` with no byte sent, also where the name leads to another file than the one that was seen,
 /// or that one has changed.
-fn open_seen<R: Files>(
+fn open_seen<R: SystemFiles>(
     rt: &R,
     part: SessionPart,
     name: &str,
     seen: Snapshot,
-) -> Result<R::File, RunFault> {
+) -> Result<File, RunFault> {
     match OpenOptions::new().write(true).open(rt, name) {
         Ok(file) if seen.is_of(&file) => Ok(file),
         _ => Err(write_fault(part, 0)),
@@ -213,7 +252,7 @@ fn is_regular_file<F: OpenFile>(file: &F) -> bool {
 
 /// Returns the bytes that are to be put back after an error. Of what is no regular file there are
 /// none.
-fn old_bytes<R: Files>(
+fn old_bytes<R: SystemFiles>(
     rt: &R,
     alloc: Global,
     part: SessionPart,

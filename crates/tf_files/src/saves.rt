@@ -5,15 +5,14 @@ ghost use Rattle.tf_files.specs.Ends.{result_of_end, part_fault, unknown_fault};
 ghost use Rattle.tf_files.specs.Ends.{attempt_of, ended_attempt, failed_attempt};
 ghost use Rattle.tf_files.specs.Opening.{is_file_fault};
 
-use crate::calls::{NewFile, PartFile, make, open_directory, sync_opened};
+use crate::calls::{NewFile, PartFile, make};
 use crate::file_part::write_fault;
 use crate::file_paths::FilePaths;
+use crate::folder::SystemFiles;
 use crate::found_files::FileId;
+use crate::leftovers::Leftovers;
 use crate::snapshot::Snapshots;
 use std::alloc::Global;
-use std::fs::OpenFile;
-use std::io::{Read, Seek, Write};
-use std::rt::Files;
 use tf_saving::{End, Reply, SavedFile, Step, Syscall};
 use tf_session::{RunFault, SessionPart};
 
@@ -29,17 +28,17 @@ const MOST_WAITS: u32 = 6;
 
 /// A save or a recovery, and how far it has come.
 #[derive(Drop)]
-pub struct Save<'a, F: Drop> {
-    pub text: PartFile<'a, F>,
-    pub journal: PartFile<'a, F>,
+pub struct Save<'a> {
+    pub text: PartFile<'a>,
+    pub journal: PartFile<'a>,
     step: Step,
-    /// The directory that it has synced in the present row of waits.
-    synced: Option<SyncedDirectory>,
+    /// The folder that it has synced in the present row of waits.
+    synced: Option<SyncedFolder>,
 }
 
-/// A directory that was synced, and the reply.
+/// A folder that was synced, and the reply.
 #[derive(Clone, Copy)]
-struct SyncedDirectory {
+struct SyncedFolder {
     id: FileId,
     reply: Reply,
 }
@@ -58,7 +57,7 @@ pub enum Attempt {
 }
 
 /// Makes the calls of saves that have no file in common. A failure of one stops no other.
-pub fn save_in_rows<R: Files>(rt: &R, alloc: Global, saves: &mut [Save<'_, R::File>]) {
+pub fn save_in_rows<R: SystemFiles>(rt: &R, alloc: Global, saves: &mut [Save<'_>]) {
     for _ in 0..MOST_WAITS {
         bring_to_waits(rt, alloc, saves);
         wait_for_all(rt, alloc, saves);
@@ -66,14 +65,14 @@ pub fn save_in_rows<R: Files>(rt: &R, alloc: Global, saves: &mut [Save<'_, R::Fi
 }
 
 /// Makes the calls of each save up to its next wait.
-fn bring_to_waits<R: Files>(rt: &R, alloc: Global, saves: &mut [Save<'_, R::File>]) {
+fn bring_to_waits<R: SystemFiles>(rt: &R, alloc: Global, saves: &mut [Save<'_>]) {
     for save in saves.iter_mut() {
         save.make_calls(rt, alloc);
     }
 }
 
 /// Makes the call that each save waits with.
-fn wait_for_all<R: Files>(rt: &R, alloc: Global, saves: &mut [Save<'_, R::File>]) {
+fn wait_for_all<R: SystemFiles>(rt: &R, alloc: Global, saves: &mut [Save<'_>]) {
     for at in 0..saves.len() {
         if let Some((before, rest)) = saves.split_at_mut_checked(at) {
             if let Some(save) = rest.first_mut() {
@@ -83,18 +82,25 @@ fn wait_for_all<R: Files>(rt: &R, alloc: Global, saves: &mut [Save<'_, R::File>]
     }
 }
 
-/// Makes the calls of a recovery.
+/// Makes the calls of a recovery from a command that has left these files.
 ///
 /// # Errors
 ///
 /// `Read` where it is not known what was interrupted; `Write` of the journal where a new one can't
 /// be removed or renamed; `Memory`.
-pub fn recover<R: Files>(rt: &R, alloc: Global, paths: &FilePaths) -> Result<(), RunFault>
+pub fn recover<R: SystemFiles>(
+    rt: &R,
+    alloc: Global,
+    paths: &FilePaths,
+    left: Leftovers,
+) -> Result<(), RunFault>
     ensures { IfErr result (λ fault. is_file_fault fault ≡ true) }
 {
-    let mut recovery = Save::<R::File> {
-        text: PartFile::text(paths, &[], None, NewFile::Left, false),
-        journal: PartFile::journal(paths, &[], None, NewFile::Left, false),
+    let new_text = NewFile::Left(left.new_text);
+    let new_journal = NewFile::Left(left.new_journal);
+    let mut recovery = Save {
+        text: PartFile::text(paths, &[], None, new_text, false),
+        journal: PartFile::journal(paths, &[], None, new_journal, false),
         step: Step::RECOVER,
         synced: None,
     };
@@ -102,7 +108,7 @@ pub fn recover<R: Files>(rt: &R, alloc: Global, paths: &FilePaths) -> Result<(),
     Ok(())
 }
 
-impl<'a, F: Drop> Save<'a, F> {
+impl<'a> Save<'a> {
     /// Makes the save of a text and a journal, before its first call. `read` is what both files
     /// were before they were read; in company the system is to start writing early.
     pub fn new(
@@ -110,7 +116,7 @@ impl<'a, F: Drop> Save<'a, F> {
         contents: NewContents<'a>,
         read: Option<Snapshots>,
         is_in_company: bool,
-    ) -> Save<'a, F>
+    ) -> Save<'a>
         ensures text { result.text.bytes.now ≡ contents.entry.text.now }
         ensures text_paths { result.text.paths.now ≡ paths.now }
         ensures text_read { result.text.read ≡ read }
@@ -156,10 +162,10 @@ impl<'a, F: Drop> Save<'a, F> {
     }
 }
 
-impl<'a, F: Read + Write + Seek + OpenFile + Drop> Save<'a, F> {
+impl<'a> Save<'a> {
     /// Makes its calls up to the next that waits for the disk. So the file is renamed right after
     /// it was compared.
-    fn make_calls<R: Files<File = F>>(&mut self, rt: &R, alloc: Global) {
+    fn make_calls<R: SystemFiles>(&mut self, rt: &R, alloc: Global) {
         self.synced = None;
         let mut step = self.step;
         loop {
@@ -173,42 +179,32 @@ impl<'a, F: Read + Write + Seek + OpenFile + Drop> Save<'a, F> {
 
     /// Makes the call that waits, if it is at one; `before` are the saves that have waited in this
     /// row.
-    fn wait<R: Files<File = F>>(&mut self, rt: &R, alloc: Global, before: &[Save<'a, F>]) {
+    fn wait<R: SystemFiles>(&mut self, rt: &R, alloc: Global, before: &[Save<'a>]) {
         let reply = match self.step.call() {
-            Ok(Syscall::SyncDirectory(part)) => self.sync_directory(rt, part, before),
+            Ok(Syscall::SyncDirectory(part)) => self.sync_folder(part, before),
             Ok(call) => self.reply_to(rt, alloc, call),
             Err(_) => return,
         };
         self.step = self.step.after(reply);
     }
 
-    /// Syncs the part's directory, unless it was synced in this row: no name has changed since
-    /// then.
-    fn sync_directory<R: Files<File = F>>(
-        &mut self,
-        rt: &R,
-        part: SavedFile,
-        before: &[Save<'a, F>],
-    ) -> Reply {
-        let name = match part {
-            SavedFile::Text => self.text.own,
-            SavedFile::Journal => self.journal.own,
+    /// Syncs the part's folder, unless it was synced in this row: no name has changed since then.
+    fn sync_folder(&mut self, part: SavedFile, before: &[Save<'a>]) -> Reply {
+        let folder = match part {
+            SavedFile::Text => self.text.folder,
+            SavedFile::Journal => self.journal.folder,
         };
-        let directory = match open_directory(rt, name) {
-            Ok(directory) => directory,
-            Err(reply) => return reply,
-        };
-        let id = FileId::of_opened(&directory);
+        let id = folder.id();
         let reply = match synced_before(before, id) {
             Some(reply) => reply,
-            None => sync_opened(&directory),
+            None => folder.sync(),
         };
-        self.synced = id.map(|id| SyncedDirectory { id, reply });
+        self.synced = id.map(|id| SyncedFolder { id, reply });
         reply
     }
 
     /// Makes one call for the part that it is about.
-    fn reply_to<R: Files<File = F>>(&mut self, rt: &R, alloc: Global, call: Syscall) -> Reply {
+    fn reply_to<R: SystemFiles>(&mut self, rt: &R, alloc: Global, call: Syscall) -> Reply {
         match part_of(call) {
             SavedFile::Text => make(rt, alloc, &mut self.text, call),
             SavedFile::Journal => make(rt, alloc, &mut self.journal, call),
@@ -216,7 +212,7 @@ impl<'a, F: Read + Write + Seek + OpenFile + Drop> Save<'a, F> {
     }
 
     /// Makes the calls that are left, and returns how it ends.
-    fn end<R: Files<File = F>>(&mut self, rt: &R, alloc: Global) -> End {
+    fn end<R: SystemFiles>(&mut self, rt: &R, alloc: Global) -> End {
         let mut step = self.step;
         loop {
             match step.call() {
@@ -233,7 +229,7 @@ impl<'a, F: Read + Write + Seek + OpenFile + Drop> Save<'a, F> {
     ///
     /// `Write` with the part and the number of its bytes that were written; `Read` where it is not
     /// known what the next recovery will find.
-    pub fn result<R: Files<File = F>>(&mut self, rt: &R, alloc: Global) -> Result<bool, RunFault>
+    pub fn result<R: SystemFiles>(&mut self, rt: &R, alloc: Global) -> Result<bool, RunFault>
         ensures { IfErr result (λ fault. is_file_fault fault ≡ true) }
     {
         let end = self.end(rt, alloc);
@@ -241,7 +237,7 @@ impl<'a, F: Read + Write + Seek + OpenFile + Drop> Save<'a, F> {
     }
 
     /// Makes the calls that are left, and returns how the attempt has ended.
-    pub fn attempt<R: Files<File = F>>(&mut self, rt: &R, alloc: Global) -> Attempt {
+    pub fn attempt<R: SystemFiles>(&mut self, rt: &R, alloc: Global) -> Attempt {
         let end = self.end(rt, alloc);
         attempt_of(end, self.outcome(end))
     }
@@ -291,8 +287,8 @@ fn unknown_fault(is_out_of_memory: bool) -> RunFault
     }
 }
 
-/// Returns the reply to the sync of this directory, if one of these saves has synced it.
-fn synced_before<F: Drop>(before: &[Save<'_, F>], id: Option<FileId>) -> Option<Reply> {
+/// Returns the reply to the sync of this folder, if one of these saves has synced it.
+fn synced_before(before: &[Save<'_>], id: Option<FileId>) -> Option<Reply> {
     let id = id?;
     for save in before {
         match save.synced {

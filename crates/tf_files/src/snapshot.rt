@@ -3,18 +3,22 @@ ghost use Rattle.std.specs.Prelude.{◌≡◌, is_some};
 ghost use Rattle.tf_files.specs.Snapshots.{snapshots_of, snapshots_of_text};
 
 use crate::file_paths::{FilePaths, is_not_found};
+use crate::folder::SystemFiles;
 use crate::found_files::FileId;
 use std::fs::{self, Metadata, OpenFile};
 use std::os::unix::fs::MetadataExt;
-use std::rt::Files;
 
 /// What identifies a state of a regular file: a write by another program changes one of these, but
-/// for a write in the same tick of the clock that keeps the size. The time of the last change of
-/// attributes is left out: on an overlay file system to open a file for writing sets it.
+/// for a write in the same tick of the clock that keeps the size; so does a change of its owner, its
+/// group or its mode. The time of the last change of attributes is left out: on an overlay file
+/// system to open a file for writing sets it.
 #[derive(Clone, Copy, PartialEq, Eq)]
 struct FileState {
     size: u64,
     modified: (i64, i64),
+    owner: u32,
+    group: u32,
+    mode: u32,
 }
 
 /// A file at a moment. Of a device or a pipe there is no state, since reading changes its times.
@@ -25,14 +29,6 @@ pub struct Snapshot {
 }
 
 impl Snapshot {
-    /// Returns the snapshot of the file that this name leads to; none if the system does not say.
-    fn of<R: Files>(rt: &R, name: &str) -> Option<Snapshot> {
-        match fs::metadata(rt, name) {
-            Ok(found) => Some(Snapshot::of_found(&found)),
-            Err(_) => None,
-        }
-    }
-
     /// Returns the snapshot of a file of which this was found.
     pub fn of_found(found: &Metadata) -> Snapshot {
         Snapshot {
@@ -98,16 +94,21 @@ impl Snapshots {
         }
     }
 
-    /// Returns the snapshots of what both names lead to; none if the system does not say. The text
+    /// Returns the snapshots of what has both names now; none if the system does not say. The text
     /// comes last, since it is renamed right after it was compared.
-    pub fn of<R: Files>(rt: &R, paths: &FilePaths) -> Option<Snapshots> {
+    pub fn of<R: SystemFiles>(rt: &R, paths: &FilePaths) -> Option<Snapshots> {
         let journal = match fs::symlink_metadata(rt, &paths.journal) {
             Ok(found) => Some(Snapshot::of_found(&found)),
             Err(error) if is_not_found(&error) => None,
             Err(_) => return None,
         };
-        let text = Snapshot::of(rt, &paths.text)?;
-        Some(Snapshots { text, journal })
+        match paths.look_at_text(rt) {
+            Ok(found) => Some(Snapshots {
+                text: Snapshot::of_found(&found),
+                journal,
+            }),
+            Err(_) => None,
+        }
     }
 }
 
@@ -117,6 +118,9 @@ impl FileState {
         FileState {
             size: found.len(),
             modified: (found.mtime(), found.mtime_nsec()),
+            owner: found.uid(),
+            group: found.gid(),
+            mode: found.mode(),
         }
     }
 }

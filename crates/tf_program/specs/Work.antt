@@ -55,7 +55,7 @@ IsMadeOf command file made =
 -- what a command made of a file with this name
 abbrev pub IsMadeOfName : Command → List ℕ → Made → Type 0
 IsMadeOfName command name made =
-    (file : JournaledFile) × (string_bytes file.paths.text ≡ name) × IsMadeOf command file made
+    (file : JournaledFile) × (string_bytes file.paths.name ≡ name) × IsMadeOf command file made
 
 -- the text of a file that was read
 abbrev pub file_text : JournaledFile → List ℕ
@@ -73,7 +73,7 @@ IsLocatedIn text locate error =
 abbrev pub IsNotMadeOfName : Command → List ℕ → Bool → FileError → Type 0
 IsNotMadeOfName command name locate error =
     ((is_file_fault error.fault ≡ true) × (error.location ≡ None))
-    ⊎ ((file : JournaledFile) × (string_bytes file.paths.text ≡ name)
+    ⊎ ((file : JournaledFile) × (string_bytes file.paths.name ≡ name)
     × HasNoEffectOnFile command file error.fault × IsLocatedIn (file_text file) locate error)
 
 -- ---- the text of a reader alone: no file is changed

@@ -11,9 +11,8 @@ use crate::files::{Made, change_file};
 use std::alloc::{AllocError, Global};
 use std::io::Write;
 use std::mem;
-use std::rt::Files;
 use tf_cli::{FileOutcome, RunOutcome, Task};
-use tf_files::{Attempt, ChangedFile, FoundFiles, save_together};
+use tf_files::{Attempt, ChangedFile, FoundFiles, SystemFiles, save_together};
 use tf_session::{Command, RunFault};
 
 /// How many files are held at most. More would hardly save any wait; and while a file is saved, two
@@ -60,7 +59,7 @@ impl<'a> Batch<'a> {
     }
 
     /// Does a command on a file, which is saved and reported at the latest by `finish`.
-    pub fn change<R: Files, O: Write, F: Write>(
+    pub fn change<R: SystemFiles, O: Write, F: Write>(
         &mut self,
         rt: &R,
         command: Command,
@@ -80,7 +79,7 @@ impl<'a> Batch<'a> {
 
     /// Saves what is held, unless a file of this name may be read before that.
     #[tactic(auto, using(crate::proofs::Holding::none_noted))]
-    fn admit<R: Files, O: Write, F: Write>(
+    fn admit<R: SystemFiles, O: Write, F: Write>(
         &mut self,
         rt: &R,
         name: &str,
@@ -100,7 +99,7 @@ impl<'a> Batch<'a> {
     }
 
     /// Returns whether a file of this name may be read before those that are held are saved.
-    fn admits<R: Files>(&self, rt: &R, name: &str) -> bool
+    fn admits<R: SystemFiles>(&self, rt: &R, name: &str) -> bool
         ensures { result ≡ true → Admits self.now }
     {
         if self.entries.is_empty() {
@@ -112,10 +111,10 @@ impl<'a> Batch<'a> {
         }
     }
 
-    /// Does a command on a file. If memory runs out while others are held, these are saved, and it
-    /// is done once more.
+    /// Does a command on a file. If memory runs out while others are held, or it can't be read, which
+    /// may be for want of handles, these are saved, and it is done once more.
     #[tactic(auto, using(crate::proofs::Holding::none_noted))]
-    fn make<R: Files, O: Write, F: Write>(
+    fn make<R: SystemFiles, O: Write, F: Write>(
         &mut self,
         rt: &R,
         command: Command,
@@ -135,17 +134,17 @@ impl<'a> Batch<'a> {
         if self.entries.is_empty() {
             return Entry { name, made };
         }
-        if !is_out_of_memory(&made) {
+        if !may_be_done_later(&made) {
             return Entry { name, made };
         }
-        // once those are saved there is more memory
+        // once those are saved there is more memory, and more files can be opened
         self.finish(rt, output, faults);
         let made = change_file(rt, self.alloc, command, name, locate);
         Entry { name, made }
     }
 
     /// Holds an entry, or finishes it if it is not to wait.
-    fn add<R: Files, O: Write, F: Write>(
+    fn add<R: SystemFiles, O: Write, F: Write>(
         &mut self,
         rt: &R,
         next: Entry<'a>,
@@ -166,7 +165,7 @@ impl<'a> Batch<'a> {
 
     /// Saves what is held, unless this many bytes more may be held.
     #[tactic(auto, using(crate::proofs::Holding::none_noted))]
-    fn make_space<R: Files, O: Write, F: Write>(
+    fn make_space<R: SystemFiles, O: Write, F: Write>(
         &mut self,
         rt: &R,
         bytes: usize,
@@ -200,7 +199,7 @@ impl<'a> Batch<'a> {
     }
 
     /// Holds an entry, or finishes it if there is no memory for that.
-    fn hold<R: Files, O: Write, F: Write>(
+    fn hold<R: SystemFiles, O: Write, F: Write>(
         &mut self,
         rt: &R,
         next: Entry<'a>,
@@ -224,7 +223,12 @@ impl<'a> Batch<'a> {
 
     /// Saves what is held if it is as much as may be held.
     #[tactic(auto, using(crate::proofs::Holding::none_noted))]
-    fn finish_full<R: Files, O: Write, F: Write>(&mut self, rt: &R, output: &mut O, faults: &mut F)
+    fn finish_full<R: SystemFiles, O: Write, F: Write>(
+        &mut self,
+        rt: &R,
+        output: &mut O,
+        faults: &mut F,
+    )
         requires { vec_len self.old.entries ≤ self.old.outcome.left }
         ensures reported { ReportsRest 0 self.old self.new }
         ensures notes { Notes [] self.old self.new }
@@ -243,7 +247,7 @@ impl<'a> Batch<'a> {
     }
 
     /// Saves what is held, and then an entry.
-    fn finish_with<R: Files, O: Write, F: Write>(
+    fn finish_with<R: SystemFiles, O: Write, F: Write>(
         &mut self,
         rt: &R,
         next: &Entry<'_>,
@@ -261,7 +265,12 @@ impl<'a> Batch<'a> {
     }
 
     /// Saves all files that are held, then reports each.
-    pub fn finish<R: Files, O: Write, F: Write>(&mut self, rt: &R, output: &mut O, faults: &mut F)
+    pub fn finish<R: SystemFiles, O: Write, F: Write>(
+        &mut self,
+        rt: &R,
+        output: &mut O,
+        faults: &mut F,
+    )
         requires { vec_len self.old.entries ≤ self.old.outcome.left }
         ensures reported { ReportsRest 0 self.old self.new }
         ensures none { vec_len self.new.entries ≡ 0 }
@@ -288,7 +297,7 @@ impl<'a> Batch<'a> {
     }
 
     /// Finishes entries, of which those that have changed have come as far as these attempts.
-    fn finish_all<R: Files, O: Write, F: Write>(
+    fn finish_all<R: SystemFiles, O: Write, F: Write>(
         &mut self,
         rt: &R,
         entries: &[Entry<'_>],
@@ -314,7 +323,7 @@ impl<'a> Batch<'a> {
     }
 
     /// Saves an entry, as far as an attempt has not, and reports it.
-    fn finish_entry<R: Files, O: Write, F: Write>(
+    fn finish_entry<R: SystemFiles, O: Write, F: Write>(
         &mut self,
         rt: &R,
         entry: &Entry<'_>,
@@ -403,17 +412,17 @@ fn none_may_share(entries: &[Entry<'_>], found: &FoundFiles) -> bool
     true
 }
 
-/// Returns whether a command on a file ran out of memory.
-fn is_out_of_memory(made: &Result<Made, FileError>) -> bool {
+/// Returns whether a command on a file may have failed since others are held.
+fn may_be_done_later(made: &Result<Made, FileError>) -> bool {
     match made {
         Ok(_) => false,
-        Err(error) => matches!(error.fault, RunFault::Memory),
+        Err(error) => matches!(error.fault, RunFault::Memory | RunFault::Read),
     }
 }
 
 /// Saves the files of entries, and returns how far each has come. None was saved if the answer is
 /// empty: fewer than two have changed, or there is no memory to save them together.
-fn save_entries<R: Files>(rt: &R, alloc: Global, entries: &[Entry<'_>]) -> Vec<Attempt> {
+fn save_entries<R: SystemFiles>(rt: &R, alloc: Global, entries: &[Entry<'_>]) -> Vec<Attempt> {
     match save_several(rt, alloc, entries) {
         Ok(attempts) => attempts,
         Err(_) => Vec::new(alloc),
@@ -426,7 +435,7 @@ fn save_entries<R: Files>(rt: &R, alloc: Global, entries: &[Entry<'_>]) -> Vec<A
 /// # Errors
 ///
 /// Out of memory: none is saved.
-fn save_several<R: Files>(
+fn save_several<R: SystemFiles>(
     rt: &R,
     alloc: Global,
     entries: &[Entry<'_>],

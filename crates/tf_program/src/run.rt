@@ -11,8 +11,8 @@ use crate::batch::Batch;
 use crate::files::{STANDARD_INPUT, run_read_only};
 use std::alloc::Global;
 use std::io::{Read, Write};
-use std::rt::Files;
 use tf_cli::{Action, CommandLine, Exit, RunOutcome, Task};
+use tf_files::SystemFiles;
 use tf_session::{Command, RunFault, Told, put_text};
 
 const OUT_OF_MEMORY: &str = "tfk: out of memory\n";
@@ -20,7 +20,7 @@ const OUT_OF_MEMORY: &str = "tfk: out of memory\n";
 /// Does what the arguments ask for, without the name of the program, and returns the exit status: 1
 /// after any error, else 2 if an issue is left, else 3 if a file that was to be checked is not
 /// formatted, else 0. Reports are written to the output, errors to `faults`.
-pub fn work<R: Files, I: Read, O: Write, F: Write>(
+pub fn work<R: SystemFiles, I: Read, O: Write, F: Write>(
     rt: &R,
     alloc: Global,
     words: &[String],
@@ -39,7 +39,7 @@ pub fn work<R: Files, I: Read, O: Write, F: Write>(
 
 /// Does the task of a command line, or prints why there is none, and returns the exit status. For
 /// the proof: the command line is lent to a function that has its ways out.
-fn run_command_line<R: Files, I: Read, O: Write, F: Write>(
+fn run_command_line<R: SystemFiles, I: Read, O: Write, F: Write>(
     rt: &R,
     alloc: Global,
     line: &CommandLine<'_>,
@@ -95,7 +95,7 @@ fn write_help<O: Write>(output: &mut O, text: &str) -> Result<(), RunFault> {
 
 /// Does a task on one file after another, in the order given; an error on one does not stop the
 /// next. A file that changes may be saved after the next is read.
-fn run_task<R: Files, I: Read, O: Write, F: Write>(
+fn run_task<R: SystemFiles, I: Read, O: Write, F: Write>(
     rt: &R,
     alloc: Global,
     task: &Task<'_>,
@@ -115,7 +115,7 @@ fn run_task<R: Files, I: Read, O: Write, F: Write>(
 }
 
 /// Does a task on one file.
-fn run_on_file<'a, R: Files, I: Read, O: Write, F: Write>(
+fn run_on_file<'a, R: SystemFiles, I: Read, O: Write, F: Write>(
     rt: &R,
     alloc: Global,
     task: &Task<'_>,

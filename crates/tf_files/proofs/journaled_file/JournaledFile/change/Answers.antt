@@ -7,7 +7,7 @@ use Rattle.tf_files.proofs.journaled_file.JournaledFile.change.Goals as goal
 pub returns-in-Ok-clause-effect : goal.returns-in-Ok-clause-effect
 returns-in-Ok-clause-effect g c =
     let effect = c.in-Ok.field-0 in
-    let name : c.deref.result.now ≡ string_bytes c.args.self.paths.text = search rules in
+    let name : c.deref.result.now ≡ string_bytes c.args.self.paths.name = search rules in
     let has = subst (λ (s : List ℕ). HasEffect c.args.command s c.args.self.contents.text.items c.args.self.contents.journal.items effect) name c.in-Ok.ensures.effect in
     (effect, has, refl, refl, c.to_save.ensures)
 

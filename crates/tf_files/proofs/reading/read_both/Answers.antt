@@ -1,7 +1,7 @@
 -- The text is not read whole, or the journal is not.
 use Rattle.std.proofs.Common.{◌≡◌, Err, rules}
-use Rattle.tf_files.proofs.Reading.{read_fault}
-use Rattle.tf_files.proofs.journaled_file.read_both.Goals as goal
+use Rattle.tf_files.proofs.ReadFaults.{read_fault}
+use Rattle.tf_files.proofs.reading.read_both.Goals as goal
 
 pub returns-in_err-text : goal.returns-in_err-text
 returns-in_err-text g c =

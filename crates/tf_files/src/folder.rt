@@ -1,0 +1,126 @@
+//! Folders that stay open: what is in them is reached through their handles, whatever has their
+//! names by then.
+
+ghost use Rattle.std.specs.Prelude.{◌≡◌, IfOk, IfErr, true, if◌then◌else◌, string_bytes};
+ghost use Rattle.tf_files.specs.Handles.{handle_path};
+ghost use Rattle.tf_files.specs.Opening.{is_file_fault};
+
+use crate::calls::reply_to;
+use crate::found_files::FileId;
+use crate::trust::Access;
+use std::alloc::{AllocError, Global};
+use std::fs::{self, File, OpenFile};
+use std::io::ErrorKind;
+use std::os::fd::AsRawFd;
+use std::rt::Files;
+use tf_saving::Reply;
+use tf_session::RunFault;
+
+/// The files of a system that gives each open file a number.
+pub trait SystemFiles: Files<File = File> {}
+
+impl<R: Files<File = File>> SystemFiles for R {}
+
+/// An open folder.
+#[derive(Drop)]
+pub struct Folder {
+    /// None without the permission to read the folder.
+    handle: Option<File>,
+    /// What comes before a name in this folder to make a path: what the system shows of the handle;
+    /// or, where it shows no handles, the folder's name as it was given.
+    prefix: String,
+}
+
+impl Folder {
+    /// Opens the folder of this name, which is empty, for the current folder, or ends in a slash.
+    ///
+    /// # Errors
+    ///
+    /// `Memory`; `Read` if it can't be opened for another reason than the permission to read it.
+    pub fn open<R: SystemFiles>(rt: &R, alloc: Global, name: String) -> Result<Folder, RunFault>
+        ensures { IfErr result (λ fault. is_file_fault fault ≡ true) }
+    {
+        let itself = format!(in alloc; "{name}.")?;
+        match fs::open(rt, &itself) {
+            Ok(handle) => Ok(Folder::of_handle(rt, alloc, handle, name)?),
+            Err(error) if error.kind() == ErrorKind::PermissionDenied => Ok(Folder {
+                handle: None,
+                prefix: name,
+            }),
+            Err(error) if error.kind() == ErrorKind::OutOfMemory => Err(RunFault::Memory),
+            Err(_) => Err(RunFault::Read),
+        }
+    }
+
+    /// Returns the folder with this handle, which was opened by this name.
+    fn of_handle<R: SystemFiles>(
+        rt: &R,
+        alloc: Global,
+        handle: File,
+        name: String,
+    ) -> Result<Folder, AllocError> {
+        let shown = handle_path(alloc, handle.as_raw_fd().unsigned_abs())?;
+        let is_shown = match (handle.metadata(), fs::metadata(rt, &shown)) {
+            (Ok(opened), Ok(found)) => FileId::of(&opened) == FileId::of(&found),
+            _ => false,
+        };
+        Ok(Folder {
+            handle: Some(handle),
+            prefix: prefix_of(shown, name, is_shown),
+        })
+    }
+
+    /// Returns what comes before a name in this folder.
+    pub fn prefix(&self) -> &str {
+        self.prefix.as_str()
+    }
+
+    /// Waits until the names in this folder are durable; `CannotReplace` without the permission to
+    /// read it. A file system that can't sync folders has nothing to wait for.
+    pub fn sync(&self) -> Reply {
+        let Some(handle) = &self.handle else {
+            return Reply::CannotReplace;
+        };
+        match handle.sync_all() {
+            Err(error) if error.kind() == ErrorKind::InvalidInput => Reply::Done,
+            answer => reply_to(answer),
+        }
+    }
+
+    /// Returns the id of this folder; none if the system does not say.
+    pub fn id(&self) -> Option<FileId> {
+        FileId::of_opened(self.handle.as_ref()?)
+    }
+
+    /// Returns the owner, group and mode of this folder; none if the system does not say.
+    pub fn access(&self) -> Option<Access> {
+        match self.handle.as_ref()?.metadata() {
+            Ok(found) => Some(Access::of(&found)),
+            Err(_) => None,
+        }
+    }
+
+    /// Returns whether three more files can be open at once, as many as a save opens.
+    pub fn can_open_more(&self) -> bool {
+        let Some(handle) = &self.handle else {
+            return false;
+        };
+        let more = (handle.try_clone(), handle.try_clone(), handle.try_clone());
+        matches!(more, (Ok(_), Ok(_), Ok(_)))
+    }
+}
+
+/// Returns what comes before a name in a folder: the path that the system shows for its handle, if
+/// it does, else the folder's name.
+fn prefix_of(shown: String, name: String, is_shown: bool) -> String
+    ensures { string_bytes result ≡ string_bytes (if is_shown then shown else name) }
+{
+    if is_shown { shown } else { name }
+}
+
+/// Returns the path that the system shows for the open folder with this number.
+fn handle_path(alloc: Global, number: u32) -> Result<String, AllocError>
+    ensures { IfOk result (λ path. string_bytes path ≡ handle_path number) }
+{
+    format!(in alloc; "/proc/self/fd/{number}/")
+}
