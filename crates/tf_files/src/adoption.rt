@@ -1,5 +1,6 @@
 //! Decides whether a new journal that was found alone may replace the journal.
 
+use crate::cause::Trouble;
 use crate::file_paths::FilePaths;
 use crate::folder::SystemFiles;
 use crate::reading::{ReadContents, read, read_with};
@@ -19,12 +20,12 @@ pub fn can_adopt<R: SystemFiles>(
     alloc: Global,
     paths: &FilePaths,
     new: &File,
-) -> Result<bool, RunFault> {
+) -> Result<bool, Trouble> {
     match can_revert(alloc, read_with(rt, alloc, paths, new)) {
         Ok(true) => Ok(true),
         Ok(false) => is_unrevertible(alloc, read(rt, alloc, paths)),
-        Err(RunFault::BadJournal(_)) => Ok(false),
-        Err(fault) => Err(fault),
+        Err(trouble) if is_bad_journal(&trouble) => Ok(false),
+        Err(trouble) => Err(trouble),
     }
 }
 
@@ -37,33 +38,38 @@ pub fn has_good_journal<R: SystemFiles>(
     rt: &R,
     alloc: Global,
     paths: &FilePaths,
-) -> Result<bool, RunFault> {
+) -> Result<bool, Trouble> {
     match can_revert(alloc, read(rt, alloc, paths)) {
         Ok(_) => Ok(true),
-        Err(RunFault::BadJournal(_)) => Ok(false),
-        Err(fault) => Err(fault),
+        Err(trouble) if is_bad_journal(&trouble) => Ok(false),
+        Err(trouble) => Err(trouble),
     }
 }
 
 /// Returns whether nothing can be reverted in the text by this journal.
 fn is_unrevertible(
     alloc: Global,
-    contents: Result<ReadContents, RunFault>,
-) -> Result<bool, RunFault> {
+    contents: Result<ReadContents, Trouble>,
+) -> Result<bool, Trouble> {
     match can_revert(alloc, contents) {
         Ok(can_revert) => Ok(!can_revert),
-        Err(RunFault::BadJournal(_)) => Ok(true),
-        Err(fault) => Err(fault),
+        Err(trouble) if is_bad_journal(&trouble) => Ok(true),
+        Err(trouble) => Err(trouble),
     }
 }
 
 /// Returns whether the journal's last record can be reverted in the text.
-fn can_revert(alloc: Global, contents: Result<ReadContents, RunFault>) -> Result<bool, RunFault> {
+fn can_revert(alloc: Global, contents: Result<ReadContents, Trouble>) -> Result<bool, Trouble> {
     let ReadContents { text, journal, .. } = contents?;
     let mut session = Session::from_texts(alloc, text, journal)?;
     match session.step(alloc, Command::Revert) {
         Ok(_) => Ok(true),
-        Err(Fault::Memory) => Err(RunFault::Memory),
+        Err(Fault::Memory) => Err(Trouble::from(RunFault::Memory)),
         Err(_) => Ok(false),
     }
+}
+
+/// Returns whether a journal can't be decoded.
+fn is_bad_journal(trouble: &Trouble) -> bool {
+    matches!(trouble.fault, RunFault::BadJournal(_))
 }

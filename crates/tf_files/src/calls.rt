@@ -3,6 +3,7 @@
 ghost use Rattle.std.specs.Prelude.{◌≡◌, string_bytes};
 
 use crate::adoption::can_adopt;
+use crate::cause::{Cause, Reason, Subject};
 use crate::file_part::{session_part, write_part};
 use crate::file_paths::{FilePaths, is_not_found};
 use crate::folder::{Folder, SystemFiles};
@@ -49,6 +50,9 @@ pub struct PartFile<'a> {
     /// Both files from before they were read.
     pub read: Option<Snapshots>,
     pub is_out_of_memory: bool,
+    /// Why the last call failed that did, if it is known.
+    pub cause: Option<Cause>,
+    subject: Subject,
     /// Whether the system is to start writing the new file before anything waits for it.
     starts_early: bool,
 }
@@ -78,6 +82,8 @@ impl<'a> PartFile<'a> {
             sent: 0,
             read,
             is_out_of_memory: false,
+            cause: None,
+            subject: Subject::File,
             starts_early,
         }
     }
@@ -106,8 +112,27 @@ impl<'a> PartFile<'a> {
             sent: 0,
             read,
             is_out_of_memory: false,
+            cause: None,
+            subject: Subject::Journal,
             starts_early,
         }
+    }
+}
+
+impl PartFile<'_> {
+    /// Notes why a call failed.
+    pub fn note(&mut self, error: &io::Error) {
+        self.cause = Cause::after(self.subject, error);
+    }
+
+    /// Notes that another program has changed a file. Nothing of what was written is then to be
+    /// reported.
+    pub fn note_change(&mut self) {
+        self.sent = 0;
+        self.cause = Some(Cause {
+            subject: Subject::File,
+            reason: Reason::Changed,
+        });
     }
 }
 
@@ -119,7 +144,7 @@ pub fn make<R: SystemFiles>(
     call: Syscall,
 ) -> Reply {
     match call {
-        Syscall::Open(_) => open(rt, file.own),
+        Syscall::Open(_) => open(rt, file),
         Syscall::FindNew(_) => find_new(rt, file),
         Syscall::CreateNew(_) => create_new(rt, file),
         Syscall::CopyAttributes(part) => copy_attributes(rt, part, file),
@@ -146,13 +171,16 @@ pub fn reply_to<T: Drop>(answer: io::Result<T>) -> Reply {
 
 /// Opens a file to be written, and writes nothing. A name that is too long can be found nowhere,
 /// and can't be written either.
-fn open<R: SystemFiles>(rt: &R, name: &str) -> Reply {
+fn open<R: SystemFiles>(rt: &R, file: &mut PartFile<'_>) -> Reply {
     let mut options = OpenOptions::new();
     options.write(true);
-    match options.open(rt, name) {
+    match options.open(rt, file.own) {
         Ok(_) => Reply::Done,
         Err(error) if error.kind() == ErrorKind::NotFound => Reply::NotFound,
-        Err(_) => Reply::Failed,
+        Err(error) => {
+            file.note(&error);
+            Reply::Failed
+        }
     }
 }
 
@@ -172,42 +200,49 @@ fn write<R: SystemFiles>(rt: &R, part: SavedFile, file: &mut PartFile<'_>) -> Re
             }
             Reply::Done
         }
-        Err(RunFault::Write { sent, .. }) => {
-            file.sent = sent;
+        Err(unwritten) => {
+            file.sent = unwritten.sent;
+            file.cause = unwritten.cause;
             Reply::Failed
         }
-        Err(_) => Reply::Failed,
     }
 }
 
 /// Waits until the new file is durable; `Failed` if this command has created none.
-fn sync(file: &PartFile<'_>) -> Reply {
-    match &file.new_file {
-        NewFile::Open(created) => reply_to(created.sync_all()),
-        _ => Reply::Failed,
-    }
+fn sync(file: &mut PartFile<'_>) -> Reply {
+    let NewFile::Open(created) = &file.new_file else {
+        return Reply::Failed;
+    };
+    let answer = created.sync_all();
+    noted_reply(file, answer)
 }
 
-/// Looks whether the new file is this command's own. If another program has changed a file, nothing
-/// of what was written is to be reported.
+/// Returns the reply to a call, and notes why it failed.
+fn noted_reply(file: &mut PartFile<'_>, answer: io::Result<()>) -> Reply {
+    if let Err(error) = &answer {
+        file.note(error);
+    }
+    reply_to(answer)
+}
+
+/// Looks whether the new file is this command's own.
 fn compare_new<R: SystemFiles>(rt: &R, file: &mut PartFile<'_>) -> Reply {
     match find_own_new(rt, file) {
         Reply::Done => Reply::Done,
         _ => {
-            file.sent = 0;
+            file.note_change();
             Reply::Failed
         }
     }
 }
 
-/// Looks whether the file and its journal are as they were read. If another program has changed one
-/// of them, nothing of what was written is to be reported.
+/// Looks whether the file and its journal are as they were read.
 fn compare<R: SystemFiles>(rt: &R, file: &mut PartFile<'_>) -> Reply {
     let now = Snapshots::of(rt, file.paths);
     if now.is_some() && now == file.read {
         Reply::Done
     } else {
-        file.sent = 0;
+        file.note_change();
         Reply::Failed
     }
 }
@@ -219,7 +254,7 @@ fn adopt<R: SystemFiles>(rt: &R, alloc: Global, journal: &mut PartFile<'_>) -> R
     let NewFile::Left(Some(left)) = journal.new_file else {
         return Reply::Failed;
     };
-    let Some(new) = open_found(rt, journal.new, left) else {
+    let Ok(new) = open_found(rt, journal.new, left, Subject::NewJournal) else {
         return Reply::Failed;
     };
     match can_adopt(rt, alloc, journal.paths, &new) {
@@ -228,8 +263,8 @@ fn adopt<R: SystemFiles>(rt: &R, alloc: Global, journal: &mut PartFile<'_>) -> R
             Reply::Done
         }
         Ok(false) => Reply::NotFound,
-        Err(fault) => {
-            journal.is_out_of_memory = fault == RunFault::Memory;
+        Err(trouble) => {
+            journal.is_out_of_memory = trouble.fault == RunFault::Memory;
             Reply::Failed
         }
     }
@@ -237,16 +272,16 @@ fn adopt<R: SystemFiles>(rt: &R, alloc: Global, journal: &mut PartFile<'_>) -> R
 
 /// Renames the new file to the part. Nothing is renamed over what is mounted. No look precedes
 /// the rename of the text, which follows the comparison of its file at once.
-fn rename<R: SystemFiles>(rt: &R, file: &PartFile<'_>) -> Reply {
+fn rename<R: SystemFiles>(rt: &R, file: &mut PartFile<'_>) -> Reply {
     match fs::rename(rt, file.new, file.own) {
         Err(error) if error.kind() == ErrorKind::ResourceBusy => Reply::CannotReplace,
-        answer => reply_to(answer),
+        answer => noted_reply(file, answer),
     }
 }
 
 /// Renames the new journal to the journal; `Failed` if the new one is known to be gone or another
 /// command's: no journal that another command is known to have created since is renamed.
-fn rename_journal<R: SystemFiles>(rt: &R, journal: &PartFile<'_>) -> Reply {
+fn rename_journal<R: SystemFiles>(rt: &R, journal: &mut PartFile<'_>) -> Reply {
     match find_own_new(rt, journal) {
         Reply::NotFound => Reply::Failed,
         _ => rename(rt, journal),

@@ -1,8 +1,9 @@
 //! Files that were changed in memory, and are saved alone or many at once.
 
-ghost use Rattle.std.specs.Prelude.{◌≡◌, ◌↔◌, true, map, IfOk, IsOk, IsErrOf};
+ghost use Rattle.std.specs.Prelude.{◌≡◌, ◌↔◌, true, map, IfOk, IsOk, IsErrAnd};
 ghost use Rattle.tf_files.specs.Common.{MayHaveCommon};
 
+use crate::cause::Trouble;
 use crate::file_paths::FilePaths;
 use crate::folder::SystemFiles;
 use crate::found_files::FoundFiles;
@@ -76,13 +77,16 @@ impl ChangedFile {
     ///
     /// `Write` with the part and the number of its bytes that were written, 0 where another program
     /// has changed a file meanwhile; `Read` where it is not known what the next recovery will find.
-    pub fn save<R: SystemFiles>(&self, rt: &R, alloc: Global) -> Result<(), RunFault> {
+    pub fn save<R: SystemFiles>(&self, rt: &R, alloc: Global) -> Result<(), Trouble> {
         let mut save = self.new_save(false);
-        let is_replaced = save.result(rt, alloc)?;
-        if is_replaced {
-            return Ok(());
+        match save.result(rt, alloc) {
+            Ok(true) => Ok(()),
+            Ok(false) => self.overwrite(rt, alloc),
+            Err(fault) => Err(Trouble {
+                fault,
+                cause: save.cause(),
+            }),
         }
-        self.overwrite(rt, alloc)
     }
 
     /// Does what an attempt to save it in company has left to be done. A file that was refused is
@@ -97,15 +101,16 @@ impl ChangedFile {
         rt: &R,
         alloc: Global,
         attempt: Attempt,
-    ) -> Result<(), RunFault>
+    ) -> Result<(), Trouble>
         ensures replaced { attempt ≡ Attempt.Replaced → IsOk result }
-        ensures fault { (fault : RunFault) → attempt ≡ Attempt.Fault fault → IsErrOf result fault }
+        ensures fault { (fault : RunFault) → attempt ≡ Attempt.Fault fault
+            → IsErrAnd result (λ trouble. trouble.fault ≡ fault) }
     {
         match attempt {
             Attempt::Replaced => Ok(()),
             Attempt::InPlace => self.overwrite(rt, alloc),
             Attempt::Refused => self.save(rt, alloc),
-            Attempt::Fault(fault) => Err(fault),
+            Attempt::Fault(fault) => Err(Trouble::from(fault)),
         }
     }
 
@@ -114,7 +119,7 @@ impl ChangedFile {
     /// # Errors
     ///
     /// Those of [`overwrite`].
-    fn overwrite<R: SystemFiles>(&self, rt: &R, alloc: Global) -> Result<(), RunFault> {
+    fn overwrite<R: SystemFiles>(&self, rt: &R, alloc: Global) -> Result<(), Trouble> {
         overwrite(rt, alloc, &self.paths, self.contents(), self.read)
     }
 }

@@ -3,6 +3,7 @@
 ghost use Rattle.std.specs.Prelude.{◌≡◌, true, IfOk, IfErr, string_bytes};
 ghost use Rattle.tf_files.specs.Opening.{is_file_fault};
 
+use crate::cause::{Reason, Subject, Trouble};
 use crate::folder::{Folder, SystemFiles};
 use crate::trust::{Access, caller};
 use std::alloc::{AllocError, Global};
@@ -72,9 +73,9 @@ impl FilePaths {
     ///
     /// `Memory`; `Read` if a folder can't be opened, or the journal is a link that may not be
     /// followed.
-    pub fn of<R: SystemFiles>(rt: &R, alloc: Global, name: &str) -> Result<FilePaths, RunFault>
+    pub fn of<R: SystemFiles>(rt: &R, alloc: Global, name: &str) -> Result<FilePaths, Trouble>
         ensures name { IfOk result (λ paths. string_bytes paths.name ≡ name.now) }
-        ensures fault { IfErr result (λ fault. is_file_fault fault ≡ true) }
+        ensures fault { IfErr result (λ trouble. is_file_fault trouble.fault ≡ true) }
     {
         let given = Place::open(rt, alloc, "", name)?;
         let places = Places::of(rt, alloc, given)?;
@@ -124,8 +125,8 @@ impl FilePaths {
 
 impl Places {
     /// Returns where the file and its journal are, of which the file has this name.
-    fn of<R: SystemFiles>(rt: &R, alloc: Global, given: Place) -> Result<Places, RunFault>
-        ensures { IfErr result (λ fault. is_file_fault fault ≡ true) }
+    fn of<R: SystemFiles>(rt: &R, alloc: Global, given: Place) -> Result<Places, Trouble>
+        ensures { IfErr result (λ trouble. is_file_fault trouble.fault ≡ true) }
     {
         let is_link = given.is_link(rt, alloc, "")?;
         let text = if is_link {
@@ -166,13 +167,8 @@ impl Places {
 impl Place {
     /// Opens the folder of a name. One that does not begin with a slash is joined to `base`, which
     /// is empty or ends in a slash.
-    fn open<R: SystemFiles>(
-        rt: &R,
-        alloc: Global,
-        base: &str,
-        name: &str,
-    ) -> Result<Place, RunFault>
-        ensures { IfErr result (λ fault. is_file_fault fault ≡ true) }
+    fn open<R: SystemFiles>(rt: &R, alloc: Global, base: &str, name: &str) -> Result<Place, Trouble>
+        ensures { IfErr result (λ trouble. is_file_fault trouble.fault ≡ true) }
     {
         let base = if name.starts_with('/') { "" } else { base };
         let (folder, last) = match name.rsplit_once('/') {
@@ -217,8 +213,8 @@ impl Place {
 
     /// Returns what this name leads to: of links that lead one to the next, what the last one leads
     /// to. None where it leads to nothing that has a name.
-    fn end_of_links<R: SystemFiles>(&self, rt: &R, alloc: Global) -> Result<Option<Place>, RunFault>
-        ensures { IfErr result (λ fault. is_file_fault fault ≡ true) }
+    fn end_of_links<R: SystemFiles>(&self, rt: &R, alloc: Global) -> Result<Option<Place>, Trouble>
+        ensures { IfErr result (λ trouble. is_file_fault trouble.fault ≡ true) }
     {
         let Some(mut place) = self.follow(rt, alloc, "")? else {
             return Ok(None);
@@ -243,8 +239,8 @@ impl Place {
         rt: &R,
         alloc: Global,
         suffix: &str,
-    ) -> Result<Option<Place>, RunFault>
-        ensures { IfErr result (λ fault. is_file_fault fault ≡ true) }
+    ) -> Result<Option<Place>, Trouble>
+        ensures { IfErr result (λ trouble. is_file_fault trouble.fault ≡ true) }
     {
         let path = self.path(alloc, suffix, "")?;
         match rt.read_link(alloc, path.as_str()) {
@@ -252,7 +248,9 @@ impl Place {
                 let place = Place::open(rt, alloc, self.folder.prefix(), link.as_str())?;
                 Ok(Some(place))
             }
-            Err(error) if error.kind() == ErrorKind::OutOfMemory => Err(RunFault::Memory),
+            Err(error) if error.kind() == ErrorKind::OutOfMemory => {
+                Err(Trouble::from(RunFault::Memory))
+            }
             Err(_) => Ok(None),
         }
     }
@@ -266,19 +264,19 @@ impl Place {
         &self,
         rt: &R,
         alloc: Global,
-    ) -> Result<Option<Place>, RunFault>
-        ensures { IfErr result (λ fault. is_file_fault fault ≡ true) }
+    ) -> Result<Option<Place>, Trouble>
+        ensures { IfErr result (λ trouble. is_file_fault trouble.fault ≡ true) }
     {
         let link = match self.look(rt, alloc, JOURNAL)? {
             Some(found) if found.is_symlink() => found,
             _ => return Ok(None),
         };
         let Some(target) = self.follow(rt, alloc, JOURNAL)? else {
-            return Err(RunFault::Read);
+            return Err(Trouble::unread(Subject::Journal, Reason::Link));
         };
         match target.look(rt, alloc, "")? {
             Some(found) if target.may_be_journal(rt, &link, &found) => Ok(Some(target)),
-            _ => Err(RunFault::Read),
+            _ => Err(Trouble::unread(Subject::Journal, Reason::Link)),
         }
     }
 

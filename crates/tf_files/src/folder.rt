@@ -6,6 +6,7 @@ ghost use Rattle.tf_files.specs.Handles.{handle_path};
 ghost use Rattle.tf_files.specs.Opening.{is_file_fault};
 
 use crate::calls::reply_to;
+use crate::cause::{Subject, Trouble};
 use crate::found_files::FileId;
 use crate::trust::Access;
 use std::alloc::{AllocError, Global};
@@ -37,8 +38,8 @@ impl Folder {
     /// # Errors
     ///
     /// `Memory`; `Read` if it can't be opened for another reason than the permission to read it.
-    pub fn open<R: SystemFiles>(rt: &R, alloc: Global, name: String) -> Result<Folder, RunFault>
-        ensures { IfErr result (λ fault. is_file_fault fault ≡ true) }
+    pub fn open<R: SystemFiles>(rt: &R, alloc: Global, name: String) -> Result<Folder, Trouble>
+        ensures { IfErr result (λ trouble. is_file_fault trouble.fault ≡ true) }
     {
         let itself = format!(in alloc; "{name}.")?;
         match fs::open(rt, &itself) {
@@ -47,8 +48,10 @@ impl Folder {
                 handle: None,
                 prefix: name,
             }),
-            Err(error) if error.kind() == ErrorKind::OutOfMemory => Err(RunFault::Memory),
-            Err(_) => Err(RunFault::Read),
+            Err(error) if error.kind() == ErrorKind::OutOfMemory => {
+                Err(Trouble::from(RunFault::Memory))
+            }
+            Err(error) => Err(Trouble::unread_after(Subject::File, &error)),
         }
     }
 

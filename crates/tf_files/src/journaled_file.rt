@@ -6,6 +6,7 @@ ghost use Rattle.tf_files.specs.FileEffects.{IsToSave, HasEffectOnFile, HasNoEff
 ghost use Rattle.tf_files.specs.Opening.{is_file_fault};
 
 use crate::adoption::{can_adopt, has_good_journal};
+use crate::cause::{Subject, Trouble};
 use crate::changed_file::ChangedFile;
 use crate::file_paths::FilePaths;
 use crate::folder::SystemFiles;
@@ -49,13 +50,9 @@ impl JournaledFile {
     ///
     /// Those of [`recover`] and of `load` of tf_session, for a file that can't be opened as for one
     /// that can't be read: `Read`. `Memory`.
-    pub fn open<R: SystemFiles>(
-        rt: &R,
-        alloc: Global,
-        name: &str,
-    ) -> Result<JournaledFile, RunFault>
+    pub fn open<R: SystemFiles>(rt: &R, alloc: Global, name: &str) -> Result<JournaledFile, Trouble>
         ensures name { IfOk result (λ file. string_bytes file.paths.name ≡ name.now) }
-        ensures fault { IfErr result (λ fault. is_file_fault fault ≡ true) }
+        ensures fault { IfErr result (λ trouble. is_file_fault trouble.fault ≡ true) }
     {
         let paths = FilePaths::of(rt, alloc, name)?;
         recover_left(rt, alloc, &paths)?;
@@ -127,8 +124,8 @@ fn to_save<R: SystemFiles>(
 /// # Errors
 ///
 /// Those of [`recover`]; `Read` if a file there may not be taken for a new one; `Memory`.
-fn recover_left<R: SystemFiles>(rt: &R, alloc: Global, paths: &FilePaths) -> Result<(), RunFault>
-    ensures { IfErr result (λ fault. is_file_fault fault ≡ true) }
+fn recover_left<R: SystemFiles>(rt: &R, alloc: Global, paths: &FilePaths) -> Result<(), Trouble>
+    ensures { IfErr result (λ trouble. is_file_fault trouble.fault ≡ true) }
 {
     let left = Leftovers::of(rt, paths)?;
     if left.are_none() {
@@ -138,9 +135,7 @@ fn recover_left<R: SystemFiles>(rt: &R, alloc: Global, paths: &FilePaths) -> Res
         Ok(true) => recover(rt, alloc, paths, left),
         // the command itself will say what is wrong with it
         Ok(false) => Ok(()),
-        Err(RunFault::Memory) => Err(RunFault::Memory),
-        Err(RunFault::Endless) => Err(RunFault::Endless),
-        Err(_) => Err(RunFault::Read),
+        Err(trouble) => Err(trouble.of_files()),
     }
 }
 
@@ -155,10 +150,10 @@ pub fn load_read_only<R: SystemFiles>(
     rt: &R,
     alloc: Global,
     name: &str,
-) -> Result<Session, RunFault> {
+) -> Result<Session, Trouble> {
     let paths = FilePaths::of(rt, alloc, name)?;
     let contents = read_current(rt, alloc, &paths)?;
-    Session::from_texts(alloc, contents.text, contents.journal)
+    Ok(Session::from_texts(alloc, contents.text, contents.journal)?)
 }
 
 /// Reads a file and the journal that belongs to it: the new one if a command was interrupted after
@@ -167,14 +162,12 @@ fn read_current<R: SystemFiles>(
     rt: &R,
     alloc: Global,
     paths: &FilePaths,
-) -> Result<ReadContents, RunFault> {
+) -> Result<ReadContents, Trouble> {
     let left = Leftovers::of(rt, paths)?;
     let Some(id) = left.lone_journal() else {
         return read(rt, alloc, paths);
     };
-    let Some(new) = open_found(rt, &paths.new_journal, id) else {
-        return Err(RunFault::Read);
-    };
+    let new = open_found(rt, &paths.new_journal, id, Subject::NewJournal)?;
     if has_good_journal(rt, alloc, paths)? && can_adopt(rt, alloc, paths, &new)? {
         reread_with(rt, alloc, paths, id)
     } else {
@@ -188,9 +181,7 @@ fn reread_with<R: SystemFiles>(
     alloc: Global,
     paths: &FilePaths,
     id: FileId,
-) -> Result<ReadContents, RunFault> {
-    match open_found(rt, &paths.new_journal, id) {
-        Some(new) => read_with(rt, alloc, paths, &new),
-        None => Err(RunFault::Read),
-    }
+) -> Result<ReadContents, Trouble> {
+    let new = open_found(rt, &paths.new_journal, id, Subject::NewJournal)?;
+    read_with(rt, alloc, paths, &new)
 }

@@ -1,16 +1,16 @@
 //! What an interrupted command has left beside a file, and which files there are taken for a
 //! journal or a new file.
 
-ghost use Rattle.std.specs.Prelude.{◌≡◌, true, IfErr};
+ghost use Rattle.std.specs.Prelude.{◌≡◌, true, is_none, IfErr};
 ghost use Rattle.std.specs.Fs.{file_type, IsFile};
 ghost use Rattle.tf_files.specs.Opening.{is_file_fault};
 
+use crate::cause::{Reason, Subject, Trouble};
 use crate::file_paths::{FilePaths, is_not_found};
 use crate::folder::{Folder, SystemFiles};
 use crate::found_files::FileId;
 use crate::trust::{Access, caller, is_trusted};
 use std::fs::{self, File, Metadata, OpenFile};
-use tf_session::RunFault;
 
 /// The new files that an interrupted command has left.
 #[derive(Clone, Copy)]
@@ -25,19 +25,16 @@ impl Leftovers {
     /// # Errors
     ///
     /// `Read` if the system does not say it, or if one may not be taken for a new file.
-    pub fn of<R: SystemFiles>(rt: &R, paths: &FilePaths) -> Result<Leftovers, RunFault>
-        ensures { IfErr result (λ fault. is_file_fault fault ≡ true) }
+    pub fn of<R: SystemFiles>(rt: &R, paths: &FilePaths) -> Result<Leftovers, Trouble>
+        ensures { IfErr result (λ trouble. is_file_fault trouble.fault ≡ true) }
     {
-        let new_text = look(rt, &paths.new_text)?;
-        let new_journal = look(rt, &paths.new_journal)?;
-        if may_be_new(rt, paths, &new_text, &new_journal) {
-            Ok(Leftovers {
-                new_text: id_of(&new_text),
-                new_journal: id_of(&new_journal),
-            })
-        } else {
-            Err(RunFault::Read)
-        }
+        let new_text = look_for(rt, &paths.new_text, Subject::NewText)?;
+        let new_journal = look_for(rt, &paths.new_journal, Subject::NewJournal)?;
+        check_new_files(rt, paths, &new_text, &new_journal)?;
+        Ok(Leftovers {
+            new_text: id_of(&new_text),
+            new_journal: id_of(&new_journal),
+        })
     }
 
     /// Returns whether there are none.
@@ -55,76 +52,124 @@ impl Leftovers {
     }
 }
 
-/// Returns whether these files, if they are there, may be taken for the new text and the new
-/// journal.
-fn may_be_new<R: SystemFiles>(
+/// Tests that these files, if they are there, may be taken for the new text and the new journal.
+///
+/// # Errors
+///
+/// `Read`.
+fn check_new_files<R: SystemFiles>(
     rt: &R,
     paths: &FilePaths,
     new_text: &Option<Metadata>,
     new_journal: &Option<Metadata>,
-) -> bool {
+) -> Result<(), Trouble>
+    ensures { IfErr result (λ trouble. is_file_fault trouble.fault ≡ true) }
+{
     if new_text.is_none() && new_journal.is_none() {
-        return true;
+        return Ok(());
     }
-    let Ok(text) = paths.look_at_text(rt) else {
-        return false;
-    };
-    let text = Access::of(&text);
-    takes_new_text(rt, paths, &text, new_text) && takes_new_journal(rt, paths, &text, new_journal)
+    match paths.look_at_text(rt) {
+        Ok(text) => {
+            let text = Access::of(&text);
+            check_new_text(rt, paths, &text, new_text)?;
+            check_new_journal(rt, paths, &text, new_journal)
+        }
+        Err(error) => Err(Trouble::unread_after(Subject::File, &error)),
+    }
 }
 
-/// Returns whether this file, if it is there, may be taken for the new text.
-fn takes_new_text<R: SystemFiles>(
+/// Tests that this file, if it is there, may be taken for the new text.
+fn check_new_text<R: SystemFiles>(
     rt: &R,
     paths: &FilePaths,
     text: &Access,
     new_text: &Option<Metadata>,
-) -> bool {
+) -> Result<(), Trouble>
+    ensures { IfErr result (λ trouble. is_file_fault trouble.fault ≡ true) }
+{
     match new_text {
-        Some(found) => takes(rt, found, text, paths.text_folder()),
-        None => true,
+        Some(found) => match refusal(rt, found, text, paths.text_folder()) {
+            None => Ok(()),
+            Some(reason) => Err(Trouble::unread(Subject::NewText, reason)),
+        },
+        None => Ok(()),
     }
 }
 
-/// Returns whether this file, if it is there, may be taken for the new journal; also if it belongs
-/// to the owner of the journal that it is to replace.
-fn takes_new_journal<R: SystemFiles>(
+/// Tests that this file, if it is there, may be taken for the new journal; also if it belongs to the
+/// owner of the journal that it is to replace.
+fn check_new_journal<R: SystemFiles>(
     rt: &R,
     paths: &FilePaths,
     text: &Access,
     new_journal: &Option<Metadata>,
-) -> bool {
+) -> Result<(), Trouble>
+    ensures { IfErr result (λ trouble. is_file_fault trouble.fault ≡ true) }
+{
     let Some(found) = new_journal else {
-        return true;
+        return Ok(());
     };
-    let folder = paths.journal_folder();
-    if takes(rt, found, text, folder) {
-        return true;
+    match refusal(rt, found, text, paths.journal_folder()) {
+        None => Ok(()),
+        Some(Reason::OfAnotherUser) if is_of_journal_owner(rt, paths, text, found) => Ok(()),
+        Some(reason) => Err(Trouble::unread(Subject::NewJournal, reason)),
     }
+}
+
+/// Returns whether a file belongs to the owner of the journal, and that may be taken.
+fn is_of_journal_owner<R: SystemFiles>(
+    rt: &R,
+    paths: &FilePaths,
+    text: &Access,
+    found: &Metadata,
+) -> bool {
     match fs::symlink_metadata(rt, &paths.journal) {
         Ok(journal) => {
-            found.is_file()
-                && takes(rt, &journal, text, folder)
+            refusal(rt, &journal, text, paths.journal_folder()).is_none()
                 && Access::of(found).has_owner_of(&Access::of(&journal))
         }
         Err(_) => false,
     }
 }
 
-/// Returns whether what was found in a folder may be taken for a journal or a new file: it is a
-/// regular file, and nobody can have put it there who may not write the text.
-pub fn takes<R: SystemFiles>(rt: &R, found: &Metadata, text: &Access, folder: &Folder) -> bool {
-    found.is_file() && is_trusted(&Access::of(found), text, folder.access(), caller(rt))
+/// Returns why what was found in a folder may not be taken for a journal or a new file; none if it
+/// may: it is a regular file, and nobody can have put it there who may not write the text.
+pub fn refusal<R: SystemFiles>(
+    rt: &R,
+    found: &Metadata,
+    text: &Access,
+    folder: &Folder,
+) -> Option<Reason>
+    ensures { is_none result ≡ true → IsFile (file_type found.now) }
+{
+    if !found.is_file() {
+        return Some(Reason::NotRegular);
+    }
+    if is_trusted(&Access::of(found), text, folder.access(), caller(rt)) {
+        None
+    } else {
+        Some(Reason::OfAnotherUser)
+    }
 }
 
-/// Opens a file to be read: none if it is not the one with this id. What is known of that, such as
+/// Opens a file to be read, which has to be the one with this id. What is known of that, such as
 /// that it is a regular file, is known of what is read.
-pub fn open_found<R: SystemFiles>(rt: &R, path: &str, id: FileId) -> Option<File> {
-    let file = fs::open(rt, path).ok()?;
-    if FileId::of_opened(&file) == Some(id) {
-        Some(file)
-    } else {
-        None
+///
+/// # Errors
+///
+/// `Read`.
+pub fn open_found<R: SystemFiles>(
+    rt: &R,
+    path: &str,
+    id: FileId,
+    subject: Subject,
+) -> Result<File, Trouble>
+    ensures { IfErr result (λ trouble. is_file_fault trouble.fault ≡ true) }
+{
+    match fs::open(rt, path) {
+        Ok(file) if FileId::of_opened(&file) == Some(id) => Ok(file),
+        Ok(_) => Err(Trouble::unread(subject, Reason::Changed)),
+        Err(error) => Err(Trouble::unread_after(subject, &error)),
     }
 }
 
@@ -133,13 +178,17 @@ pub fn open_found<R: SystemFiles>(rt: &R, path: &str, id: FileId) -> Option<File
 /// # Errors
 ///
 /// `Read` if the system does not say it.
-pub fn look<R: SystemFiles>(rt: &R, path: &str) -> Result<Option<Metadata>, RunFault>
-    ensures { IfErr result (λ fault. is_file_fault fault ≡ true) }
+pub fn look_for<R: SystemFiles>(
+    rt: &R,
+    path: &str,
+    subject: Subject,
+) -> Result<Option<Metadata>, Trouble>
+    ensures { IfErr result (λ trouble. is_file_fault trouble.fault ≡ true) }
 {
     match fs::symlink_metadata(rt, path) {
         Ok(found) => Ok(Some(found)),
         Err(error) if is_not_found(&error) => Ok(None),
-        Err(_) => Err(RunFault::Read),
+        Err(error) => Err(Trouble::unread_after(subject, &error)),
     }
 }
 

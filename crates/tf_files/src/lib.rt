@@ -3,6 +3,7 @@
 
 mod adoption;
 mod calls;
+mod cause;
 mod changed_file;
 mod file_part;
 mod file_paths;
@@ -18,8 +19,10 @@ mod size_limit;
 mod snapshot;
 mod trust;
 
+pub use cause::{Cause, Reason, Subject, Trouble};
 pub use changed_file::{ChangedFile, save_together};
 pub use folder::SystemFiles;
 pub use found_files::FoundFiles;
 pub use journaled_file::{FileEffect, FileFault, JournaledFile, load_read_only};
+pub use reading::open_to_read;
 pub use saves::Attempt;

@@ -31,7 +31,10 @@ pub fn create_new<R: SystemFiles>(rt: &R, file: &mut PartFile<'_>) -> Reply {
         Ok(old) if old.is_file() && old.nlink() == 1 => {}
         Ok(_) => return Reply::CannotReplace,
         Err(error) if is_not_found(&error) => {}
-        Err(_) => return Reply::Failed,
+        Err(error) => {
+            file.note(&error);
+            return Reply::Failed;
+        }
     }
     let mut options = OpenOptions::new();
     options.write(true).create_new(true).mode(PRIVATE);
@@ -40,9 +43,12 @@ pub fn create_new<R: SystemFiles>(rt: &R, file: &mut PartFile<'_>) -> Reply {
             file.new_file = NewFile::Open(created);
             Reply::Done
         }
-        Err(error) if error.kind() == ErrorKind::AlreadyExists => reply_if_taken(rt, file.new),
         Err(error) if is_ruled_out(&error) => Reply::CannotReplace,
-        Err(_) => {
+        Err(error) => {
+            file.note(&error);
+            if error.kind() == ErrorKind::AlreadyExists {
+                return reply_if_taken(rt, file.new);
+            }
             file.new_file = NewFile::InDoubt;
             Reply::Failed
         }
@@ -84,9 +90,24 @@ fn is_ruled_out(error: &io::Error) -> bool {
 /// Gives the new file the owner, group and mode of the old one; a first journal those of the text's
 /// file. Where the old one is not the file that was read, it may have an owner or a mode that no
 /// new file is to have here, such as root's.
-pub fn copy_attributes<R: SystemFiles>(rt: &R, part: SavedFile, file: &PartFile<'_>) -> Reply {
+pub fn copy_attributes<R: SystemFiles>(rt: &R, part: SavedFile, file: &mut PartFile<'_>) -> Reply {
+    match copy_found_attributes(rt, part, file) {
+        Some(reply) => reply,
+        None => {
+            file.note_change();
+            Reply::Failed
+        }
+    }
+}
+
+/// Copies the attributes of the old file; none if that is not the one that was read.
+fn copy_found_attributes<R: SystemFiles>(
+    rt: &R,
+    part: SavedFile,
+    file: &PartFile<'_>,
+) -> Option<Reply> {
     let (Some(read), NewFile::Open(created)) = (file.read, &file.new_file) else {
-        return Reply::Failed;
+        return Some(Reply::Failed);
     };
     match (part, read.journal) {
         (SavedFile::Text, _) => make_like(rt, file.own, read.text, created),
@@ -95,17 +116,17 @@ pub fn copy_attributes<R: SystemFiles>(rt: &R, part: SavedFile, file: &PartFile<
     }
 }
 
-/// Gives the new file the owner, group and mode of a file that was read. The owner comes first,
-/// since a change of it takes bits of the mode away.
-fn make_like<R: SystemFiles>(rt: &R, name: &str, seen: Snapshot, created: &File) -> Reply {
-    match fs::symlink_metadata(rt, name) {
+/// Gives the new file the owner, group and mode of a file that was read; none if that is another one
+/// now. The owner comes first, since a change of it takes bits of the mode away.
+fn make_like<R: SystemFiles>(rt: &R, path: &str, seen: Snapshot, created: &File) -> Option<Reply> {
+    match fs::symlink_metadata(rt, path) {
         Ok(old) if Snapshot::of_found(&old) == seen => match copy_owner(&old, created) {
-            Reply::Done => set_permissions(created, old.permissions()),
-            reply => reply,
+            Reply::Done => Some(set_permissions(created, old.permissions())),
+            reply => Some(reply),
         },
         // another command has renamed the new file to the part: its bytes have to follow
-        Ok(old) if is_created(&old, created) => Reply::Done,
-        _ => Reply::Failed,
+        Ok(old) if is_created(&old, created) => Some(Reply::Done),
+        _ => None,
     }
 }
 
@@ -138,22 +159,20 @@ fn reply_to_owner(answer: io::Result<()>) -> Reply {
 }
 
 /// Gives a first journal the owner and group of the text's file, and of its mode what a journal
-/// needs.
+/// needs; none if that file is another one now.
 fn make_first_journal<R: SystemFiles>(
     rt: &R,
     paths: &FilePaths,
     seen: Snapshot,
     created: &File,
-) -> Reply {
-    let Some(text) = find_seen_text(rt, paths, seen) else {
-        return Reply::Failed;
-    };
+) -> Option<Reply> {
+    let text = find_seen_text(rt, paths, seen)?;
     match copy_owner(&text, created) {
         Reply::Done => {
             let mode = first_journal_mode(text.permissions().mode(), true, true);
-            set_permissions(created, Permissions::from_mode(mode))
+            Some(set_permissions(created, Permissions::from_mode(mode)))
         }
-        reply => reply,
+        reply => Some(reply),
     }
 }
 

@@ -1,6 +1,7 @@
 //! Writes a text and its journal in place, where no new files can replace them.
 
-use crate::file_part::{write_fault, write_part};
+use crate::cause::{Cause, Reason, Subject, Trouble};
+use crate::file_part::{Unwritten, subject_of, unwritten_part, write_fault, write_part};
 use crate::file_paths::FilePaths;
 use crate::folder::SystemFiles;
 use crate::new_file::{PRIVATE, adapt_first_journal, find_created};
@@ -9,7 +10,7 @@ use crate::size_limit::size_limit;
 use crate::snapshot::{Snapshot, Snapshots};
 use std::alloc::Global;
 use std::fs::{self, File, OpenFile, OpenOptions};
-use std::io::{ErrorKind, Read, Seek, Write};
+use std::io::{self, ErrorKind, Read, Seek, Write};
 use std::os::unix::fs::OpenOptionsExt;
 use tf_saving::Reply;
 use tf_session::{RunFault, SessionPart};
@@ -30,9 +31,9 @@ pub fn overwrite<R: SystemFiles>(
     paths: &FilePaths,
     contents: NewContents<'_>,
     read: Option<Snapshots>,
-) -> Result<(), RunFault> {
+) -> Result<(), Trouble> {
     let Some(read) = read else {
-        return Err(write_fault(SessionPart::Text, 0));
+        return Err(Trouble::from(write_fault(SessionPart::Text, 0)));
     };
     match read.journal {
         Some(journal) => overwrite_both(rt, alloc, paths, contents, read.text, journal),
@@ -48,7 +49,7 @@ fn overwrite_both<R: SystemFiles>(
     contents: NewContents<'_>,
     seen: Snapshot,
     seen_journal: Snapshot,
-) -> Result<(), RunFault> {
+) -> Result<(), Trouble> {
     let old_journal = old_bytes(
         rt,
         alloc,
@@ -76,7 +77,7 @@ fn create_and_overwrite<R: SystemFiles>(
     paths: &FilePaths,
     contents: NewContents<'_>,
     seen: Snapshot,
-) -> Result<(), RunFault> {
+) -> Result<(), Trouble> {
     let old_text = old_bytes(rt, alloc, SessionPart::Text, &paths.text, seen)?;
     check_sizes(size_limit(rt, alloc), contents, &old_text, &None)?;
     let mut journal = create_journal(rt, paths, seen)?;
@@ -95,11 +96,11 @@ fn overwrite_text<R: SystemFiles>(
     seen: Snapshot,
     journal: &mut File,
     old_text: &Option<Vec<u8>>,
-) -> Result<(), RunFault> {
+) -> Result<(), Trouble> {
     sync_journal_name(paths)?;
     let mut text = open_seen(rt, SessionPart::Text, &paths.text, seen)?;
     if len_of(journal) != Some(0) {
-        return Err(write_fault(SessionPart::Journal, 0));
+        return Err(changed(SessionPart::Journal));
     }
     let put = write_both(journal, &mut text, contents);
     if put.is_err() {
@@ -111,17 +112,43 @@ fn overwrite_text<R: SystemFiles>(
 
 /// Writes both, and truncates neither before both are written. So if the disk is full, no old byte
 /// is lost yet, or the old bytes can be put back without more space.
-fn write_both<F: Write + OpenFile>(
-    journal: &mut F,
-    text: &mut F,
+fn write_both(
+    journal: &mut File,
+    text: &mut File,
     contents: NewContents<'_>,
-) -> Result<(), RunFault> {
-    write_part(SessionPart::Journal, contents.journal, journal)?;
-    write_part(SessionPart::Text, contents.text, text)?;
+) -> Result<(), Trouble> {
+    put_part(SessionPart::Journal, contents.journal, journal)?;
+    put_part(SessionPart::Text, contents.text, text)?;
     truncate(SessionPart::Text, text, contents.text.len())?;
     truncate(SessionPart::Journal, journal, contents.journal.len())?;
     sync(SessionPart::Journal, journal, contents.journal.len())?;
     sync(SessionPart::Text, text, contents.text.len())
+}
+
+/// Writes all bytes of a part.
+///
+/// # Errors
+///
+/// `Write` with the number of bytes that were written.
+fn put_part(part: SessionPart, bytes: &[u8], file: &mut File) -> Result<(), Trouble> {
+    match write_part(part, bytes, file) {
+        Ok(()) => Ok(()),
+        Err(Unwritten { sent, cause }) => Err(unwritten_part(part, sent, cause)),
+    }
+}
+
+/// Returns the error that another program has changed a file, of which nothing was written.
+fn changed(part: SessionPart) -> Trouble {
+    let cause = Cause {
+        subject: Subject::File,
+        reason: Reason::Changed,
+    };
+    unwritten_part(part, 0, Some(cause))
+}
+
+/// Returns the error of a part after a call that failed so.
+fn refused(part: SessionPart, sent: usize, error: &io::Error) -> Trouble {
+    unwritten_part(part, sent, Cause::after(subject_of(part), error))
 }
 
 /// Tests that no file would get more bytes than this limit: neither by the new bytes, nor by the old
@@ -135,7 +162,7 @@ fn check_sizes(
     contents: NewContents<'_>,
     old_text: &Option<Vec<u8>>,
     old_journal: &Option<Vec<u8>>,
-) -> Result<(), RunFault> {
+) -> Result<(), Trouble> {
     check_size(limit, SessionPart::Journal, contents.journal, old_journal)?;
     check_size(limit, SessionPart::Text, contents.text, old_text)
 }
@@ -146,7 +173,7 @@ fn check_size(
     part: SessionPart,
     new: &[u8],
     old: &Option<Vec<u8>>,
-) -> Result<(), RunFault> {
+) -> Result<(), Trouble> {
     let Some(limit) = limit else {
         return Ok(());
     };
@@ -157,7 +184,11 @@ fn check_size(
     if new.len() as u64 <= limit && old as u64 <= limit {
         Ok(())
     } else {
-        Err(write_fault(part, 0))
+        let cause = Cause {
+            subject: subject_of(part),
+            reason: Reason::OverSizeLimit,
+        };
+        Err(unwritten_part(part, 0, Some(cause)))
     }
 }
 
@@ -169,7 +200,7 @@ fn create_journal<R: SystemFiles>(
     rt: &R,
     paths: &FilePaths,
     seen: Snapshot,
-) -> Result<File, RunFault> {
+) -> Result<File, Trouble> {
     let mut options = OpenOptions::new();
     options.write(true).create_new(true).mode(PRIVATE);
     match options.open(rt, &paths.journal) {
@@ -177,14 +208,16 @@ fn create_journal<R: SystemFiles>(
             adapt_first_journal(rt, paths, seen, &journal);
             Ok(journal)
         }
-        Err(_) => Err(write_fault(SessionPart::Journal, 0)),
+        Err(error) => Err(refused(SessionPart::Journal, 0, &error)),
     }
 }
 
 /// Waits until the name of a new journal is durable.
-fn sync_journal_name(paths: &FilePaths) -> Result<(), RunFault> {
+fn sync_journal_name(paths: &FilePaths) -> Result<(), Trouble> {
     match paths.journal_folder().sync() {
-        Reply::Failed | Reply::NotFound => Err(write_fault(SessionPart::Journal, 0)),
+        Reply::Failed | Reply::NotFound => {
+            Err(Trouble::from(write_fault(SessionPart::Journal, 0)))
+        }
         Reply::Done | Reply::CannotReplace => Ok(()),
     }
 }
@@ -217,33 +250,32 @@ fn open_seen<R: SystemFiles>(
     part: SessionPart,
     name: &str,
     seen: Snapshot,
-) -> Result<File, RunFault> {
+) -> Result<File, Trouble> {
     match OpenOptions::new().write(true).open(rt, name) {
         Ok(file) if seen.is_of(&file) => Ok(file),
-        _ => Err(write_fault(part, 0)),
+        Ok(_) => Err(changed(part)),
+        Err(error) => Err(refused(part, 0, &error)),
     }
 }
 
 /// Cuts off what follows the bytes of a part. In what is no regular file there is nothing.
-fn truncate<F: OpenFile>(part: SessionPart, file: &F, len: usize) -> Result<(), RunFault> {
-    if file.set_len(len as u64).is_ok() || !is_regular_file(file) {
-        Ok(())
-    } else {
-        Err(write_fault(part, len))
+fn truncate(part: SessionPart, file: &File, len: usize) -> Result<(), Trouble> {
+    match file.set_len(len as u64) {
+        Err(error) if is_regular_file(file) => Err(refused(part, len, &error)),
+        _ => Ok(()),
     }
 }
 
 /// Waits until the bytes of a part are durable. What is no regular file may have no such call.
-fn sync<F: OpenFile>(part: SessionPart, file: &F, len: usize) -> Result<(), RunFault> {
-    if file.sync_all().is_ok() || !is_regular_file(file) {
-        Ok(())
-    } else {
-        Err(write_fault(part, len))
+fn sync(part: SessionPart, file: &File, len: usize) -> Result<(), Trouble> {
+    match file.sync_all() {
+        Err(error) if is_regular_file(file) => Err(refused(part, len, &error)),
+        _ => Ok(()),
     }
 }
 
 /// Whether this is a regular file. Where the system does not say, it is.
-fn is_regular_file<F: OpenFile>(file: &F) -> bool {
+fn is_regular_file(file: &File) -> bool {
     match file.metadata() {
         Ok(found) => found.is_file(),
         Err(_) => true,
@@ -258,21 +290,24 @@ fn old_bytes<R: SystemFiles>(
     part: SessionPart,
     name: &str,
     seen: Snapshot,
-) -> Result<Option<Vec<u8>>, RunFault> {
+) -> Result<Option<Vec<u8>>, Trouble> {
     if !seen.is_regular() {
         return Ok(None);
     }
-    let Ok(mut file) = fs::open(rt, name) else {
-        return Err(RunFault::Read);
+    let mut file = match fs::open(rt, name) {
+        Ok(file) => file,
+        Err(error) => return Err(Trouble::unread_after(subject_of(part), &error)),
     };
     if !seen.is_of(&file) {
-        return Err(write_fault(part, 0));
+        return Err(changed(part));
     }
     let mut bytes = Vec::new(alloc);
     match file.read_to_end(&mut bytes) {
         Ok(_) => Ok(Some(bytes)),
-        Err(error) if error.kind() == ErrorKind::OutOfMemory => Err(RunFault::Memory),
-        Err(_) => Err(RunFault::Read),
+        Err(error) if error.kind() == ErrorKind::OutOfMemory => {
+            Err(Trouble::from(RunFault::Memory))
+        }
+        Err(error) => Err(Trouble::unread_after(subject_of(part), &error)),
     }
 }
 

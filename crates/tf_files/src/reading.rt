@@ -3,16 +3,20 @@
 ghost use Rattle.std.specs.Prelude.{◌≡◌, true, IfErr};
 ghost use Rattle.tf_files.specs.Opening.{is_file_fault};
 
+use crate::cause::{Reason, Subject, Trouble};
 use crate::file_paths::FilePaths;
 use crate::folder::SystemFiles;
 use crate::found_files::FileId;
-use crate::leftovers::{look, open_found, takes};
+use crate::leftovers::{look_for, open_found, refusal};
 use crate::snapshot::{Snapshot, Snapshots};
 use crate::trust::Access;
 use std::alloc::Global;
 use std::fs::{self, File, OpenFile};
-use std::io::{self, ErrorKind, Read};
+use std::io::Read;
 use tf_session::{RunFault, Told, take_journal, take_text};
+
+/// The system's number of the error that a file is a folder: `EISDIR` of Linux.
+const IS_A_FOLDER: i32 = 21;
 
 /// What was read of a file and its journal.
 #[derive(Drop)]
@@ -23,25 +27,6 @@ pub struct ReadContents {
     pub seen: Option<Snapshots>,
 }
 
-/// What was found of a journal, before it is read.
-#[derive(Drop)]
-enum FoundJournal {
-    Absent,
-    Opened(File),
-    /// It can't be opened, or may not be taken for a journal of the file.
-    Unreadable,
-}
-
-/// A journal that can't be read: its first read fails.
-#[derive(Drop)]
-struct Unreadable;
-
-impl Read for Unreadable {
-    fn read(&mut self, _buf: &mut [u8]) -> io::Result<usize> {
-        Err(io::Error::from(ErrorKind::PermissionDenied))
-    }
-}
-
 /// Reads a text and its journal. What they were is found out by the handles that are read, since
 /// another program may put other files in the place of the names. A journal that is not there is
 /// the empty one.
@@ -49,28 +34,30 @@ impl Read for Unreadable {
 /// # Errors
 ///
 /// Those of `take_text` and `take_journal`; `Read` for a file that can't be opened, and for a
-/// journal that may not be taken for one of this file.
+/// journal that may not be taken for one of this file: after a text that is too long.
 pub fn read<R: SystemFiles>(
     rt: &R,
     alloc: Global,
     paths: &FilePaths,
-) -> Result<ReadContents, RunFault>
-    ensures { IfErr result (λ fault. is_file_fault fault ≡ true) }
+) -> Result<ReadContents, Trouble>
+    ensures { IfErr result (λ trouble. is_file_fault trouble.fault ≡ true) }
 {
-    let Ok(text) = fs::open(rt, &paths.text) else {
-        return Err(RunFault::Read);
-    };
+    let text = open_to_read(rt, &paths.text)?;
     let seen = Snapshot::of_opened(&text);
     match find_journal(rt, paths, &text) {
-        FoundJournal::Opened(journal) => {
+        Ok(Some(journal)) => {
             let seen = Snapshots::with_journal(seen, Snapshot::of_opened(&journal));
             read_both(alloc, text, journal, seen)
         }
-        FoundJournal::Absent => {
+        Ok(None) => {
             let seen = Snapshots::without_journal(seen);
             read_both(alloc, text, b"".as_slice(), seen)
         }
-        FoundJournal::Unreadable => read_both(alloc, text, Unreadable, None),
+        Err(trouble) => match take_text(alloc, &mut Told::new(text)) {
+            Err(RunFault::Endless) => Err(Trouble::from(RunFault::Endless)),
+            Err(RunFault::Memory) => Err(Trouble::from(RunFault::Memory)),
+            _ => Err(trouble),
+        },
     }
 }
 
@@ -84,31 +71,64 @@ pub fn read_with<R: SystemFiles>(
     alloc: Global,
     paths: &FilePaths,
     journal: &File,
-) -> Result<ReadContents, RunFault>
-    ensures { IfErr result (λ fault. is_file_fault fault ≡ true) }
+) -> Result<ReadContents, Trouble>
+    ensures { IfErr result (λ trouble. is_file_fault trouble.fault ≡ true) }
 {
-    match fs::open(rt, &paths.text) {
-        Ok(text) => read_both(alloc, text, journal, None),
-        Err(_) => Err(RunFault::Read),
+    let text = open_to_read(rt, &paths.text)?;
+    read_both(alloc, text, journal, None)
+}
+/// Opens a file to be read.
+///
+/// # Errors
+///
+/// `Read`; of a folder too, which can be opened, and not read.
+pub fn open_to_read<R: SystemFiles>(rt: &R, path: &str) -> Result<File, Trouble>
+    ensures { IfErr result (λ trouble. is_file_fault trouble.fault ≡ true) }
+{
+    match fs::open(rt, path) {
+        Ok(text) if is_folder(&text) => {
+            let reason = Reason::System(IS_A_FOLDER);
+            Err(Trouble::unread(Subject::File, reason))
+        }
+        Ok(text) => Ok(text),
+        Err(error) => Err(Trouble::unread_after(Subject::File, &error)),
     }
 }
 
-/// Looks for the journal of an opened text, and opens it. It is opened only if it is a regular file
-/// that may be taken for a journal.
-fn find_journal<R: SystemFiles>(rt: &R, paths: &FilePaths, text: &File) -> FoundJournal {
-    let Ok(text) = text.metadata() else {
-        return FoundJournal::Unreadable;
-    };
-    match look(rt, &paths.journal) {
-        Ok(None) => FoundJournal::Absent,
-        Ok(Some(found)) if takes(rt, &found, &Access::of(&text), paths.journal_folder()) => {
-            match open_found(rt, &paths.journal, FileId::of(&found)) {
-                Some(journal) => FoundJournal::Opened(journal),
-                None => FoundJournal::Unreadable,
-            }
-        }
-        _ => FoundJournal::Unreadable,
+/// Returns whether this is known to be a folder.
+fn is_folder(file: &File) -> bool {
+    match file.metadata() {
+        Ok(found) => found.is_dir(),
+        Err(_) => false,
     }
+}
+
+/// Looks for the journal of an opened text, and opens it; `Ok(None)` if there is none. It is opened
+/// only if it is a regular file that may be taken for a journal.
+///
+/// # Errors
+///
+/// `Read`.
+fn find_journal<R: SystemFiles>(
+    rt: &R,
+    paths: &FilePaths,
+    text: &File,
+) -> Result<Option<File>, Trouble>
+    ensures { IfErr result (λ trouble. is_file_fault trouble.fault ≡ true) }
+{
+    let Some(found) = look_for(rt, &paths.journal, Subject::Journal)? else {
+        return Ok(None);
+    };
+    let text = match text.metadata() {
+        Ok(text) => Access::of(&text),
+        Err(error) => return Err(Trouble::unread_after(Subject::File, &error)),
+    };
+    if let Some(reason) = refusal(rt, &found, &text, paths.journal_folder()) {
+        return Err(Trouble::unread(Subject::Journal, reason));
+    }
+    let id = FileId::of(&found);
+    let journal = open_found(rt, &paths.journal, id, Subject::Journal)?;
+    Ok(Some(journal))
 }
 
 /// Reads a text and then a journal, each up to its end.
@@ -117,8 +137,8 @@ fn read_both<T: Read + Drop, J: Read + Drop>(
     text: T,
     journal: J,
     seen: Option<Snapshots>,
-) -> Result<ReadContents, RunFault>
-    ensures { IfErr result (λ fault. is_file_fault fault ≡ true) }
+) -> Result<ReadContents, Trouble>
+    ensures { IfErr result (λ trouble. is_file_fault trouble.fault ≡ true) }
 {
     let text = take_text(alloc, &mut Told::new(text))?;
     let journal = take_journal(alloc, &mut Told::new(journal))?;

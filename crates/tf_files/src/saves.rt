@@ -6,6 +6,7 @@ ghost use Rattle.tf_files.specs.Ends.{attempt_of, ended_attempt, failed_attempt}
 ghost use Rattle.tf_files.specs.Opening.{is_file_fault};
 
 use crate::calls::{NewFile, PartFile, make};
+use crate::cause::{Cause, Trouble};
 use crate::file_part::write_fault;
 use crate::file_paths::FilePaths;
 use crate::folder::SystemFiles;
@@ -93,8 +94,8 @@ pub fn recover<R: SystemFiles>(
     alloc: Global,
     paths: &FilePaths,
     left: Leftovers,
-) -> Result<(), RunFault>
-    ensures { IfErr result (λ fault. is_file_fault fault ≡ true) }
+) -> Result<(), Trouble>
+    ensures { IfErr result (λ trouble. is_file_fault trouble.fault ≡ true) }
 {
     let new_text = NewFile::Left(left.new_text);
     let new_journal = NewFile::Left(left.new_journal);
@@ -104,8 +105,13 @@ pub fn recover<R: SystemFiles>(
         step: Step::RECOVER,
         synced: None,
     };
-    let _ = recovery.result(rt, alloc)?;
-    Ok(())
+    match recovery.result(rt, alloc) {
+        Ok(_) => Ok(()),
+        Err(fault) => Err(Trouble {
+            fault,
+            cause: recovery.cause(),
+        }),
+    }
 }
 
 impl<'a> Save<'a> {
@@ -132,6 +138,14 @@ impl<'a> Save<'a> {
             journal: PartFile::journal(paths, contents.journal, read, new_file, is_in_company),
             step: Step::SAVE,
             synced: None,
+        }
+    }
+
+    /// Returns why a call failed, if it is known.
+    pub fn cause(&self) -> Option<Cause> {
+        match self.text.cause {
+            Some(cause) => Some(cause),
+            None => self.journal.cause,
         }
     }
 

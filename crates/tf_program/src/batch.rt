@@ -366,7 +366,7 @@ impl<'a> Batch<'a> {
             Ok(file_outcome) => self.outcome = self.outcome.with_file(file_outcome),
             Err(error) => {
                 self.outcome = self.outcome.with_fault();
-                error.report(self.alloc, faults, name);
+                error.report(self.alloc, faults, name, self.locate);
             }
         }
     }

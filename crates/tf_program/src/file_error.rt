@@ -7,7 +7,7 @@ ghost use Rattle.tf_program.specs.Work.{IsLocatedIn};
 use crate::location::{Location, byte_of, location_of};
 use std::alloc::{AllocError, Global};
 use std::io::Write;
-use tf_files::FileFault;
+use tf_files::{Cause, FileFault, Trouble};
 use tf_session::RunFault;
 
 /// An error of a file.
@@ -16,17 +16,36 @@ pub struct FileError {
     pub fault: RunFault,
     /// Where it is in the file, if that is to be reported.
     location: Option<Location>,
+    /// Why the file can't be read or written, if that is known.
+    cause: Option<Cause>,
 }
 
 impl From<RunFault> for FileError {
     ghost use Rattle.std.specs.Prelude.{None};
 
-    ghost from_gives = { λ given error. error ≡ record { fault = given; location = None } };
+    ghost from_gives = { λ given error.
+        error ≡ record { fault = given; location = None; cause = None } };
 
     fn from(fault: RunFault) -> FileError {
         FileError {
             fault,
             location: None,
+            cause: None,
+        }
+    }
+}
+
+impl From<Trouble> for FileError {
+    ghost use Rattle.std.specs.Prelude.{None};
+
+    ghost from_gives = { λ given error.
+        error ≡ record { fault = given.fault; location = None; cause = given.cause } };
+
+    fn from(trouble: Trouble) -> FileError {
+        FileError {
+            fault: trouble.fault,
+            location: None,
+            cause: trouble.cause,
         }
     }
 }
@@ -38,7 +57,11 @@ impl FileError {
         ensures location { IsLocationOf text.now (byte_of fault) result.location }
     {
         let location = location_in(&fault, text);
-        FileError { fault, location }
+        FileError {
+            fault,
+            location,
+            cause: None,
+        }
     }
 
     /// Returns the error of a command that did nothing to a file, located if `locate` says so.
@@ -55,33 +78,41 @@ impl FileError {
 
     /// Writes the lines of the error of a file at once, so that lines of programs that run side by
     /// side don't mix. Without memory for that, the first is written in pieces, and one that says
-    /// so in place of the line of the location. If standard error takes nothing, the exit status
-    /// still reports the error.
-    pub fn report<F: Write>(&self, alloc: Global, faults: &mut F, name: &str) {
-        match self.lines(alloc, name) {
+    /// so in place of the other. If standard error takes nothing, the exit status still reports the
+    /// error.
+    pub fn report<F: Write>(&self, alloc: Global, faults: &mut F, name: &str, locate: bool) {
+        match self.lines(alloc, name, locate) {
             Ok(lines) => {
                 let _ = faults.write_all(lines.as_bytes());
             }
             Err(_) => {
                 let _ = writeln!(faults, "tfk: {name}: {}", self.fault);
-                if self.location.is_some() {
+                if self.has_second_line(locate) {
                     let _ = writeln!(faults, "tfk: {name}: {}", RunFault::Memory);
                 }
             }
         }
     }
 
-    /// Returns the line `tfk: NAME: ERROR` and, if the error is located, one that begins with
-    /// `NAME:LINE:COLUMN`.
-    fn lines(&self, alloc: Global, name: &str) -> Result<String, AllocError> {
+    /// Returns whether there is more to say than the error.
+    fn has_second_line(&self, locate: bool) -> bool {
+        self.location.is_some() || (locate && self.cause.is_some())
+    }
+
+    /// Returns the line `tfk: NAME: ERROR` and, if errors are located, one that says where it is in
+    /// the file and begins with `NAME:LINE:COLUMN`, or why the file can't be read or written.
+    fn lines(&self, alloc: Global, name: &str, locate: bool) -> Result<String, AllocError> {
         let fault = self.fault;
-        match self.location {
-            Some(Location { line, column }) => {
+        match (self.location, self.cause) {
+            (Some(Location { line, column }), _) => {
                 let whole = format!(in alloc; "{fault}")?;
                 let text = text_after_byte(whole.as_str());
                 format!(in alloc; "tfk: {name}: {fault}\n{name}:{line}:{column}: error: {text}\n")
             }
-            None => format!(in alloc; "tfk: {name}: {fault}\n"),
+            (None, Some(cause)) if locate => {
+                format!(in alloc; "tfk: {name}: {fault}\n{name}: error: {cause}\n")
+            }
+            _ => format!(in alloc; "tfk: {name}: {fault}\n"),
         }
     }
 }

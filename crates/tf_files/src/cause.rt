@@ -1,0 +1,138 @@
+//! Why a file can't be read or written, beside the error that says which of both.
+
+ghost use Rattle.std.specs.Prelude.{◌≡◌, true};
+ghost use Rattle.tf_files.specs.Opening.{is_file_fault};
+
+use std::alloc::AllocError;
+use std::{fmt, io};
+use tf_session::RunFault;
+
+/// Which file a cause is about.
+#[derive(Clone, Copy)]
+pub enum Subject {
+    File,
+    Journal,
+    NewText,
+    NewJournal,
+}
+
+/// What is wrong with a file.
+#[derive(Clone, Copy)]
+pub enum Reason {
+    /// The system refused a call, with this number (errno).
+    System(i32),
+    /// It is another file by now, or its bytes, its owner or its mode are others.
+    Changed,
+    /// Another user may have put it there.
+    OfAnotherUser,
+    /// It is a folder, a pipe, a device or, where none may be, a link.
+    NotRegular,
+    /// It is a link, and what it leads to is no journal, or the link is another user's.
+    Link,
+    /// It would be longer than the limit of a file's size.
+    OverSizeLimit,
+}
+
+/// Why a file, its journal or a new file can't be read or written.
+#[derive(Clone, Copy)]
+pub struct Cause {
+    pub subject: Subject,
+    pub reason: Reason,
+}
+
+/// An error of a file, and its cause if it is known.
+#[derive(Clone, Copy)]
+pub struct Trouble {
+    pub fault: RunFault,
+    pub cause: Option<Cause>,
+}
+
+impl Trouble {
+    /// Returns the error of a file that can't be read.
+    pub fn unread(subject: Subject, reason: Reason) -> Trouble
+        ensures { result.fault ≡ RunFault.Read }
+    {
+        Trouble {
+            fault: RunFault::Read,
+            cause: Some(Cause { subject, reason }),
+        }
+    }
+
+    /// Returns the error of a file that can't be read after a call that failed so.
+    pub fn unread_after(subject: Subject, error: &io::Error) -> Trouble
+        ensures { result.fault ≡ RunFault.Read }
+    {
+        Trouble {
+            fault: RunFault::Read,
+            cause: Cause::after(subject, error),
+        }
+    }
+}
+
+impl Trouble {
+    /// Returns this error if it is one of files, else that a file can't be read.
+    pub fn of_files(self) -> Trouble
+        ensures { is_file_fault result.fault ≡ true }
+    {
+        match self.fault {
+            RunFault::Memory | RunFault::Read | RunFault::Endless | RunFault::Write { .. } => self,
+            _ => Trouble::from(RunFault::Read),
+        }
+    }
+}
+
+impl Cause {
+    /// Returns the cause of a call that failed with this error; none if it isn't the system's.
+    pub fn after(subject: Subject, error: &io::Error) -> Option<Cause> {
+        match error.raw_os_error() {
+            Some(number) => Some(Cause {
+                subject,
+                reason: Reason::System(number),
+            }),
+            None => None,
+        }
+    }
+}
+
+impl From<AllocError> for Trouble {
+    ghost use Rattle.std.specs.Prelude.{None};
+    ghost use Rattle.tf_session.specs.declared.fault.RunFault.TheVariants.{Memory};
+
+    ghost from_gives = { λ _ trouble. trouble ≡ record { fault = Memory; cause = None } };
+
+    fn from(_: AllocError) -> Trouble {
+        Trouble {
+            fault: RunFault::Memory,
+            cause: None,
+        }
+    }
+}
+
+impl From<RunFault> for Trouble {
+    ghost use Rattle.std.specs.Prelude.{None};
+
+    ghost from_gives = { λ given trouble. trouble ≡ record { fault = given; cause = None } };
+
+    fn from(fault: RunFault) -> Trouble {
+        Trouble { fault, cause: None }
+    }
+}
+
+impl fmt::Display for Cause {
+    fn fmt<W: fmt::Write>(&self, f: &mut fmt::Formatter<W>) -> fmt::Result {
+        match self.subject {
+            Subject::File => {}
+            Subject::Journal => f.write_str("its journal: ")?,
+            Subject::NewText => f.write_str("its .tfnew: ")?,
+            Subject::NewJournal => f.write_str("its .tfundo.new: ")?,
+        }
+        match self.reason {
+            Reason::System(number) => { write!(f, "{}", io::Error::from_raw_os_error(number)) }
+            Reason::Changed => f.write_str("changed by another program"),
+            Reason::OfAnotherUser => f.write_str("of another user, who may not write the file"),
+            Reason::NotRegular => f.write_str("no regular file"),
+            Reason::Link => f.write_str("a link that is not followed"),
+            Reason::OverSizeLimit => f.write_str("over the limit of a file's size"),
+        }
+    }
+}
