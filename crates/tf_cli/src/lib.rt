@@ -2,6 +2,7 @@
 //! exit status.
 #![tactic(auto)]
 
+mod advice;
 mod command_line;
 mod help;
 mod options;
