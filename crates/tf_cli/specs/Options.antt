@@ -53,7 +53,7 @@ flag_commands Flag.EnableRule = Commands.LintAndFix
 flag_commands Flag.DisableRule = Commands.LintAndFix
 flag_commands Flag.Take = Commands.Revert
 flag_commands Flag.List = Commands.Revert
-flag_commands Flag.Locate = Commands.AllButRevert
+flag_commands Flag.Locate = Commands.All
 
 abbrev pub is_among : Commands → Subcommand → Bool
 is_among Commands.Fmt Subcommand.Fmt = true
@@ -61,10 +61,9 @@ is_among Commands.Fmt subcommand = false
 is_among Commands.LintAndFix Subcommand.Lint = true
 is_among Commands.LintAndFix Subcommand.Fix = true
 is_among Commands.LintAndFix subcommand = false
-is_among Commands.AllButRevert Subcommand.Revert = false
-is_among Commands.AllButRevert subcommand = true
 is_among Commands.Revert Subcommand.Revert = true
 is_among Commands.Revert subcommand = false
+is_among Commands.All subcommand = true
 
 -- a command has an option
 abbrev pub has_flag : Subcommand → Flag → Bool

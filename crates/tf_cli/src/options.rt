@@ -89,8 +89,8 @@ pub enum FlagValue {
 pub enum Commands {
     Fmt,
     LintAndFix,
-    AllButRevert,
     Revert,
+    All,
 }
 
 impl Subcommand {
@@ -217,10 +217,10 @@ impl Flag {
             },
             Flag::Locate => FlagInfo {
                 name: "locate",
-                help: "Also report errors as FILE:LINE:COLUMN: error: TEXT",
+                help: "Also print where each error is, and why",
                 value: FlagValue::Nothing,
                 conflict: None,
-                commands: Commands::AllButRevert,
+                commands: Commands::All,
             },
         }
     }
@@ -248,8 +248,8 @@ impl Commands {
         match self {
             Commands::Fmt => matches!(subcommand, Subcommand::Fmt),
             Commands::LintAndFix => matches!(subcommand, Subcommand::Lint | Subcommand::Fix),
-            Commands::AllButRevert => !matches!(subcommand, Subcommand::Revert),
             Commands::Revert => matches!(subcommand, Subcommand::Revert),
+            Commands::All => true,
         }
     }
 }
