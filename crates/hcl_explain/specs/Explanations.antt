@@ -1,0 +1,53 @@
+-- What an explanation says of a text with tokens.
+use Rattle.std.specs.Prelude.{◌≡◌, ◌≢◌, ◌<◌, ℕ, List, [], length, Some}
+use Rattle.hcl_token.specs.TokenizedText.{TokenizedText, kind_of}
+use Rattle.hcl_token.specs.Tokens.{Pair}
+use Rattle.hcl_token.specs.declared.kind.Kind.TheVariants as k
+use Rattle.hcl_text_laws.specs.Faults.{byte_offset}
+use Rattle.hcl_text_laws.specs.declared.fault.ParseFault.{ParseFault}
+use Rattle.hcl_text_laws.specs.declared.fault.ParseFault.TheVariants as fault
+use Rattle.hcl_explain.specs.Openings.{open_before, innermost_open}
+use Rattle.hcl_explain.specs.declared.explanation.Explanation.{Explanation}
+use Rattle.hcl_explain.specs.declared.explanation.Reason.{Reason}
+use Rattle.hcl_explain.specs.declared.explanation.Reason.TheVariants as reason
+
+-- the reason is one that is printed at the token that was found
+abbrev pub IsOfFound : Reason → Type 0
+IsOfFound reason.NotClosed = ⊥
+IsOfFound reason.NoEnd = ⊥
+IsOfFound reason.TooDeep = Unit {0}
+IsOfFound (reason.Expected expected) = Unit {0}
+IsOfFound reason.ClosesNothing = Unit {0}
+IsOfFound (reason.Advice advice) = Unit {0}
+
+-- the token to be printed: the innermost opening that is not closed before the token that was found;
+-- the opening of a directive before it; or that token itself
+abbrev pub IsToken : List Pair → Reason → ℕ → ℕ → Type 0
+IsToken pairs reason.NotClosed token found = innermost_open pairs found ≡ Some token
+IsToken pairs reason.NoEnd token found = (kind_of pairs token ≡ Some k.DirectiveOpen) × (token < found)
+IsToken pairs reason.TooDeep token found = token ≡ found
+IsToken pairs (reason.Expected expected) token found = token ≡ found
+IsToken pairs reason.ClosesNothing token found = token ≡ found
+IsToken pairs (reason.Advice advice) token found = token ≡ found
+
+-- an explanation of a syntax error at this token, or at the end of the text
+pub record IsSyntaxExplanation (t : TokenizedText) (number : ℕ) (e : Explanation) : Type 0 where
+  pub found : e.found ≡ number
+  pub token : IsToken t.pairs e.reason e.token number
+  -- at the end of the text what is open there is blamed
+  pub open_at_end : number ≡ length t.pairs → open_before t.pairs number ≢ []
+      → e.reason ≡ reason.NotClosed
+
+-- an explanation of an error: the token that it says was found begins at the byte of the error, or
+-- it is the end of the text and the error is there
+abbrev pub IsExplanation : TokenizedText → ParseFault → Explanation → Type 0
+IsExplanation t (fault.Syntax at) e = (byte_offset t e.found ≡ at) × IsSyntaxExplanation t e.found e
+IsExplanation t (fault.TooDeep at) e =
+    (byte_offset t e.found ≡ at) × (e.token ≡ e.found) × (e.reason ≡ reason.TooDeep)
+IsExplanation t fault.Memory e = ⊥
+
+-- the error is at no token, and not at the end of the text
+abbrev pub IsAtNoToken : TokenizedText → ParseFault → Type 0
+IsAtNoToken t (fault.Syntax at) = (number : ℕ) → byte_offset t number ≢ at
+IsAtNoToken t (fault.TooDeep at) = (number : ℕ) → byte_offset t number ≢ at
+IsAtNoToken t fault.Memory = Unit {0}

@@ -1,0 +1,3 @@
+pub mod Explanations
+pub mod Openings
+pub mod ScanExplanations

@@ -1,0 +1,47 @@
+-- Which openings are not closed before a token.
+-- HCL native syntax specification, Lexical Elements, and Templates.
+use Rattle.std.specs.Prelude.{ℕ, zero, suc, Bool, true, false, if◌then◌else◌, List, [], ◌∷◌, drop, slice_get}
+use Rattle.std.specs.Prelude.{Option, Some, None}
+use Rattle.hcl_token.specs.declared.kind.Kind.{Kind}
+use Rattle.hcl_token.specs.declared.kind.Kind.TheVariants.{OpenParen, OpenBracket, OpenBrace, InterpOpen}
+use Rattle.hcl_token.specs.declared.kind.Kind.TheVariants.{DirectiveOpen, QuoteOpen, HereOpen, CloseParen}
+use Rattle.hcl_token.specs.declared.kind.Kind.TheVariants.{CloseBracket, CloseBrace, SeqClose, QuoteClose}
+use Rattle.hcl_token.specs.declared.kind.Kind.TheVariants.{HereClose}
+use Rattle.hcl_token.specs.Tokens.{Pair}
+use Rattle.hcl_token.specs.TokenizedText.{kind_of}
+
+-- `(`, `[`, `{`, `${`, `%{`, the quotes before a text, the opening of a heredoc
+abbrev pub opens : Kind → Bool
+opens OpenParen = true
+opens OpenBracket = true
+opens OpenBrace = true
+opens InterpOpen = true
+opens DirectiveOpen = true
+opens QuoteOpen = true
+opens HereOpen = true
+opens _ = false
+
+-- `)`, `]`, `}`, the `}` of a template sequence, the quotes after a text, the end of a heredoc
+abbrev pub closes : Kind → Bool
+closes CloseParen = true
+closes CloseBracket = true
+closes CloseBrace = true
+closes SeqClose = true
+closes QuoteClose = true
+closes HereClose = true
+closes _ = false
+
+-- what is open after token i, if this is open before it, the innermost first: numbers of tokens
+abbrev pub open_after : Option Kind → ℕ → List ℕ → List ℕ
+open_after None i opened = opened
+open_after (Some kind) i opened =
+    if opens kind then i ∷ opened else if closes kind then drop 1 opened else opened
+
+-- the openings that are not closed before token n, the innermost first
+abbrev pub open_before : List Pair → ℕ → List ℕ
+open_before pairs zero = []
+open_before pairs (suc i) = open_after (kind_of pairs i) i (open_before pairs i)
+
+-- the innermost of them
+abbrev pub innermost_open : List Pair → ℕ → Option ℕ
+innermost_open pairs n = slice_get (open_before pairs n) 0

@@ -1,0 +1,24 @@
+//! Says of a text that does not parse where the mistake is, what was found there, and what was
+//! expected or is not closed.
+//!
+//! `explain` and `explain_scan` return an explanation as a value, which contracts speak of;
+//! its sentence is made last.
+#![tactic(auto)]
+
+mod advice;
+mod context;
+mod directives;
+mod expected;
+mod explanation;
+mod found;
+mod near;
+mod openings;
+mod scan_error;
+mod scan_sentence;
+mod sentence;
+mod unclosed;
+
+pub use advice::Advice;
+pub use expected::Expected;
+pub use explanation::{Explanation, Reason, explain};
+pub use scan_error::{ScanExplanation, ScanReason, explain_scan};

@@ -1,0 +1,116 @@
+//! The tokens next to a token.
+
+ghost use Rattle.std.specs.Prelude.{◌≡◌, Some, true};
+ghost use Rattle.hcl_token.specs.TokenizedText.{kind_of};
+
+use hcl_scan::{Kind, Scanned};
+
+/// Returns the kind of token `i`, if there is one.
+pub fn kind_at(scanned: &Scanned<'_>, i: usize) -> Option<Kind>
+    ensures { result ≡ kind_of scanned.now.pairs i }
+{
+    if i < scanned.len() {
+        Some(scanned.kind(i))
+    } else {
+        None
+    }
+}
+
+/// Whether token `i` has this kind.
+pub fn is_kind(scanned: &Scanned<'_>, i: usize, kind: Kind) -> bool
+    ensures { result ≡ true → kind_of scanned.now.pairs i ≡ Some kind }
+{
+    match kind_at(scanned, i) {
+        Some(other) => other == kind,
+        None => false,
+    }
+}
+
+/// Whether token `i` is this word.
+pub fn is_word(scanned: &Scanned<'_>, i: usize, word: &[u8]) -> bool {
+    i < scanned.len() && scanned.kind(i) == Kind::Identifier && scanned.spelling(i) == word
+}
+
+/// Whether token `i` is one of the words of a `for`.
+pub fn is_keyword(scanned: &Scanned<'_>, i: usize) -> bool {
+    is_word(scanned, i, b"for") || is_word(scanned, i, b"in") || is_word(scanned, i, b"if")
+}
+
+/// Whether token `i` follows token `i - 1` with no gap.
+pub fn is_adjacent(scanned: &Scanned<'_>, i: usize) -> bool {
+    i < scanned.len() && scanned.gap(i).is_empty()
+}
+
+/// Whether the kind is one that ends a line.
+pub fn ends_line(kind: Kind) -> bool {
+    matches!(kind, Kind::LineEnd | Kind::LineComment)
+}
+
+/// Whether the grammar drops a token of the kind, where it drops line ends or not.
+fn is_skipped(kind: Kind, lines: bool) -> bool {
+    match kind {
+        Kind::InlineComment => true,
+        Kind::LineEnd | Kind::LineComment => lines,
+        _ => false,
+    }
+}
+
+/// Returns the number of the last token before number `i`, without those that are dropped.
+pub fn last_before(scanned: &Scanned<'_>, i: usize, lines: bool) -> Option<usize> {
+    for k in (0..i).rev() {
+        if let Some(kind) = kind_at(scanned, k) {
+            if !is_skipped(kind, lines) {
+                return Some(k);
+            }
+        }
+    }
+    None
+}
+
+/// Returns the number of the first token from number `i` on, without those that are dropped; how
+/// many tokens there are, if there is none.
+pub fn first_from(scanned: &Scanned<'_>, i: usize, lines: bool) -> usize {
+    for k in i..scanned.len() {
+        if let Some(kind) = kind_at(scanned, k) {
+            if !is_skipped(kind, lines) {
+                return k;
+            }
+        }
+    }
+    scanned.len()
+}
+
+/// Whether token `i` is the first of its line or of the text.
+pub fn is_line_start(scanned: &Scanned<'_>, i: usize) -> bool {
+    match last_before(scanned, i, false) {
+        Some(k) => match kind_at(scanned, k) {
+            Some(kind) => ends_line(kind) || kind == Kind::Mark,
+            None => false,
+        },
+        None => true,
+    }
+}
+
+/// Whether a value can end with token `i`.
+pub fn ends_value(scanned: &Scanned<'_>, i: usize) -> bool {
+    match kind_at(scanned, i) {
+        Some(Kind::Star) => i > 0 && ends_before_splat(scanned, i - 1),
+        Some(kind) => matches!(
+            kind,
+            Kind::Identifier
+                | Kind::Number
+                | Kind::DotIndex
+                | Kind::CloseBracket
+                | Kind::CloseParen
+                | Kind::CloseBrace
+                | Kind::QuoteClose
+                | Kind::HereClose
+        ),
+        None => false,
+    }
+}
+
+/// Whether a `*` after token `i` is a splat.
+fn ends_before_splat(scanned: &Scanned<'_>, i: usize) -> bool {
+    is_kind(scanned, i, Kind::Dot) || is_kind(scanned, i, Kind::OpenBracket)
+}

@@ -1,0 +1,116 @@
+//! Whether the innermost opening is not closed, where something else than its end was found.
+
+ghost use Rattle.std.specs.Prelude.{◌≡◌, ◌≤◌, true, length};
+
+use crate::context::{Context, context_of};
+use crate::near::{is_kind, is_line_start, kind_at, last_before};
+use crate::openings::{closes, closes_any, is_pair, opens};
+use hcl_scan::{Kind, Scanned};
+
+/// Whether token `found` shows that this opening, the innermost, is not closed.
+pub fn is_not_closed(scanned: &Scanned<'_>, opening: usize, found: usize) -> bool
+    requires { opening ≤ length scanned.now.pairs }
+    ensures { found ≡ length scanned.now.pairs → result ≡ true }
+{
+    match kind_at(scanned, found) {
+        Some(kind) => {
+            if closes(kind) {
+                return closes_outer(scanned, opening, kind);
+            }
+            begins_outside(scanned, opening, found)
+        }
+        None => true,
+    }
+}
+
+/// Whether a token of this kind closes not the innermost opening, but one around it.
+fn closes_outer(scanned: &Scanned<'_>, opening: usize, kind: Kind) -> bool
+    requires { opening ≤ length scanned.now.pairs }
+{
+    !closes_token(scanned, opening, kind) && closes_any(scanned, opening, kind)
+}
+
+/// Whether token `found` shows that the line of it is outside of this construct.
+fn begins_outside(scanned: &Scanned<'_>, opening: usize, found: usize) -> bool {
+    match context_of(scanned, Some(opening)) {
+        Context::Object => is_label_in_object(scanned, found),
+        Context::Interpolation => is_word_alone(scanned, found),
+        Context::Tuple
+        | Context::TupleFor
+        | Context::Index
+        | Context::Arguments
+        | Context::Parens => is_member(scanned, found) && !is_closed_after(scanned, opening, found),
+        _ => false,
+    }
+}
+
+/// Whether token `i` is a word alone on its line, as the marker that ends a heredoc.
+fn is_word_alone(scanned: &Scanned<'_>, i: usize) -> bool {
+    is_kind(scanned, i, Kind::Identifier)
+        && is_line_start(scanned, i)
+        && is_kind(scanned, i.saturating_add(1), Kind::LineEnd)
+}
+
+/// Whether the line of token `found` begins as an attribute or a block does: with this token, or
+/// with a name before it.
+fn is_member(scanned: &Scanned<'_>, found: usize) -> bool {
+    if is_kind(scanned, found, Kind::Equal) {
+        return is_after_name(scanned, found);
+    }
+    let next = found.saturating_add(1);
+    is_kind(scanned, found, Kind::Identifier)
+        && is_line_start(scanned, found)
+        && (is_kind(scanned, next, Kind::Equal) || are_labels(scanned, next))
+}
+
+/// Whether labels and a `{` follow from token `from` on.
+fn are_labels(scanned: &Scanned<'_>, from: usize) -> bool {
+    for i in from..scanned.len() {
+        match scanned.kind(i) {
+            Kind::Identifier | Kind::QuoteOpen | Kind::QuoteLit | Kind::QuoteClose => {}
+            kind => return matches!(kind, Kind::OpenBrace),
+        }
+    }
+    false
+}
+
+/// Whether the token before token `i` is a name with which a line begins.
+fn is_after_name(scanned: &Scanned<'_>, i: usize) -> bool {
+    match last_before(scanned, i, false) {
+        Some(last) => is_kind(scanned, last, Kind::Identifier) && is_line_start(scanned, last),
+        None => false,
+    }
+}
+
+/// Whether the first token from number `found` on that closes more than was opened from there on
+/// closes this opening.
+fn is_closed_after(scanned: &Scanned<'_>, opening: usize, found: usize) -> bool {
+    let mut opened = 0usize;
+    for i in found..scanned.len() {
+        let kind = scanned.kind(i);
+        if opens(kind) {
+            opened = opened.saturating_add(1);
+        } else if closes(kind) {
+            if opened == 0 {
+                return closes_token(scanned, opening, kind);
+            }
+            opened -= 1;
+        }
+    }
+    false
+}
+
+/// Whether a token of this kind closes this opening.
+fn closes_token(scanned: &Scanned<'_>, opening: usize, kind: Kind) -> bool {
+    match kind_at(scanned, opening) {
+        Some(innermost) => is_pair(innermost, kind),
+        None => false,
+    }
+}
+
+/// Whether token `found` begins the labels of a block, in an object.
+fn is_label_in_object(scanned: &Scanned<'_>, found: usize) -> bool {
+    is_kind(scanned, found, Kind::QuoteOpen)
+        && is_after_name(scanned, found)
+        && are_labels(scanned, found)
+}
