@@ -9,6 +9,7 @@ mod edit_syntax;
 mod journals;
 mod layouts;
 mod lints;
+mod mistakes;
 mod parses;
 mod records;
 mod rescan;
@@ -74,6 +75,7 @@ fn run_row(subject: &str, row: &Row, out: &mut Answer) {
         "journals" => journals::answer(row, out),
         "tokens" => tokens::answer(row, out),
         "parses" => parses::answer(row, out),
+        "mistakes" => mistakes::answer(row, out),
         "layouts" => layouts::answer(row, out),
         "lints" => lints::answer(row, out),
         _ => out.hold(false, "no such subject"),
