@@ -9,6 +9,7 @@
 
 mod edits;
 mod equality;
+mod explanations;
 mod fixtures;
 mod journals;
 mod no_allocation;
