@@ -20,7 +20,7 @@ const NEW_TEXT: &str = ".tfnew";
 /// The suffix that the name of a new journal adds to that of the journal that it is to replace.
 const NEW_JOURNAL: &str = ".new";
 
-/// So many links are followed, each leading to the next. No more does Linux follow.
+/// The most links that are followed, each to the next: as many as Linux follows.
 const MOST_LINKS: u32 = 40;
 
 /// A name in an open folder.
@@ -107,9 +107,9 @@ impl FilePaths {
         }
     }
 
-    /// Returns what is found under the path of the text. What a link leads to counts only where it
-    /// has no name of its own, as what `/dev/stdin` leads to: what other programs put in the place
-    /// of a file is not followed.
+    /// Returns what is found under the path of the text. A link is followed only if what it leads to
+    /// has no name of its own, as for `/dev/stdin`: one that other programs put in the place of a
+    /// file is not.
     ///
     /// # Errors
     ///

@@ -27,8 +27,8 @@ impl<R: Files<File = File>> SystemFiles for R {}
 pub struct Folder {
     /// None without the permission to read the folder.
     handle: Option<File>,
-    /// What comes before a name in this folder to make a path: what the system shows of the handle;
-    /// or, where it shows no handles, the folder's name as it was given.
+    /// The first part of the paths of files in this folder: what the system shows of the handle; or,
+    /// where it shows no handles, the folder's name as it was given.
     prefix: String,
 }
 
@@ -73,7 +73,7 @@ impl Folder {
         })
     }
 
-    /// Returns what comes before a name in this folder.
+    /// Returns the first part of the paths of files in this folder.
     pub fn prefix(&self) -> &str {
         self.prefix.as_str()
     }
@@ -113,8 +113,8 @@ impl Folder {
     }
 }
 
-/// Returns what comes before a name in a folder: the path that the system shows for its handle, if
-/// it does, else the folder's name.
+/// Returns the first part of the paths of files in a folder: the path that the system shows for its
+/// handle, if it does, else the folder's name.
 fn prefix_of(shown: String, name: String, is_shown: bool) -> String
     ensures { string_bytes result ≡ string_bytes (if is_shown then shown else name) }
 {
