@@ -1,7 +1,13 @@
 """Runs the built program, alone or with one of its system calls met, and counts what is seen."""
 import collections
+import importlib
+import multiprocessing
 import os
 import subprocess
+import sys
+import traceback
+
+TOOLS = os.path.dirname(os.path.dirname(os.path.abspath(__file__)))
 
 # A command that changes nothing, and recovers what an interrupted one left.
 NEXT_COMMAND = "revert --take 4294967295"
@@ -97,3 +103,40 @@ class Check:
         if len(kinds) > most:
             lines.append(f"  and {len(kinds) - most} more kinds")
         return ("" if self.has_passed else "FAILED ") + "\n".join(lines)
+
+
+def compiled(name, temp):
+    """Compiles a program of tools/, and returns where it is."""
+    words = ["cc", "-O2", "-o", f"{temp}/{name}", f"{TOOLS}/{name}.c"]
+    ran = subprocess.run(words, capture_output=True, text=True, check=False)
+    if ran.returncode:
+        sys.exit(f"tools/{name}.c is not compiled: {ran.stderr}")
+    return f"{temp}/{name}"
+
+
+def run_job(job):
+    """Runs one job, a function with its arguments; returns its check, or why it is skipped."""
+    (function, *arguments), program = job
+    name = " ".join([function.__name__, *map(str, arguments)])
+    try:
+        return function(program, *arguments)
+    except Missing as what:
+        return f"skipped {name}: {what}"
+    except Exception:  # the other jobs go on
+        check = Check(name)
+        check.require(False, "not run to its end", traceback.format_exc())
+        return check
+
+
+def run_parts(program, parts, processes=None, kinds=6):
+    """Runs the jobs of all parts, which are modules, some at once. Prints a line for each, with its
+    complaints of the `kinds` most frequent kinds; returns how many passed and failed."""
+    jobs = [(job, program) for part in parts for job in importlib.import_module(part).JOBS]
+    counts = {True: 0, False: 0}
+    # the pool ends its processes by a signal; those that are at work unmount first
+    with multiprocessing.Pool(processes) as pool:
+        for check in pool.imap(run_job, jobs, 1):
+            print(check if isinstance(check, str) else check.text(kinds), flush=True)
+            if not isinstance(check, str):
+                counts[check.has_passed] += 1
+    return counts[True], counts[False]
