@@ -1,13 +1,13 @@
 /*
- * Runs a program and meets one of its system calls: kills the program there, refuses the call,
+ * Runs a program and meets some of its system calls: kills the program there, refuses the call,
  * shortens it, or runs a command before it. Linux on x86-64.
  *
- *   ptrace [-c] LOG HOW N PROGRAM ARGUMENT..
+ *   ptrace [-c] LOG HOW N[,N..] PROGRAM ARGUMENT..
  *
  * It counts the calls from 1 on, beginning after rt_sigaction, with which the start-up of the
  * program's runtime ends; with -c it counts only those that may change a file. LOG has a line for
  * each that it counted: the call's name and, if it has one, the last part of the file's name; of
- * a write the file's number. HOW is what happens at call N:
+ * a write the file's number. HOW is what happens at call N, and at each other call that is given:
  *
  *   list           nothing
  *   kill-before    the program is killed, and the call is not made
@@ -18,6 +18,8 @@
  *   short:B        a read or write of more than B bytes is one of B bytes
  *   short-on:B     so is each later call of the same name
  *   run:COMMAND    the shell runs COMMAND, and then the call is made
+ *   exchange:A:B   the names A and B are exchanged, and then the call is made; at the next call
+ *                  that is given they are exchanged back
  *
  * It ends with the program's exit status, with 128 and a signal's number if that ended the
  * program, and with 99 if it can't run it.
@@ -60,6 +62,7 @@ static const struct call known[] = {
     {SYS_unlink, "unlink", 1, 1},
     {SYS_readlink, "readlink", 1, 0},
     {SYS_fchmod, "fchmod", 0, 1},
+    {SYS_fchown, "fchown", 0, 1},
     {SYS_chown, "chown", 1, 1},
     {SYS_lchown, "lchown", 1, 1},
     {SYS_openat, "openat", 2, 1},
@@ -69,8 +72,8 @@ static const struct call known[] = {
 
 static pid_t program;
 static FILE *log_file;
-static const char *how, *argument;
-static long wanted, counted;
+static const char *how, *argument, *wanted;
+static long counted;
 static int changes_only, goes_on;
 
 /* The call that was met, and what it returns in place of its own result. */
@@ -118,6 +121,16 @@ static void write_line(const struct call *call, const struct user_regs_struct *r
     fprintf(log_file, "\n");
 }
 
+/* Whether the call of this number is one of those that were given. */
+static int is_given(long number)
+{
+    const char *at = wanted;
+    while (at && atol(at) != number)
+        if ((at = strchr(at, ',')))
+            at++;
+    return at != 0;
+}
+
 /* Whether this call is counted and is to be met. */
 static int is_met(const struct user_regs_struct *registers)
 {
@@ -126,10 +139,21 @@ static int is_met(const struct user_regs_struct *registers)
         return 0;
     counted++;
     write_line(call, registers);
-    if (counted == wanted)
+    if (is_given(counted))
         met_number = (long)registers->orig_rax;
-    return counted == wanted ||
-           (goes_on && counted > wanted && (long)registers->orig_rax == met_number);
+    return is_given(counted) || (goes_on && (long)registers->orig_rax == met_number);
+}
+
+/* Exchanges the two names of the argument. */
+static void exchange(void)
+{
+    char first[PAGE];
+    const char *colon = strchr(argument, ':');
+    if (!colon)
+        exit(CANNOT_RUN);
+    snprintf(first, sizeof first, "%.*s", (int)(colon - argument), argument);
+    if (renameat2(AT_FDCWD, first, AT_FDCWD, colon + 1, RENAME_EXCHANGE))
+        exit(CANNOT_RUN);
 }
 
 /* Does what is to be done before the call. */
@@ -146,6 +170,8 @@ static void meet(struct user_regs_struct *registers)
     } else if (is("short") || is("short-on")) {
         if (has_bytes && registers->rdx > strtoull(argument, 0, 10))
             registers->rdx = strtoull(argument, 0, 10);
+    } else if (is("exchange")) {
+        exchange();
     } else if (is("run") && system(argument) < 0) {
         exit(CANNOT_RUN);
     }
@@ -206,7 +232,7 @@ int main(int count, char **words)
     how = strsep(&words[first + 1], ":");
     argument = words[first + 1] ? words[first + 1] : "";
     goes_on = strlen(how) > 3 && !strcmp(how + strlen(how) - 3, "-on");
-    wanted = is("list") ? 0 : atol(words[first + 2]);
+    wanted = is("list") ? "" : words[first + 2];
     program = fork();
     if (!program)
         become(words + first + 3);

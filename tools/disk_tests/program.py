@@ -1,4 +1,4 @@
-"""Runs the built program, alone or with one of its system calls met, and counts what is seen."""
+"""Runs the built program, alone or with some of its system calls met, and counts what is seen."""
 import collections
 import importlib
 import multiprocessing
@@ -13,6 +13,9 @@ TOOLS = os.path.dirname(os.path.dirname(os.path.abspath(__file__)))
 NEXT_COMMAND = "revert --take 4294967295"
 
 KILLED = 128 + 9
+
+# The status of tools/ptrace.c if it can't do what it is to do.
+CANNOT_RUN = 99
 
 
 class Missing(Exception):
@@ -45,14 +48,15 @@ class Program:
         """Runs the next command, which recovers what was left and changes nothing else."""
         return self.run(folder, NEXT_COMMAND)
 
-    def meet(self, folder, command, how, number, file="main.tf"):
-        """Runs a command with its call `number` met; `how` is as in tools/ptrace.c."""
+    def meet(self, folder, command, how, *numbers, file="main.tf"):
+        """Runs a command with its calls of these numbers met; `how` is as in tools/ptrace.c."""
         log = f"{self.temp}/calls.{os.getpid()}"
-        words = [self.tracer, log, how, str(number), *self.words(command, file)]
+        words = [self.tracer, log, how, ",".join(map(str, numbers)), *self.words(command, file)]
         ran = subprocess.run(words, cwd=folder, capture_output=True, check=False, timeout=60)
+        assert ran.returncode != CANNOT_RUN, words
         with open(log, encoding="utf-8", errors="replace") as lines:
             ran.calls = lines.read().split("\n")[:-1]
-        ran.is_met = 0 < number <= len(ran.calls)
+        ran.is_met = 0 < min(numbers) <= len(ran.calls)
         return ran
 
     def both(self, folder, when, first, second, file="main.tf"):
@@ -63,9 +67,9 @@ class Program:
         with open(log, encoding="utf-8", errors="replace") as lines:
             return lines.read().split("\n")[:-1]
 
-    def calls(self, folder, command):
+    def calls(self, folder, command, file="main.tf"):
         """Returns the calls that a command makes, one line for each."""
-        return self.meet(folder, command, "list", 0).calls
+        return self.meet(folder, command, "list", 0, file=file).calls
 
 
 class Check:
