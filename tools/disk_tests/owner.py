@@ -1,14 +1,13 @@
 """Root's command runs in a folder of another user, who puts root's file, or a link to it, in the
 place of a new file, of the journal or of FILE: root's file stays as it is."""
 import contextlib
-import ctypes
 import os
 import random
 import signal
 import stat
 
 from program import Check
-from scenes import read, write
+from scenes import exchange, read, write
 
 ANOTHER = 1000
 RACES = 1500
@@ -25,9 +24,6 @@ PLACES = {
     "in place": ["main.tf", "main.tf.tfundo"],
     "in place, no journal": ["main.tf", "main.tf.tfundo"],
 }
-
-AT_FDCWD, RENAME_EXCHANGE = -100, 2
-LIBRARY = ctypes.CDLL(None)
 
 
 class Folder:
@@ -120,14 +116,15 @@ def lure(way):
         os.link("secret", "lure")
 
 
-def exchange(way, name):
+def exchange_twice(way, name):
     """Exchanges a file and root's file, and after a while again."""
     with contextlib.suppress(FileExistsError, FileNotFoundError):
         lure(way)
     for _ in range(2):
         for _ in range(random.randrange(2000)):
             pass
-        LIBRARY.renameat2(AT_FDCWD, name.encode(), AT_FDCWD, b"lure", RENAME_EXCHANGE)
+        with contextlib.suppress(OSError):
+            exchange(name, "lure")
 
 
 def attack(folder, put, way, name):
@@ -164,7 +161,7 @@ def race(program, place, name, way):
     mode = 0o666 if way == "hard link" else 0o600
     folder.begin(mode)
     is_there = os.path.exists(f"{folder.path}/{name}")
-    attacker = attack(folder.path, exchange if is_there else put_once, way, name)
+    attacker = attack(folder.path, exchange_twice if is_there else put_once, way, name)
     try:
         for number in range(RACES):
             with held(attacker):

@@ -1,5 +1,6 @@
 """FILE, its journal, links to them, and what an interrupted command left next to them."""
 import copy
+import ctypes
 import os
 import shutil
 import stat
@@ -23,6 +24,9 @@ COMMANDS = [
 # The call by which a new file replaces FILE.
 RENAME = "rename main.tf.tfnew"
 
+AT_FDCWD, RENAME_EXCHANGE = -100, 2
+LIBRARY = ctypes.CDLL(None, use_errno=True)
+
 
 def long_text(lines):
     """Returns a text that every command changes, with this number of lines more."""
@@ -42,6 +46,13 @@ def write(path, content):
     """Writes the bytes of a file."""
     with open(path, "wb") as file:
         file.write(content)
+
+
+def exchange(first, second):
+    """Exchanges two names."""
+    words = (AT_FDCWD, first.encode(), AT_FDCWD, second.encode(), RENAME_EXCHANGE)
+    if LIBRARY.renameat2(*words):
+        raise OSError(ctypes.get_errno(), "not exchanged", first)
 
 
 def name_of(found, old, new):
