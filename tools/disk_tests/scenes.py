@@ -112,7 +112,7 @@ class Scene:
     def real_journal(self):
         """What the journal's name leads to."""
         is_link = self.layout in ("journal link", "links") and self.journal is not None
-        return f"{self.other_folder}/journal" if is_link else self.file + ".tfundo"
+        return f"{self.other_folder}/journal.tfundo" if is_link else self.file + ".tfundo"
 
     def place(self, path, content, mode):
         """Makes a file of some age, so that each later change has another time."""
@@ -133,7 +133,7 @@ class Scene:
         if self.journal is not None:
             self.place(self.real_journal, self.journal, self.journal_mode)
         if self.real_journal != self.file + ".tfundo":
-            os.symlink(f"{self.elsewhere}/journal", self.file + ".tfundo")
+            os.symlink(f"{self.elsewhere}/journal.tfundo", self.file + ".tfundo")
         if self.layout == "names":
             os.link(self.file, f"{self.folder}/other.tf")
         self.leave()
