@@ -55,6 +55,29 @@ def exchange(first, second):
         raise OSError(ctypes.get_errno(), "not exchanged", first)
 
 
+def state_of(folder):
+    """Returns all that is in a folder, and the folder itself: rights, links and time of each, and
+    its content or where it leads to."""
+    state = {}
+    for path, folders, files in os.walk(folder):
+        for name in (".", *folders, *files) if path == folder else (*folders, *files):
+            there = f"{path}/{name}"
+            found = os.lstat(there)
+            parts = [found.st_mode, found.st_uid, found.st_gid, found.st_nlink, found.st_mtime_ns]
+            if stat.S_ISLNK(found.st_mode):
+                parts.append(os.readlink(there))
+            elif stat.S_ISREG(found.st_mode):
+                parts.append(read(there))
+            state[os.path.relpath(there, folder)] = parts
+    return state
+
+
+def changes(before, after):
+    """Returns the names of what two states of a folder differ in."""
+    names = before.keys() | after.keys()
+    return sorted(name for name in names if before.get(name) != after.get(name))
+
+
 def name_of(found, old, new):
     """Says what FILE and journal are, or one of them."""
     return "old" if found == old else "new" if found == new else "mixed"

@@ -2,11 +2,9 @@
 journal, or refused, with all as before."""
 import contextlib
 import os
-import shutil
-import stat
 import subprocess
 
-from scenes import empty, read, write
+from scenes import changes, empty, read, state_of, write
 
 FILE, JOURNAL, NEW_TEXT, NEW_JOURNAL = (
     "main.tf", "main.tf.tfundo", "main.tf.tfnew", "main.tf.tfundo.new"
@@ -34,22 +32,6 @@ REFUSED = b"tfk: main.tf: cannot read\n"
 
 # A command that waits for something that never comes takes longer.
 SECONDS = 2
-
-
-def state_of(folder):
-    """Returns all that is in a folder: kind, mode, owner, group, where a link leads to, content."""
-    state = {}
-    for path, folders, files in os.walk(folder):
-        for name in (*folders, *files):
-            there = f"{path}/{name}"
-            found = os.lstat(there)
-            parts = [found.st_mode, found.st_uid, found.st_gid, found.st_ino]
-            if stat.S_ISLNK(found.st_mode):
-                parts.append(os.readlink(there))
-            elif stat.S_ISREG(found.st_mode):
-                parts.append(read(there))
-            state[os.path.relpath(there, folder)] = parts
-    return state
 
 
 class Place:
@@ -95,7 +77,6 @@ class Place:
             make()
             before = state_of(self.temp)
             ran = self.run(command)
-            after = state_of(self.temp)
             if command in COMMANDS:
                 check.see("waits" if ran is None else "refused" if ran[0] == 1 else "not refused")
                 check.require(ran == (1, b"", errors), "not refused", command, what, ran)
@@ -103,11 +84,7 @@ class Place:
                 is_usual = ran is not None and (ran[0], ran[2]) == (OTHERS[command], b"")
                 check.see("not concerned" if is_usual else "another ending")
                 check.require(is_usual, "another ending", command, what, ran)
-            changed = sorted(
-                name
-                for name in before.keys() | after.keys()
-                if before.get(name) != after.get(name)
-            )
+            changed = changes(before, state_of(self.temp))
             check.require(not changed, "changed", command, what, changed, ran)
 
     def require_accepted(self, check, make, what, journal=JOURNAL, new=NEW_JOURNAL):
@@ -128,7 +105,3 @@ class Place:
     def path(self, name):
         """Returns where a name of the folder is."""
         return f"{self.folder}/{name}"
-
-    def remove(self):
-        """Removes all."""
-        shutil.rmtree(self.temp)

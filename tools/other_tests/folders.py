@@ -7,10 +7,9 @@ changed there is an error, even if the folder is exchanged before the command be
 """
 import os
 import shutil
-import stat
 
 from program import NEXT_COMMAND, Check
-from scenes import Scene, exchange, name_of, read, write
+from scenes import Scene, changes, exchange, name_of, state_of, write
 
 # Owns FILE's folder, if root runs this.
 ANOTHER = 1000
@@ -34,13 +33,6 @@ PLAIN = (
 ).split()
 
 NEAR, ALL = "soon", "at any later call"
-
-
-def rights(found):
-    """Returns what is compared of a file or folder, besides its content."""
-    return (
-        stat.S_IMODE(found.st_mode), found.st_uid, found.st_gid, found.st_nlink, found.st_mtime_ns
-    )  # fmt: skip
 
 
 class Exchanged:
@@ -75,16 +67,7 @@ class Exchanged:
             write(f"{self.theirs}/{self.inside}/{name}", THEIR_TEXT)
             os.chmod(f"{self.theirs}/{self.inside}/{name}", 0o600)
         os.chmod(self.theirs, 0o700)
-        self.their_state = self.state_of_theirs()
-
-    def state_of_theirs(self):
-        """Returns all that is in the other folder."""
-        state = {"": rights(os.lstat(self.theirs))}
-        for folder, folders, files in os.walk(self.theirs):
-            for name in (*folders, *files):
-                path = f"{folder}/{name}"
-                state[os.path.relpath(path, self.theirs)] = rights(os.lstat(path)), read(path)
-        return state
+        self.their_state = state_of(self.theirs)
 
     def begin(self):
         """Makes FILE's folder as it is before the command."""
@@ -135,13 +118,8 @@ class Exchanged:
 
     def judge_theirs(self, *where):
         """Notes what was changed in the other folder, and makes it anew."""
-        found = self.state_of_theirs()
-        names = found.keys() | self.their_state.keys()
-        changed = sorted(
-            f"{name or 'the folder itself'}: {found.get(name)}"
-            for name in names
-            if found.get(name) != self.their_state.get(name)
-        )
+        found = state_of(self.theirs)
+        changed = [(name, found.get(name)) for name in changes(self.their_state, found)]
         self.check.require(not changed, "the other folder is changed", *where, changed)
         if changed:
             self.make_theirs()
