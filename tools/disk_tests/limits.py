@@ -1,4 +1,6 @@
-"""A file may not have more than a number of bytes: the system writes less, and then refuses."""
+"""A file may not have more than a number of bytes: the system writes less, and then refuses, or
+ends the program by a signal. A command that it refuses leaves all as it was; the signal ends none.
+"""
 import resource
 import signal
 
@@ -22,6 +24,7 @@ def limited(number, handler):
 def limit_bytes(program, layout):
     """Limits how many bytes a file may have; the signal that reports it is ignored, or kills."""
     check = Check(f"limits, 0 to {MOST_BYTES - 1} bytes, FILE by {layout}", least=2000)
+    wanted = {0: "new", 1: "old"}
     folder = program.folder(f"limits-{layout}")
     for history, command in COMMANDS:
         scene = Scene(program, folder, layout, history)
@@ -32,15 +35,17 @@ def limit_bytes(program, layout):
                 before = limited(number, handler)
                 ran = program.run(scene.folder, command, preexec_fn=before)
                 at_once = name_of(scene.state(), old, new)
+                where = (command, "of", scene, number, "bytes, status", ran.returncode, at_once)
+                check.require(ran.returncode in wanted, "another ending", *where)
+                check.require(at_once == wanted.get(ran.returncode), "not as it says", *where)
+                check.require(not scene.leftovers(), "left at once", *where, scene.leftovers())
                 program.recover(scene.folder)
                 state = name_of(scene.state(), old, new)
-                # a kill while FILE is written in place is not covered
-                is_over = layout == "names" and ran.returncode < 0
-                check.see(state + (" in place, killed" if is_over and state == "mixed" else ""))
-                where = (command, "of", scene, number, "bytes, status", ran.returncode, at_once)
-                check.require(is_over or state != "mixed", "mixed", *where)
-                check.require(ran.returncode != 1 or at_once == "old", "not old", *where)
+                check.see(state)
+                check.require(state == at_once, "then another", *where, state)
                 check.require(not scene.leftovers(), "left", *where, scene.leftovers())
+                is_short = number < max(map(len, new))
+                check.require(not is_short or state == "old", "longer than the limit", *where)
     return check
 
 
