@@ -25,7 +25,7 @@ def need(kind):
     with open("/proc/filesystems", encoding="utf-8") as kinds:
         if kind not in kinds.read().split():
             raise Missing(f"this kernel has no {kind}")
-    if kind != "tmpfs" and not shutil.which("mkfs." + kind):
+    if kind in KINDS and not shutil.which("mkfs." + kind):
         package = {"btrfs": "btrfs-progs", "xfs": "xfsprogs"}.get(kind, "e2fsprogs")
         raise Missing(f"there is no mkfs.{kind} (Debian: {package})")
 

@@ -1,13 +1,18 @@
 """Root's command runs in a folder of another user, who puts root's file, or a link to it, in the
-place of a new file, of the journal or of FILE: root's file stays as it is."""
+place of a new file, of the journal or of FILE, or a link to root's folder in the place of the
+folder: what is root's stays as it is. And what becomes of FILE in a folder with a default access
+list, and in the lower layer of an overlay."""
 import contextlib
 import os
 import random
 import signal
 import stat
+import struct
+import subprocess
 
-from program import Check
-from scenes import exchange, read, write
+import images
+from program import Check, Missing
+from scenes import changes, exchange, read, state_of, write
 
 ANOTHER = 1000
 RACES = 1500
@@ -127,7 +132,7 @@ def exchange_twice(way, name):
             exchange(name, "lure")
 
 
-def attack(folder, put, way, name):
+def attack(folder, put, *names):
     """Begins a process of the other user that puts files as fast as it can; returns its id."""
     child = os.fork()
     if child:
@@ -139,7 +144,7 @@ def attack(folder, put, way, name):
     os.setuid(ANOTHER)
     while True:
         try:
-            put(way, name)
+            put(*names)
         except OSError:
             pass
 
@@ -175,6 +180,146 @@ def race(program, place, name, way):
     return check
 
 
+# How FILE is named while its folder is exchanged: where the command runs, and the name.
+NAMINGS = {
+    "in the current folder": ("proj", "main.tf"),
+    "by a relative name": (".", "proj/main.tf"),
+    "by an absolute name": (".", "{0}/proj/main.tf"),
+}
+
+# How many of the runs save FILE, at least: else the folder was always exchanged.
+LEAST_SAVED = 100
+
+
+def exchange_folder():
+    """Exchanges the folder and a link to root's folder, and after a while again."""
+    for _ in range(2):
+        for _ in range(random.randrange(2000)):
+            pass
+        exchange("proj", "lure")
+
+
+class Folders(Folder):
+    """A folder of another user with FILE's folder, `proj`, and a link to root's folder, `lure`."""
+
+    def begin(self, mode=0o600):
+        """Makes FILE's folder; root's is made once."""
+        root, proj, lure = (f"{self.path}/{name}" for name in ("root", "proj", "lure"))
+        if not os.path.exists(root):
+            os.mkdir(root, 0o700)
+            write(f"{root}/main.tf", b'root = "of root"\n')
+            os.chmod(f"{root}/main.tf", mode)
+            os.symlink("root", lure)
+            os.mkdir(proj)
+            for path in (lure, proj):
+                os.lchown(path, ANOTHER, ANOTHER)
+            self.before = state_of(root)
+        if os.path.islink(proj):
+            exchange(proj, lure)
+        for name in os.listdir(proj):
+            os.unlink(f"{proj}/{name}")
+        self.make("proj/main.tf", b"a=1\n")
+        if self.place != "replaced":
+            os.link(f"{proj}/main.tf", f"{proj}/other.tf")
+
+    def change(self):
+        """Returns what became of root's folder, or None."""
+        return ", ".join(changes(self.before, state_of(f"{self.path}/root"))) or None
+
+
+def race_folder(program, naming, place, kind=None):
+    """Lets the other user exchange FILE's folder while root's command runs; of a kind, the file
+    system is one of that kind."""
+    name = f"owner-folder-{naming}-{place}-{kind}".replace(" ", "-")
+    where = f", {kind}" if kind else ""
+    check = Check(f"owner, the folder is exchanged, FILE {naming}, {place}{where}", "races", RACES)
+    disk = images.new_disk(program, name, kind) if kind else contextlib.nullcontext()
+    with disk:
+        folder = Folders(program, name, place)
+        folder.begin()
+        runs_in, file = (part.format(folder.path) for part in NAMINGS[naming])
+        attacker = attack(folder.path, exchange_folder)
+        try:
+            for number in range(RACES):
+                with held(attacker):
+                    folder.begin()
+                program.run(f"{folder.path}/{runs_in}", "fmt", file)
+                with held(attacker):
+                    change = folder.change()
+                    # the time of the folder alone: a name was made there, and removed again
+                    check.see("touched" if change == "." else "changed" if change else "kept")
+                    check.require(change is None, "root's folder changed", change, "race", number)
+                    if change:
+                        folder.before = state_of(f"{folder.path}/root")
+                    files = [f"{folder.path}/{proj}/main.tf" for proj in ("proj", "lure")]
+                    check.outcomes["saved"] += b"a = 1\n" in map(read, files)
+        finally:
+            os.kill(attacker, signal.SIGKILL)
+            os.waitpid(attacker, 0)
+    saved = check.outcomes["saved"]
+    check.require(saved >= LEAST_SAVED, "too few are saved", saved)
+    return check
+
+
+def access_list(*entries):
+    """Returns an access list of entries of a tag, rights and an id, as the system stores it."""
+    return struct.pack("<I", 2) + b"".join(struct.pack("<HHI", *entry) for entry in entries)
+
+
+# Tags: the owner, a user, the group, the mask, others; the id of those that need none.
+OWNER, USER, GROUP, MASK, OTHERS, NONE = 1, 2, 4, 16, 32, 0xFFFFFFFF
+DEFAULT_LIST = access_list(
+    (OWNER, 6, NONE), (USER, 6, ANOTHER), (GROUP, 4, NONE), (MASK, 6, NONE), (OTHERS, 0, NONE)
+)  # fmt: skip
+
+
+def default_list(program, kind):
+    """A folder with a default list gives it to FILE, as is documented."""
+    check = Check(f"owner, a folder with a default access list, {kind}", "runs", 1)
+    with images.new_disk(program, f"owner-list-{kind}", kind) as disk:
+        write(f"{disk}/main.tf", b"a=1\n")
+        os.chmod(f"{disk}/main.tf", 0o640)
+        try:
+            os.setxattr(disk, "system.posix_acl_default", DEFAULT_LIST)
+        except OSError as why:
+            raise Missing(f"{kind} without access lists") from why
+        check.require(not os.listxattr(f"{disk}/main.tf"), "FILE has a list before")
+        ran = program.run(disk, "fmt")
+        is_saved = ran.returncode == 0 and read(f"{disk}/main.tf") == b"a = 1\n"
+        check.see("saved" if is_saved else "not saved")
+        check.require(is_saved, "not saved", ran)
+        found = os.getxattr(f"{disk}/main.tf", "system.posix_acl_access")
+        entry = struct.pack("<HHI", USER, 6, ANOTHER)
+        check.require(entry in found, "not the folder's list", found)
+        mode = stat.S_IMODE(os.stat(f"{disk}/main.tf").st_mode)
+        check.require(mode & 0o707 == 0o600, "FILE has another mode", oct(mode))
+    return check
+
+
+def lower_layer(program):
+    """A FILE of two names in the lower layer of an overlay is refused once, and saved then, as is
+    documented."""
+    images.need("overlay")
+    check = Check("owner, a FILE of two names in the lower layer of an overlay", "runs", 2)
+    temp = program.folder("owner-overlay")
+    with images.mounted("tmpfs", f"{temp}/disk", "size=8m", "tmpfs") as disk:
+        for name in ("lower", "upper", "work", "all"):
+            os.mkdir(f"{disk}/{name}")
+        write(f"{disk}/lower/main.tf", b"a=1\n")
+        os.link(f"{disk}/lower/main.tf", f"{disk}/lower/other.tf")
+        options = f"index=off,lowerdir={disk}/lower,upperdir={disk}/upper,workdir={disk}/work"
+        with images.mounted("overlay", f"{disk}/all", options, "overlay") as folder:
+            for errors, text in ((b"tfk: main.tf: cannot write, 0 bytes sent\n", b"a=1\n"),
+                                 (b"", b"a = 1\n")):  # fmt: skip
+                ran = program.run(folder, "fmt")
+                check.see("refused" if ran.returncode else "saved")
+                said = (ran.stderr, read(f"{folder}/main.tf"), read(f"{folder}/other.tf"))
+                check.require(said == (errors, text, b"a=1\n"), "another ending", said)
+                left = {name for name in os.listdir(folder) if name.endswith("new")}
+                check.require(not left, "left", left)
+    return check
+
+
 def without_handles(program):
     """Where the system does not show the handles of a process, FILE is written in place, and keeps
     its owner; a journal that is created is root's."""
@@ -198,4 +343,7 @@ def without_handles(program):
 
 JOBS = [(put_files, place) for place in PLACES]
 JOBS += [(race, place, name, way) for place in PLACES for name in PLACES[place] for way in WAYS]
-JOBS += [(without_handles,)]
+JOBS += [(race_folder, naming, place) for naming in NAMINGS for place in ("replaced", "in place")]
+JOBS += [(race_folder, "by a relative name", "replaced", kind) for kind in ("ext4", "btrfs")]
+JOBS += [(default_list, kind) for kind in ("ext4", "btrfs", "xfs")]
+JOBS += [(lower_layer,), (without_handles,)]
