@@ -10,7 +10,8 @@
  *   i  read
  *
  * Not counted are reads, writes and looks of the standard streams, and opening and looking at files
- * in /dev or /proc. It reads the environment:
+ * in /dev or /proc; but those in a folder that the program has opened, /proc/self/fd/N/NAME, are. It
+ * reads the environment:
  *
  *   STOP=N          call number N is met: the program ends there, before the call
  *   STOP_ERROR=E    the call is refused instead, with this number for errno
@@ -36,6 +37,7 @@ enum {
     SYSCALL_UNLINK = 87,
     SYSCALL_FCHMOD = 91,
     SYSCALL_CHOWN = 92,
+    SYSCALL_FCHOWN = 93,
     SYSCALL_LCHOWN = 94,
     SYSCALL_EXIT_GROUP = 231,
     SYSCALL_OPENAT = 257,
@@ -109,18 +111,22 @@ static int answer(int met, long number, long one, long two, long three)
     return met ? refused() : result;
 }
 
+/* Returns what follows a prefix in a name, or null. */
+static const char *after(const char *prefix, const char *name)
+{
+    while (*prefix && *prefix == *name)
+        prefix++, name++;
+    return *prefix ? 0 : name;
+}
+
 static int is_outside(const char *name)
 {
-    const char *const outside[] = {"/dev/", "/proc/"};
-    for (int i = 0; i < 2; i++) {
-        const char *at = name;
-        const char *front = outside[i];
-        while (*front && *front == *at)
-            front++, at++;
-        if (!*front)
-            return 1;
-    }
-    return 0;
+    const char *handle = after("/proc/self/fd/", name);
+    while (handle && *handle >= '0' && *handle <= '9')
+        handle++;
+    if (handle && handle[0] == '/' && handle[1])
+        return 0;
+    return after("/dev/", name) || after("/proc/", name);
 }
 
 int openat(int folder, const char *name, int flags, ...)
@@ -205,6 +211,11 @@ int fchmod(int file, unsigned mode)
 int chown(const char *name, unsigned owner, unsigned group)
 {
     return answer(is_met('c'), SYSCALL_CHOWN, (long)name, owner, group);
+}
+
+int fchown(int file, unsigned owner, unsigned group)
+{
+    return answer(is_met('c'), SYSCALL_FCHOWN, file, owner, group);
 }
 
 int lchown(const char *name, unsigned owner, unsigned group)

@@ -31,7 +31,8 @@ def ways(call, names):
             yield "refuse:" + error
     for error in LASTING if name != "close" else []:
         yield "refuse-on:" + error
-    if name in ("openat", "fsync", "rename", "unlink", "fchmod", "chown", "lchown", "ftruncate"):
+    changing = "openat fsync rename unlink fchmod fchown chown lchown ftruncate".split()
+    if name in changing:
         yield "done:EIO"
     if name in ("read", "write"):
         for way in ["short:7", "short:1", "short-on:7", "short-on:1"]:
