@@ -261,6 +261,45 @@ def race_folder(program, naming, place, kind=None):
     return check
 
 
+# A record that adds a line to a text of ten bytes, and one that can be reverted in it.
+THEIR_RECORD = b"tfrec 2 fix 21 1\n0 11 0\nx = \"evil\"\n\nend\n"
+OWN_RECORD = b"tfrec 2 fix 11 1\n6 2 1\n//#\nend\n"
+TEXTS = (b"a = 1 # b\n", b"a = 1 // b\n")
+
+
+def take_number(program, name, kind):
+    """Another user removes root's journal, or a new one, at each call of root's revert, and makes
+    one there, which gets the number of the inode: nothing of it is reverted."""
+    check = Check(f"owner, {name} removed and made anew by another user, {kind}", "runs", 20)
+    with images.new_disk(program, f"owner-number-{name}-{kind}", kind) as disk:
+        folder = f"{disk}/folder"
+        os.mkdir(folder)
+        os.chmod(folder, 0o777)
+        write(f"{disk}/theirs", THEIR_RECORD)
+        os.chown(f"{disk}/theirs", ANOTHER, ANOTHER)
+
+        def begin():
+            for entry in os.listdir(folder):
+                os.unlink(f"{folder}/{entry}")
+            write(f"{folder}/main.tf", TEXTS[0])
+            write(f"{folder}/{name}", OWN_RECORD)
+            return os.stat(f"{folder}/{name}").st_ino
+
+        begin()
+        calls = program.calls(folder, "revert")
+        for number, call in enumerate(calls[:-1], 1):
+            own = begin()
+            program.meet(folder, "revert", f"run:rm -f {name}; cp -p ../theirs {name}", number)
+            text = read(f"{folder}/main.tf")
+            # a new journal may have got the journal's name since
+            numbers = [entry.inode() for entry in os.scandir(folder)]
+            check.outcomes["number taken"] += own in numbers
+            check.see("kept" if text in TEXTS else "theirs")
+            check.require(text in TEXTS, "their record is reverted", "at call", number, call, text)
+    check.require(check.outcomes["number taken"], "no number is taken")
+    return check
+
+
 def access_list(*entries):
     """Returns an access list of entries of a tag, rights and an id, as the system stores it."""
     return struct.pack("<I", 2) + b"".join(struct.pack("<HHI", *entry) for entry in entries)
@@ -345,5 +384,6 @@ JOBS = [(put_files, place) for place in PLACES]
 JOBS += [(race, place, name, way) for place in PLACES for name in PLACES[place] for way in WAYS]
 JOBS += [(race_folder, naming, place) for naming in NAMINGS for place in ("replaced", "in place")]
 JOBS += [(race_folder, "by a relative name", "replaced", kind) for kind in ("ext4", "btrfs")]
+JOBS += [(take_number, name, "ext4") for name in ("main.tf.tfundo", "main.tf.tfundo.new")]
 JOBS += [(default_list, kind) for kind in ("ext4", "btrfs", "xfs")]
 JOBS += [(lower_layer,), (without_handles,)]

@@ -48,11 +48,11 @@ class Program:
         """Runs the next command, which recovers what was left and changes nothing else."""
         return self.run(folder, NEXT_COMMAND)
 
-    def meet(self, folder, command, how, *numbers, file="main.tf"):
+    def meet(self, folder, command, how, *numbers, file="main.tf", timeout=60):
         """Runs a command with its calls of these numbers met; `how` is as in tools/ptrace.c."""
         log = f"{self.temp}/calls.{os.getpid()}"
         words = [self.tracer, log, how, ",".join(map(str, numbers)), *self.words(command, file)]
-        ran = subprocess.run(words, cwd=folder, capture_output=True, check=False, timeout=60)
+        ran = subprocess.run(words, cwd=folder, capture_output=True, check=False, timeout=timeout)
         assert ran.returncode != CANNOT_RUN, words
         with open(log, encoding="utf-8", errors="replace") as lines:
             ran.calls = lines.read().split("\n")[:-1]

@@ -1,11 +1,14 @@
 """What has the name of the journal, of a new journal or of a new text is no regular file: a command
-is refused at once, waits for nobody, and changes nothing."""
+is refused at once, waits for nobody, and changes nothing. Nor does it wait if a pipe replaces one
+of these while it works."""
 import os
 import socket
 import stat
+import subprocess
 
-from commands import JOURNAL, NEW_JOURNAL, NEW_TEXT, RECORD, Place
+from commands import COMMANDS, FILE, JOURNAL, NEW_JOURNAL, NEW_TEXT, RECORD, SECONDS, TEXT, Place
 from program import Check, Missing
+from writers import INSTANTS
 
 # /dev/null and /dev/zero
 DEVICES = {"null device": os.makedev(1, 3), "zero device": os.makedev(1, 5)}
@@ -64,4 +67,38 @@ def try_kind(program, kind):
     return check
 
 
+def try_replaced(program, command):
+    """A pipe replaces each of the files at each call."""
+    check = Check(f"{command}, a pipe replaces a file at each call", "runs", 100)
+    place = Place(program, f"kinds replaced {command}")
+    texts = (TEXT, COMMANDS[command][1])
+    for name in (JOURNAL, NEW_JOURNAL, NEW_TEXT):
+
+        def begin():
+            place.begin()
+            os.mkfifo(place.path("pipe"))
+            place.make(JOURNAL, RECORD)
+            if name != JOURNAL:
+                place.make(name, b"half")
+
+        begin()
+        calls = program.calls(place.folder, command)
+        for number, call in enumerate(calls, 1):
+            begin()
+            try:
+                how = f"run:mv -f pipe {name}"
+                program.meet(place.folder, command, how, number, timeout=SECONDS)
+                check.see("ends")
+            except subprocess.TimeoutExpired:
+                check.see("waits")
+                check.require(False, "waits", name, "at call", number, call)
+            # nothing is promised of the instant before the text is renamed
+            last, count = INSTANTS[NEW_TEXT]
+            is_pipe = stat.S_ISFIFO(os.stat(place.path(FILE)).st_mode)
+            is_kept = last in calls[number - 1 :][:count] if is_pipe else place.read(FILE) in texts
+            check.require(is_kept, "another text", name, "at call", number, call)
+    return check
+
+
 JOBS = [(try_kind, kind) for kind in KINDS]
+JOBS += [(try_replaced, command) for command in ("fmt", "revert")]
