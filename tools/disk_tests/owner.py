@@ -360,23 +360,34 @@ def lower_layer(program):
 
 
 def without_handles(program):
-    """Where the system does not show the handles of a process, FILE is written in place, and keeps
-    its owner; a journal that is created is root's."""
-    check = Check("owner, without /proc", "runs", 2)
+    """Where the system does not show the handles of a process, FILE keeps its owner, and a journal
+    that is created gets it; a journal of the caller's is taken, too."""
+    check = Check("owner, without /proc", "runs", 5)
     folder = Folder(program, "owner-alone", "replaced")
     alone = ["unshare", "--mount", "sh", "-c", 'mount -t tmpfs none /proc && exec "$@"', "sh"]
-    for place, owner in (("replaced", 0), ("in place", ANOTHER)):
-        folder.place = place
-        folder.begin()
-        ran = program.run(folder.path, "fmt", before=alone)
+
+    def run(command, text):
+        ran = program.run(folder.path, command, before=alone)
         file, journal = (os.stat(f"{folder.path}/main.tf{end}") for end in ("", ".tfundo"))
-        is_saved = ran.returncode == 0 and read(f"{folder.path}/main.tf") == b"a = 1\n"
-        check.see("saved" if is_saved else "not saved")
-        check.require(is_saved, "not saved", ran)
-        check.require(file.st_uid == ANOTHER, "FILE has another owner", file)
-        check.require(journal.st_uid == owner, "the journal has another owner", journal)
+        is_done = ran.returncode == 0 and read(f"{folder.path}/main.tf") == text
+        check.see("done" if is_done else "not done")
+        check.require(is_done, "not done", command, folder.place, ran)
+        check.require(file.st_uid == ANOTHER, "FILE has another owner", command, file)
         left = [name for name in NEW_FILES if os.path.lexists(f"{folder.path}/{name}")]
         check.require(not left, "left", left)
+        return journal.st_uid
+
+    for place in ("replaced", "in place"):
+        folder.place = place
+        folder.begin()
+        owner = run("fmt", b"a = 1\n")
+        check.require(owner == ANOTHER, "the journal has another owner", place, owner)
+        run("revert", b"a=1\n")
+    folder.place = "replaced"
+    folder.begin()
+    program.run(folder.path, "fmt")
+    os.chown(f"{folder.path}/main.tf.tfundo", 0, 0)
+    run("revert", b"a=1\n")
     return check
 
 
