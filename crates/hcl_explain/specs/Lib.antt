@@ -1,3 +1,4 @@
 pub mod Explanations
 pub mod Openings
+pub mod Said
 pub mod ScanExplanations

@@ -10,6 +10,7 @@ use Rattle.hcl_scan.specs.declared.fault.ScanFault.TheVariants as scan
 use Rattle.hcl_text_laws.specs.declared.fault.ParseFault.{ParseFault}
 use Rattle.hcl_text_laws.specs.declared.fault.ParseFault.TheVariants as parse
 use Rattle.hcl_token.specs.Place.{is_lf, clusters, last_line}
+use Rattle.hcl_explain.specs.Said.{IsSaidOfScan, IsSaidOfParse}
 use Rattle.tf_session.specs.declared.fault.RunFault.{RunFault}
 use Rattle.tf_session.specs.declared.fault.RunFault.TheVariants as fault
 use Rattle.tf_program.specs.declared.location.Location.{Location}
@@ -38,6 +39,14 @@ IsLocationOf text None None = Unit {0}
 IsLocationOf text None (Some location) = ⊥
 IsLocationOf text (Some at) None = ⊥
 IsLocationOf text (Some at) (Some location) = IsLocation text at location
+
+-- what is said of an error of a text is printed here
+abbrev pub IsSaidAt : List ℕ → RunFault → Location → Type 0
+IsSaidAt text (fault.Scan error) location =
+    (at : ℕ) × IsSaidOfScan text error at × IsLocation text at location
+IsSaidAt text (fault.Parse error) location =
+    (at : ℕ) × IsSaidOfParse text error at × IsLocation text at location
+IsSaidAt text _ location = ⊥
 
 -- ---- the byte of an error
 

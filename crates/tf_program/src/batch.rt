@@ -2,7 +2,8 @@
 //! they were given.
 
 ghost use Rattle.std.specs.Prelude.{◌≡◌, ◌+◌, ◌<◌, ◌≤◌, ◌↔◌, true, [], ◌∷◌, length, vec_len};
-ghost use Rattle.tf_program.specs.Batches.{IsNoted, IsEntryNoted, AreNoted, HasNext, ReportsRest};
+ghost use Rattle.tf_program.specs.Batches.{IsNoted, IsFaultNoted, IsEntryNoted, AreNoted};
+ghost use Rattle.tf_program.specs.Batches.{HasNext, ReportsRest};
 ghost use Rattle.tf_program.specs.Batches.{Notes, IsEntryOf, PutsIn, IsStart};
 ghost use Rattle.tf_program.specs.Batches.{MayShare, NoneMayShare, Admits};
 
@@ -343,7 +344,7 @@ impl<'a> Batch<'a> {
                 let met = made.save_and_report(rt, self.alloc, attempt, output);
                 self.note(entry.name, met, faults);
             }
-            Err(error) => self.note(entry.name, Err(*error), faults),
+            Err(error) => self.note_error(entry.name, error, faults),
         }
     }
 
@@ -364,11 +365,21 @@ impl<'a> Batch<'a> {
     {
         match met {
             Ok(file_outcome) => self.outcome = self.outcome.with_file(file_outcome),
-            Err(error) => {
-                self.outcome = self.outcome.with_fault();
-                error.report(self.alloc, faults, name, self.locate);
-            }
+            Err(error) => self.note_error(name, &error, faults),
         }
+    }
+
+    /// Notes and reports an error of a file.
+    fn note_error<F: Write>(&mut self, name: &str, error: &FileError, faults: &mut F)
+        requires { 0 < self.old.outcome.left }
+        ensures left { self.new.outcome.left + 1 ≡ self.old.outcome.left }
+        ensures len { vec_len self.new.entries ≡ vec_len self.old.entries }
+        ensures entries { self.new.entries.items ≡ self.old.entries.items }
+        ensures noted { IsFaultNoted self.old.outcome self.new.outcome }
+        ensures locate { self.new.locate ≡ self.old.locate }
+    {
+        self.outcome = self.outcome.with_fault();
+        error.report(self.alloc, faults, name, self.locate);
     }
 }
 

@@ -1,21 +1,31 @@
 //! Why the work on a file failed, and the lines that say so.
 
-ghost use Rattle.std.specs.Prelude.{◌≡◌};
-ghost use Rattle.tf_program.specs.Location.{byte_of, IsLocationOf};
+ghost use Rattle.std.specs.Prelude.{◌≡◌, IfSome};
+ghost use Rattle.tf_program.specs.Location.{byte_of, IsLocation, IsLocationOf, IsSaidAt};
 ghost use Rattle.tf_program.specs.Work.{IsLocatedIn};
 
 use crate::location::{Location, byte_of, location_of};
+use hcl_explain::{Said, say_parse_fault, say_scan_fault};
 use std::alloc::{AllocError, Global};
 use std::io::Write;
 use tf_files::{Cause, FileFault, Trouble};
 use tf_session::RunFault;
 
+/// What is said of an error of a text, and where that is printed.
+#[derive(Drop)]
+struct Explained {
+    location: Location,
+    sentence: String,
+}
+
 /// An error of a file.
-#[derive(Clone, Copy)]
+#[derive(Drop)]
 pub struct FileError {
     pub fault: RunFault,
     /// Where it is in the file, if that is to be reported.
     location: Option<Location>,
+    /// What is to be said of it in place of its own text, unless memory ran out for that.
+    explained: Option<Explained>,
     /// Why the file can't be read or written, if that is known.
     cause: Option<Cause>,
 }
@@ -24,12 +34,13 @@ impl From<RunFault> for FileError {
     ghost use Rattle.std.specs.Prelude.{None};
 
     ghost from_gives = { λ given error.
-        error ≡ record { fault = given; location = None; cause = None } };
+        error ≡ record { fault = given; location = None; explained = None; cause = None } };
 
     fn from(fault: RunFault) -> FileError {
         FileError {
             fault,
             location: None,
+            explained: None,
             cause: None,
         }
     }
@@ -39,38 +50,44 @@ impl From<Trouble> for FileError {
     ghost use Rattle.std.specs.Prelude.{None};
 
     ghost from_gives = { λ given error.
-        error ≡ record { fault = given.fault; location = None; cause = given.cause } };
+        error ≡ record { fault = given.fault; location = None; explained = None; cause = given.cause } };
 
     fn from(trouble: Trouble) -> FileError {
         FileError {
             fault: trouble.fault,
             location: None,
+            explained: None,
             cause: trouble.cause,
         }
     }
 }
 
 impl FileError {
-    /// Returns the error of the file with this text, with its location if it is at a byte.
-    pub fn located(fault: RunFault, text: &[u8]) -> FileError
+    /// Returns the error of the file with this text, with its location if it is at a byte, and what
+    /// is said of it.
+    pub fn located(alloc: Global, fault: RunFault, text: &[u8]) -> FileError
         ensures fault { result.fault ≡ fault }
         ensures location { IsLocationOf text.now (byte_of fault) result.location }
+        ensures explained { IfSome result.explained
+            (λ explained. IsSaidAt text.now fault explained.location) }
     {
         let location = location_in(&fault, text);
+        let explained = explain_in(alloc, &fault, text);
         FileError {
             fault,
             location,
+            explained,
             cause: None,
         }
     }
 
     /// Returns the error of a command that did nothing to a file, located if `locate` says so.
-    pub fn of_refused(refused: &FileFault, locate: bool) -> FileError
+    pub fn of_refused(alloc: Global, refused: &FileFault, locate: bool) -> FileError
         ensures fault { result.fault ≡ refused.now.fault }
         ensures location { IsLocatedIn refused.now.text.items locate result }
     {
         if locate {
-            FileError::located(refused.fault, &refused.text)
+            FileError::located(alloc, refused.fault, &refused.text)
         } else {
             FileError::from(refused.fault)
         }
@@ -103,17 +120,65 @@ impl FileError {
     /// the file and begins with `NAME:LINE:COLUMN`, or why the file can't be read or written.
     fn lines(&self, alloc: Global, name: &str, locate: bool) -> Result<String, AllocError> {
         let fault = self.fault;
+        if let Some(Explained { location, sentence }) = &self.explained {
+            return located_lines(alloc, name, fault, *location, sentence.as_str());
+        }
         match (self.location, self.cause) {
-            (Some(Location { line, column }), _) => {
+            (Some(location), _) => {
                 let whole = format!(in alloc; "{fault}")?;
-                let text = text_after_byte(whole.as_str());
-                format!(in alloc; "tfk: {name}: {fault}\n{name}:{line}:{column}: error: {text}\n")
+                located_lines(
+                    alloc,
+                    name,
+                    fault,
+                    location,
+                    text_after_byte(whole.as_str()),
+                )
             }
             (None, Some(cause)) if locate => {
                 format!(in alloc; "tfk: {name}: {fault}\n{name}: error: {cause}\n")
             }
             _ => format!(in alloc; "tfk: {name}: {fault}\n"),
         }
+    }
+}
+
+/// Returns the lines of an error at this location, of which this is said.
+fn located_lines(
+    alloc: Global,
+    name: &str,
+    fault: RunFault,
+    location: Location,
+    said: &str,
+) -> Result<String, AllocError> {
+    let Location { line, column } = location;
+    format!(in alloc; "tfk: {name}: {fault}\n{name}:{line}:{column}: error: {said}\n")
+}
+
+/// Returns what is said of an error of this text, and where; none of any other error, or if memory
+/// runs out.
+fn explain_in(alloc: Global, fault: &RunFault, text: &[u8]) -> Option<Explained>
+    ensures { IfSome result (λ explained. IsSaidAt text.now fault.now explained.location) }
+{
+    match fault {
+        RunFault::Scan(fault) => match say_scan_fault(alloc, text, *fault) {
+            Ok(Some(said)) => Some(explained_at(text, said)),
+            _ => None,
+        },
+        RunFault::Parse(fault) => match say_parse_fault(alloc, text, *fault) {
+            Ok(Some(said)) => Some(explained_at(text, said)),
+            _ => None,
+        },
+        _ => None,
+    }
+}
+
+/// Returns what is said of an error, with its location.
+fn explained_at(text: &[u8], said: Said) -> Explained
+    ensures { IsLocation text.now said.at result.location }
+{
+    Explained {
+        location: location_of(text, said.at),
+        sentence: said.sentence,
     }
 }
 

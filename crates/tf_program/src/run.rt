@@ -81,7 +81,7 @@ fn print_help<O: Write, F: Write>(output: &mut O, faults: &mut F, text: &str) ->
 {
     match write_help(output, text) {
         Ok(()) => 0,
-        Err(_) => exit_with_fault(faults, "tfk: cannot write the help\n"),
+        Err(_) => exit_with_fault(faults, "tfk: cannot write standard output\n"),
     }
 }
 
