@@ -7,12 +7,11 @@ use crate::cause::{Cause, Reason, Subject};
 use crate::file_part::{session_part, write_part};
 use crate::file_paths::{FilePaths, is_not_found};
 use crate::folder::{Folder, SystemFiles};
-use crate::found_files::FileId;
-use crate::leftovers::open_found;
+use crate::leftovers::{Found, open_found};
 use crate::new_file::{
     copy_attributes, create_new, find_new, find_own_new, start_writing, truncate,
 };
-use crate::snapshot::Snapshots;
+use crate::snapshot::{Snapshots, is_irregular};
 use std::alloc::Global;
 use std::fs::{self, File, OpenFile, OpenOptions};
 use std::io::{self, ErrorKind};
@@ -23,7 +22,7 @@ use tf_session::RunFault;
 #[derive(Drop)]
 pub enum NewFile {
     /// What an interrupted command has left, as it was found; nothing else is touched.
-    Left(Option<FileId>),
+    Left(Option<Found>),
     /// This command has created none; another may have.
     NotCreated,
     /// Its creation failed, and may have been done all the same.
@@ -120,6 +119,16 @@ impl<'a> PartFile<'a> {
 }
 
 impl PartFile<'_> {
+    /// Returns whether what has the part's name has to be a regular file: a journal has to, and a
+    /// text that was one.
+    fn has_to_be_regular(&self) -> bool {
+        match (self.subject, self.read) {
+            (Subject::File, Some(read)) => read.text.is_regular(),
+            (Subject::File, None) => false,
+            _ => true,
+        }
+    }
+
     /// Notes why a call failed.
     pub fn note(&mut self, error: &io::Error) {
         self.cause = Cause::after(self.subject, error);
@@ -170,8 +179,13 @@ pub fn reply_to<T: Drop>(answer: io::Result<T>) -> Reply {
 }
 
 /// Opens a file to be written, and writes nothing. A name that is too long can be found nowhere,
-/// and can't be written either.
+/// and can't be written either. To open a pipe would wait for a reader: none is opened in the place
+/// of a regular file, nor of a journal.
 fn open<R: SystemFiles>(rt: &R, file: &mut PartFile<'_>) -> Reply {
+    if file.has_to_be_regular() && is_irregular(rt, file.own) {
+        file.note_change();
+        return Reply::Failed;
+    }
     let mut options = OpenOptions::new();
     options.write(true);
     match options.open(rt, file.own) {

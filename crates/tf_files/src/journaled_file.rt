@@ -10,8 +10,8 @@ use crate::cause::{Subject, Trouble};
 use crate::changed_file::ChangedFile;
 use crate::file_paths::FilePaths;
 use crate::folder::SystemFiles;
-use crate::found_files::{FileId, FoundFiles};
-use crate::leftovers::{Leftovers, open_found};
+use crate::found_files::FoundFiles;
+use crate::leftovers::{Found, Leftovers, open_found};
 use crate::reading::{ReadContents, read, read_with};
 use crate::saves::recover;
 use crate::snapshot::Snapshots;
@@ -164,24 +164,24 @@ fn read_current<R: SystemFiles>(
     paths: &FilePaths,
 ) -> Result<ReadContents, Trouble> {
     let left = Leftovers::of(rt, paths)?;
-    let Some(id) = left.lone_journal() else {
+    let Some(found) = left.lone_journal() else {
         return read(rt, alloc, paths);
     };
-    let new = open_found(rt, &paths.new_journal, id, Subject::NewJournal)?;
+    let new = open_found(rt, &paths.new_journal, found, Subject::NewJournal)?;
     if has_good_journal(rt, alloc, paths)? && can_adopt(rt, alloc, paths, &new)? {
-        reread_with(rt, alloc, paths, id)
+        reread_with(rt, alloc, paths, found)
     } else {
         read(rt, alloc, paths)
     }
 }
 
-/// Reads a file and its new journal, which has this id.
+/// Reads a file and its new journal, which has to be the one that was found.
 fn reread_with<R: SystemFiles>(
     rt: &R,
     alloc: Global,
     paths: &FilePaths,
-    id: FileId,
+    found: Found,
 ) -> Result<ReadContents, Trouble> {
-    let new = open_found(rt, &paths.new_journal, id, Subject::NewJournal)?;
+    let new = open_found(rt, &paths.new_journal, found, Subject::NewJournal)?;
     read_with(rt, alloc, paths, &new)
 }

@@ -12,11 +12,29 @@ use crate::found_files::FileId;
 use crate::trust::{Access, caller, is_trusted};
 use std::fs::{self, File, Metadata, OpenFile};
 
+/// A file as it was found. A file that was removed may give its inode to another one, of another
+/// owner.
+#[derive(Clone, Copy, PartialEq, Eq)]
+pub struct Found {
+    id: FileId,
+    access: Access,
+}
+
+impl Found {
+    /// Returns what is known of a file of which this was found.
+    pub fn of(found: &Metadata) -> Found {
+        Found {
+            id: FileId::of(found),
+            access: Access::of(found),
+        }
+    }
+}
+
 /// The new files that an interrupted command has left.
 #[derive(Clone, Copy)]
 pub struct Leftovers {
-    pub new_text: Option<FileId>,
-    pub new_journal: Option<FileId>,
+    pub new_text: Option<Found>,
+    pub new_journal: Option<Found>,
 }
 
 impl Leftovers {
@@ -32,8 +50,8 @@ impl Leftovers {
         let new_journal = look_for(rt, &paths.new_journal, Subject::NewJournal)?;
         check_new_files(rt, paths, &new_text, &new_journal)?;
         Ok(Leftovers {
-            new_text: id_of(&new_text),
-            new_journal: id_of(&new_journal),
+            new_text: new_text.as_ref().map(Found::of),
+            new_journal: new_journal.as_ref().map(Found::of),
         })
     }
 
@@ -44,7 +62,7 @@ impl Leftovers {
 
     /// Returns the new journal if it is there alone: a command was interrupted after it had replaced
     /// the text.
-    pub fn lone_journal(&self) -> Option<FileId> {
+    pub fn lone_journal(&self) -> Option<Found> {
         match self.new_text {
             Some(_) => None,
             None => self.new_journal,
@@ -72,7 +90,7 @@ fn check_new_files<R: SystemFiles>(
         Ok(text) => {
             let text = Access::of(&text);
             check_new_text(rt, paths, &text, new_text)?;
-            check_new_journal(rt, paths, &text, new_journal)
+            check_new_journal(rt, paths, &text, new_journal, new_text.is_some())
         }
         Err(error) => Err(Trouble::unread_after(Subject::File, &error)),
     }
@@ -96,13 +114,14 @@ fn check_new_text<R: SystemFiles>(
     }
 }
 
-/// Tests that this file, if it is there, may be taken for the new journal; also if it belongs to the
-/// owner of the journal that it is to replace.
+/// Tests that this file, if it is there, may be taken for the new journal. One that is only to be
+/// removed, since the new text is there too, may also belong to the owner of the journal.
 fn check_new_journal<R: SystemFiles>(
     rt: &R,
     paths: &FilePaths,
     text: &Access,
     new_journal: &Option<Metadata>,
+    is_to_go: bool,
 ) -> Result<(), Trouble>
     ensures { IfErr result (λ trouble. is_file_fault trouble.fault ≡ true) }
 {
@@ -111,7 +130,9 @@ fn check_new_journal<R: SystemFiles>(
     };
     match refusal(rt, found, text, paths.journal_folder()) {
         None => Ok(()),
-        Some(Reason::OfAnotherUser) if is_of_journal_owner(rt, paths, text, found) => Ok(()),
+        Some(Reason::OfAnotherUser) if is_to_go && is_of_journal_owner(rt, paths, text, found) => {
+            Ok(())
+        }
         Some(reason) => Err(Trouble::unread(Subject::NewJournal, reason)),
     }
 }
@@ -152,8 +173,8 @@ pub fn refusal<R: SystemFiles>(
     }
 }
 
-/// Opens a file to be read, which has to be the one with this id. What is known of that, such as
-/// that it is a regular file, is known of what is read.
+/// Opens a file to be read, which has to be the one that was found: with its owner, group and mode,
+/// so that what decided whether it may be taken holds of what is read.
 ///
 /// # Errors
 ///
@@ -161,15 +182,23 @@ pub fn refusal<R: SystemFiles>(
 pub fn open_found<R: SystemFiles>(
     rt: &R,
     path: &str,
-    id: FileId,
+    found: Found,
     subject: Subject,
 ) -> Result<File, Trouble>
     ensures { IfErr result (λ trouble. is_file_fault trouble.fault ≡ true) }
 {
     match fs::open(rt, path) {
-        Ok(file) if FileId::of_opened(&file) == Some(id) => Ok(file),
+        Ok(file) if is_of_found(&file, found) => Ok(file),
         Ok(_) => Err(Trouble::unread(subject, Reason::Changed)),
         Err(error) => Err(Trouble::unread_after(subject, &error)),
+    }
+}
+
+/// Returns whether this is the file that was found, as it was.
+fn is_of_found(file: &File, found: Found) -> bool {
+    match file.metadata() {
+        Ok(opened) => Found::of(&opened) == found,
+        Err(_) => false,
     }
 }
 
@@ -190,9 +219,4 @@ pub fn look_for<R: SystemFiles>(
         Err(error) if is_not_found(&error) => Ok(None),
         Err(error) => Err(Trouble::unread_after(subject, &error)),
     }
-}
-
-/// Returns the id of a file, if there is one.
-fn id_of(found: &Option<Metadata>) -> Option<FileId> {
-    found.as_ref().map(FileId::of)
 }

@@ -7,6 +7,7 @@ use crate::calls::{NewFile, PartFile, reply_to};
 use crate::file_paths::{FilePaths, is_not_found};
 use crate::folder::SystemFiles;
 use crate::found_files::FileId;
+use crate::leftovers::Found;
 use crate::snapshot::Snapshot;
 use std::fs::{self, File, Metadata, OpenFile, OpenOptions, Permissions};
 use std::io::{self, ErrorKind, Seek, Write};
@@ -272,9 +273,9 @@ pub fn find_own_new<R: SystemFiles>(rt: &R, file: &PartFile<'_>) -> Reply {
 
 /// Looks whether the file of this name is the one that was left, if one was: `Failed` where another
 /// has come.
-fn find_left<R: SystemFiles>(rt: &R, left: Option<FileId>, path: &str) -> Reply {
+fn find_left<R: SystemFiles>(rt: &R, left: Option<Found>, path: &str) -> Reply {
     match (fs::symlink_metadata(rt, path), left) {
-        (Ok(found), Some(left)) if FileId::of(&found) == left => Reply::Done,
+        (Ok(found), Some(left)) if Found::of(&found) == left => Reply::Done,
         (Err(error), _) if is_not_found(&error) => Reply::NotFound,
         _ => Reply::Failed,
     }

@@ -7,7 +7,7 @@ use crate::folder::SystemFiles;
 use crate::new_file::{PRIVATE, adapt_first_journal, find_created};
 use crate::saves::NewContents;
 use crate::size_limit::size_limit;
-use crate::snapshot::{Snapshot, Snapshots};
+use crate::snapshot::{Snapshot, Snapshots, is_irregular};
 use std::alloc::Global;
 use std::fs::{self, File, OpenFile, OpenOptions};
 use std::io::{self, ErrorKind, Read, Seek, Write};
@@ -251,6 +251,9 @@ fn open_seen<R: SystemFiles>(
     name: &str,
     seen: Snapshot,
 ) -> Result<File, Trouble> {
+    if seen.is_regular() && is_irregular(rt, name) {
+        return Err(changed(part));
+    }
     match OpenOptions::new().write(true).open(rt, name) {
         Ok(file) if seen.is_of(&file) => Ok(file),
         Ok(_) => Err(changed(part)),
@@ -293,6 +296,9 @@ fn old_bytes<R: SystemFiles>(
 ) -> Result<Option<Vec<u8>>, Trouble> {
     if !seen.is_regular() {
         return Ok(None);
+    }
+    if is_irregular(rt, name) {
+        return Err(changed(part));
     }
     let mut file = match fs::open(rt, name) {
         Ok(file) => file,

@@ -6,8 +6,7 @@ ghost use Rattle.tf_files.specs.Opening.{is_file_fault};
 use crate::cause::{Reason, Subject, Trouble};
 use crate::file_paths::FilePaths;
 use crate::folder::SystemFiles;
-use crate::found_files::FileId;
-use crate::leftovers::{look_for, open_found, refusal};
+use crate::leftovers::{Found, look_for, open_found, refusal};
 use crate::snapshot::{Snapshot, Snapshots};
 use crate::trust::Access;
 use std::alloc::Global;
@@ -126,8 +125,7 @@ fn find_journal<R: SystemFiles>(
     if let Some(reason) = refusal(rt, &found, &text, paths.journal_folder()) {
         return Err(Trouble::unread(Subject::Journal, reason));
     }
-    let id = FileId::of(&found);
-    let journal = open_found(rt, &paths.journal, id, Subject::Journal)?;
+    let journal = open_found(rt, &paths.journal, Found::of(&found), Subject::Journal)?;
     Ok(Some(journal))
 }
 

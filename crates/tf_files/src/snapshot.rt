@@ -112,6 +112,14 @@ impl Snapshots {
     }
 }
 
+/// Returns whether this is known to lead to something that is no regular file.
+pub fn is_irregular<R: SystemFiles>(rt: &R, path: &str) -> bool {
+    match fs::metadata(rt, path) {
+        Ok(found) => !found.is_file(),
+        Err(_) => false,
+    }
+}
+
 impl FileState {
     /// Returns the state of a file of which this was found.
     fn of(found: &Metadata) -> FileState {

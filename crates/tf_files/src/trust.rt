@@ -20,8 +20,8 @@ const GROUP_WRITES: u32 = 0o020;
 /// The bit of a mode by which all others may write.
 const OTHERS_WRITE: u32 = 0o002;
 
-/// The owner and the group of a file or folder, and who may write it.
-#[derive(Clone, Copy)]
+/// The owner, the group and the mode of a file or folder.
+#[derive(Clone, Copy, PartialEq, Eq)]
 pub struct Access {
     owner: u32,
     group: u32,
