@@ -54,6 +54,7 @@ class Place:
     def make(self, name, content):
         """Makes a file; the folder `here` is the current one for names."""
         write(f"{self.folder}/{name}", content)
+        os.chmod(f"{self.folder}/{name}", 0o644)
 
     def link(self, name, to):
         """Makes a link."""

@@ -36,8 +36,9 @@ class Rights(Other):
         return *super().ending(ran), self.rights()
 
     def rights(self):
-        """Returns mode, owner and group of FILE and of its journal."""
-        files = [os.stat(self.scene.file + end) for end in ("", ".tfundo")]
+        """Returns mode, owner and group of FILE and of its journal, if it is there."""
+        names = [self.scene.file + end for end in ("", ".tfundo")]
+        files = [os.stat(name) for name in names if os.path.exists(name)]
         return [(stat.S_IMODE(file.st_mode), file.st_uid, file.st_gid) for file in files]
 
     def judge_written(self, status, errors, files, rights, is_done):

@@ -183,12 +183,14 @@ def try_modes(program, layout, history, command):
     folder = program.folder(f"modes {layout} {history} {command}")
     scene = Scene(program, f"{folder}/s", layout, history, mode=0o600)
     check = Check(f"{command} of {scene}, modes with umask 0", "calls", 25)
-    os.umask(0)
     scene.begin()
     for number, call in enumerate(program.calls(scene.folder, command), 1):
         scene.begin()
         look = f"run:find . -name 'main.tf*' -perm /077 >../seen"
+        usual = os.umask(0)
         program.meet(scene.folder, command, look, number)
+        # the next job runs in this process
+        os.umask(usual)
         seen = read(f"{folder}/seen").decode()
         check.see("private" if not seen else "open to others")
         check.require(not seen, "open to others", "at", call, seen)
