@@ -1,7 +1,7 @@
-"""A journal that is a link leads to a journal of somebody who may have one there, or a command is
-refused; a new journal or a new text that is a link refuses it. Nothing else that a link leads to is
-read, changed or removed, nor anything beside it. And nothing is removed before the journal was
-decoded."""
+"""A journal that is a link leads straight to a journal of somebody who may have one there, or a
+command is refused; a new journal or a new text that is a link refuses it. Nothing else that a link
+leads to is read, changed or removed, nor anything beside it. And nothing is removed before the
+journal was decoded."""
 import os
 
 from commands import FILE, JOURNAL, NEW_JOURNAL, NEW_TEXT, RECORD, Place
@@ -70,10 +70,13 @@ def try_no_journals(program):
     place = Linked(program, "links no journals")
     for to in NO_JOURNALS:
         place.require_refused(check, place.of((JOURNAL, to)), to)
-        # by one link more
+        # by one link more, which has the name of a journal
         both = place.of((JOURNAL, "../home/l.tfundo"), ("../home/l.tfundo", "../here/" + to))
         if not to.startswith("/"):
             place.require_refused(check, both, f"two links to {to}")
+    # a link to a link, to a journal
+    both = place.of((JOURNAL, "../home/l.tfundo"), ("../home/l.tfundo", "x.tfundo"))
+    place.require_refused(check, both, "two links to a journal")
     # with what an interrupted command has left
     for to in (NOTES, EMPTY):
         place.require_refused(check, place.of((JOURNAL, to), text=b"half"), f"{to}, a new text")
@@ -99,17 +102,16 @@ def try_new_files(program):
 def try_journals(program):
     """The journal is a link to a journal: it stays one, and the new journal is beside what it leads
     to."""
-    check = Check("a journal that is a link to a journal", "commands", 15)
+    check = Check("a journal that is a link to a journal", "commands", 10)
     place = Linked(program, "links journals")
     one = place.of((JOURNAL, KEPT))
-    two = place.of((JOURNAL, "../home/l"), ("../home/l", "x.tfundo"))
 
     def left():
         one()
         place.make(KEPT, b"")
         place.make(KEPT + ".new", RECORD)
 
-    for what, make in (("one link", one), ("two links", two), ("a new one is left", left)):
+    for what, make in (("a link", one), ("a new one is left", left)):
         place.require_accepted(check, make, what, KEPT, KEPT + ".new")
         is_link = os.path.islink(place.path(JOURNAL))
         check.require(is_link, "it is no link any more", what)
@@ -120,39 +122,31 @@ def try_journals(program):
 
 
 def try_owners(program):
-    """Each link to the journal belongs to the caller, or to the owner of what it leads to."""
+    """The link to the journal belongs to the caller, or to the owner of what it leads to."""
     if os.geteuid() != 0:
         raise Missing("it needs root")
-    check = Check("a journal that is a link of another user", "commands", 30)
+    check = Check("a journal that is a link of another user", "commands", 38)
     place = Linked(program, "links owners")
-    # owners of FILE, of the link, of a second one or None, of the journal; whether it is accepted
-    for file, link, second, journal, is_accepted in [
-        (0, 1000, None, 0, False),
-        (1000, 1000, None, 0, False),
-        (1000, 1001, None, 1000, False),
-        (1000, 0, 1001, 1000, False),
-        (1000, 1001, 0, 1000, False),
+    # owners of FILE, of the link, of the journal; whether it is accepted
+    for file, link, journal, is_accepted in [
+        (0, 1000, 0, False),
+        (1000, 1000, 0, False),
+        (1000, 1001, 1000, False),
         # the journal has to be accepted, too
-        (0, 1000, None, 1000, False),
-        (1000, 1000, None, 1000, True),
-        (1000, 0, None, 1000, True),
-        (1000, 0, 1000, 1000, True),
+        (0, 1000, 1000, False),
+        (1000, 1000, 1000, True),
+        (1000, 0, 1000, True),
     ]:
 
         def make():
-            links = [(JOURNAL, KEPT)]
-            if second is not None:
-                links = [(JOURNAL, "../home/l.tfundo"), ("../home/l.tfundo", "x.tfundo")]
-            place.of(*links)()
-            owners = [link] if second is None else [link, second]
-            for (name, _), owner in zip(links, owners):
-                os.lchown(place.path(name), owner, owner)
+            place.of((JOURNAL, KEPT))()
+            os.lchown(place.path(JOURNAL), link, link)
             os.chown(place.path(KEPT), journal, journal)
             os.chown(place.path(FILE), file, file)
             for folder in (place.folder, place.home):
                 os.chown(folder, 1000, 1000)
 
-        what = f"FILE of {file}, links of {link} and {second}, journal of {journal}"
+        what = f"FILE of {file}, a link of {link}, a journal of {journal}"
         if is_accepted:
             place.require_accepted(check, make, what, KEPT, KEPT + ".new")
         else:
