@@ -3,8 +3,9 @@ owner may write: a command is refused, reads nothing of it and changes nothing, 
 change FILE anyway."""
 import os
 
-from commands import FILE, JOURNAL, NEW_JOURNAL, NEW_TEXT, RECORD, Place
+from commands import COMMANDS, FILE, JOURNAL, NEW_JOURNAL, NEW_TEXT, RECORD, Place
 from program import Check, Missing
+from scenes import changes, state_of, write
 
 ROOT, ALICE, BOB, CAROL, EVE, TEAM = 0, 1001, 1002, 1003, 1004, 2000
 
@@ -97,26 +98,52 @@ def try_accepted(program, name):
     return check
 
 
-def try_replaced(program):
-    """A new journal may also belong to the owner of the journal that it replaces; a new text may
-    not."""
+def try_interrupted(program):
+    """A new journal may also belong to the owner of the journal: its group was not given yet."""
     need_root()
-    check = Check("a new journal of the journal's owner", "commands", 10)
-    place = Strange(program, "strangers replaced")
+    check = Check("a new journal of the journal's owner", "commands", 12)
+    place = Strange(program, "strangers interrupted")
     team = ("the team's", (0o2775, ALICE, TEAM), (0o664, ALICE, TEAM))
     for owner, require in ((BOB, place.require_accepted), (EVE, place.require_refused)):
         new = place.of((*team, (0o600, owner, owner), "root"), NEW_JOURNAL, has_own=False)
 
         def make():
             new()
-            place.make(JOURNAL, b"")
+            place.make(JOURNAL, RECORD)
             os.chown(place.path(JOURNAL), BOB, TEAM)
             os.chmod(place.path(JOURNAL), 0o664)
+            # nothing is written before a file is given
+            place.make(NEW_TEXT, b"")
+            write(place.path(NEW_JOURNAL), b"")
 
         require(check, make, f"of {owner}")
     return check
 
 
+def try_adopted(program):
+    """A new journal of the journal's owner that is there alone, and would be no journal of the
+    team's: it is taken, or refused, and then stays where it is."""
+    need_root()
+    check = Check("a new journal of the journal's owner, alone", "commands", 5)
+    place = Strange(program, "strangers adopted")
+    row = ("the team's", (0o2775, ALICE, TEAM), (0o664, ALICE, TEAM), (0o600, BOB, BOB), "root")
+    new = place.of(row, NEW_JOURNAL, has_own=False)
+    for command, (output, text, record) in COMMANDS.items():
+        new()
+        place.make(JOURNAL, b"")
+        os.chown(place.path(JOURNAL), BOB, TEAM)
+        os.chmod(place.path(JOURNAL), 0o664)
+        before = state_of(place.folder)
+        ran = place.run(command)
+        changed = changes(before, state_of(place.folder))
+        is_refused = ran[0] == 1 and not changed
+        journal = place.read(NEW_JOURNAL if command == "revert --list" else JOURNAL)
+        is_taken = ran == (0, output, b"") and (place.read(FILE), journal) == (text, record)
+        check.see("taken" if is_taken else "refused" if is_refused else "neither")
+        check.require(is_taken or is_refused, "neither", command, ran, changed)
+    return check
+
+
 JOBS = [(function, name) for name in (JOURNAL, NEW_JOURNAL, NEW_TEXT)
         for function in (try_refused, try_accepted)]  # fmt: skip
-JOBS += [(try_replaced,)]
+JOBS += [(try_interrupted,), (try_adopted,)]
