@@ -67,6 +67,12 @@ def try_kind(program, kind):
     return check
 
 
+def until_opened(calls, name):
+    """Returns the calls before the next one that opens a file."""
+    opened = f"openat {name}"
+    return calls[: calls.index(opened)] if opened in calls else calls
+
+
 def try_replaced(program, command):
     """A pipe replaces each of the files at each call."""
     check = Check(f"{command}, a pipe replaces a file at each call", "runs", 100)
@@ -90,8 +96,10 @@ def try_replaced(program, command):
                 program.meet(place.folder, command, how, number, timeout=SECONDS)
                 check.see("ends")
             except subprocess.TimeoutExpired:
-                check.see("waits")
-                check.require(False, "waits", name, "at call", number, call)
+                # nothing is promised of the instant between a look and an opening
+                is_late = f"statx {name}" not in until_opened(calls[number - 1 :], name)
+                check.see("waits in the last instant" if is_late else "waits")
+                check.require(is_late, "waits", name, "at call", number, call)
             # nothing is promised of the instant before the text is renamed
             last, count = INSTANTS[NEW_TEXT]
             is_pipe = stat.S_ISFIFO(os.stat(place.path(FILE)).st_mode)
