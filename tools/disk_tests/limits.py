@@ -1,6 +1,6 @@
 """A file may not have more than a number of bytes: the system writes less, and then refuses, or
-ends the program by a signal. A command that it refuses leaves all as it was; the signal ends none.
-"""
+ends the program by a signal. A command that it refuses leaves all as it was. The signal ends none
+where files are written in place; else it is a crash."""
 import resource
 import signal
 
@@ -36,9 +36,12 @@ def limit_bytes(program, layout):
                 ran = program.run(scene.folder, command, preexec_fn=before)
                 at_once = name_of(scene.state(), old, new)
                 where = (command, "of", scene, number, "bytes, status", ran.returncode, at_once)
-                check.require(ran.returncode in wanted, "another ending", *where)
-                check.require(at_once == wanted.get(ran.returncode), "not as it says", *where)
-                check.require(not scene.leftovers(), "left at once", *where, scene.leftovers())
+                # a crash, from which the next command recovers
+                is_ended = ran.returncode == -signal.SIGXFSZ and layout != "names"
+                is_said = is_ended or at_once == wanted.get(ran.returncode)
+                check.require(is_said, "not as it says", *where)
+                left = scene.leftovers()
+                check.require(is_ended or not left, "left at once", *where, left)
                 program.recover(scene.folder)
                 state = name_of(scene.state(), old, new)
                 check.see(state)

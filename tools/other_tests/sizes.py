@@ -1,11 +1,12 @@
-"""A file may not have more than a number of bytes (`ulimit -f`): a command that would make a longer
-one is refused, and FILE and its journal are at once as they were, in place too; no signal ends
-it."""
+"""A file may not have more than a number of bytes (`ulimit -f`). Where FILE or its journal is
+written in place, a command that would make a longer one is refused, FILE and its journal are at
+once as they were, and no signal ends it. Where they are replaced, the signal ends it as a crash
+does, from which the next command recovers; if the signal is ignored, it is refused.
+"""
 import os
 import re
 import resource
 import signal
-import subprocess
 
 from commands import COMMANDS as RESULTS
 from commands import FMT, TEXT
@@ -16,6 +17,7 @@ from scenes import COMMANDS, Scene, empty, name_of, read, write
 HANDLERS = {"the signal": signal.SIG_DFL, "the signal ignored": signal.SIG_IGN}
 
 REFUSED = re.compile(rb"tfk: main\.tf: cannot write, (\d+) bytes sent\n")
+ENDED = -signal.SIGXFSZ
 
 
 def limited(number, handler):
@@ -51,69 +53,54 @@ def try_scene(program, layout):
 
 
 def judge(check, scene, files, limit, ran, where):
-    """Judges how a command ended, and what is there at once."""
+    """Judges how a command ended, and what is there at once; or, if the signal ended it where files
+    are replaced, after the next command."""
     old, new = files
+    is_ended = ran.returncode == ENDED and scene.layout != "names"
+    if is_ended:
+        scene.program.recover(scene.folder)
     state = name_of(scene.state(), old, new)
     check.see(f"status {ran.returncode}, {state}")
     lengths = [len(content or b"") for content in (*new, *old)]
     if limit < max(lengths[:2]):
-        check.require(ran.returncode == 1, "not refused", *where)
+        check.require(ran.returncode != 0, "not refused", *where)
     elif limit >= max(lengths):
         check.require(ran.returncode == 0, "not saved", *where)
     if ran.returncode == 0:
         check.require(state == "new", "status 0, not new", *where)
     else:
         said = REFUSED.fullmatch(ran.stderr)
-        is_said = ran.returncode == 1 and said and int(said[1]) <= limit
-        check.require(is_said, "another ending", *where)
+        most = 0 if scene.layout == "names" else limit
+        is_said = ran.returncode == 1 and said and int(said[1]) <= most
+        check.require(is_said or is_ended, "another ending", *where)
         check.require(state == "old", "refused, not old", *where)
     check.require(not scene.leftovers(), "left", *where, scene.leftovers())
     check.require(not scene.lost(), "lost", *where, scene.lost())
 
 
 def try_three(program):
-    """Of three files one is too long: the others are saved."""
-    check = Check("short files, one of three is too long", "runs", 2)
+    """Of three files one is too long, and the signal is ignored: the others are saved."""
+    check = Check("short files, one of three is too long", "runs", 1)
     folder = program.folder("sizes three")
     limit = len(RESULTS["fmt"][1]) + len(FMT) + 10
     long_text = TEXT + b"#" * limit + b"\n"
     texts = {"a.tf": TEXT, "b.tf": long_text, "c.tf": TEXT}
     saved = {"a.tf": RESULTS["fmt"][1], "a.tf.tfundo": FMT}
     saved |= {"b.tf": long_text, "c.tf": RESULTS["fmt"][1], "c.tf.tfundo": FMT}
-    for what, handler in HANDLERS.items():
-        empty(folder)
-        for name, text in texts.items():
-            write(f"{folder}/{name}", text)
-        ran = program.run(folder, "fmt a.tf b.tf", "c.tf", preexec_fn=limited(limit, handler))
-        check.see(f"status {ran.returncode}")
-        said = (ran.returncode, ran.stdout, ran.stderr)
-        errors = rb"tfk: b\.tf: cannot write, \d+ bytes sent\n"
-        is_reported = said[:2] == (1, b"a.tf\nc.tf\n") and re.fullmatch(errors, ran.stderr)
-        check.require(is_reported, "not one is refused", what, said)
-        found = {name: read(f"{folder}/{name}") for name in os.listdir(folder)}
-        check.require(found == saved, "not as wanted", what, found)
-    return check
-
-
-def try_output(program):
-    """Standard output is a file that may not be longer."""
-    check = Check("short files, standard output", "runs", 2)
-    folder = program.folder("sizes output")
-    write(f"{folder}/main.tf", TEXT)
-    for what, handler in HANDLERS.items():
-        with open(f"{folder}/out", "wb") as out:
-            words = program.words("lint")
-            ran = subprocess.run(
-                words, cwd=folder, stdout=out, stderr=subprocess.PIPE, check=False,
-                preexec_fn=limited(5, handler),
-            )  # fmt: skip
-        check.see(f"status {ran.returncode}")
-        said = (ran.returncode, ran.stderr)
-        wanted = (1, b"tfk: main.tf: cannot write, 5 bytes sent\n")
-        check.require(said == wanted, "another ending", what, said)
-        check.require(read(f"{folder}/out") == b"main.", "another output", what)
+    empty(folder)
+    for name, text in texts.items():
+        write(f"{folder}/{name}", text)
+    before = limited(limit, signal.SIG_IGN)
+    ran = program.run(folder, "fmt a.tf b.tf", "c.tf", preexec_fn=before)
+    check.see(f"status {ran.returncode}")
+    said = (ran.returncode, ran.stdout, ran.stderr)
+    errors = rb"tfk: b\.tf: cannot write, \d+ bytes sent\n"
+    is_reported = said[:2] == (1, b"a.tf\nc.tf\n") and re.fullmatch(errors, ran.stderr)
+    check.require(is_reported, "not one is refused", said)
+    found = {name: read(f"{folder}/{name}") for name in os.listdir(folder)}
+    check.require(found == saved, "not as wanted", found)
     return check
 
 
 JOBS = [(try_scene, layout) for layout in ("name", "link", "journal link", "names")]
-JOBS += [(try_three,), (try_output,)]
+JOBS += [(try_three,)]
