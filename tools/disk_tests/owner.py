@@ -360,8 +360,9 @@ def lower_layer(program):
 
 
 def without_handles(program):
-    """Where the system does not show the handles of a process, FILE keeps its owner, and a journal
-    that is created gets it; a journal of the caller's is taken, too."""
+    """Where the system does not show a process, FILE keeps its owner, and a journal that is created
+    gets it. The caller is not known there: a journal of the caller's beside FILE of another user is
+    refused."""
     check = Check("owner, without /proc", "runs", 5)
     folder = Folder(program, "owner-alone", "replaced")
     alone = ["unshare", "--mount", "sh", "-c", 'mount -t tmpfs none /proc && exec "$@"', "sh"]
@@ -387,7 +388,13 @@ def without_handles(program):
     folder.begin()
     program.run(folder.path, "fmt")
     os.chown(f"{folder.path}/main.tf.tfundo", 0, 0)
-    run("revert", b"a=1\n")
+    before = state_of(folder.path)
+    ran = program.run(folder.path, "revert", before=alone)
+    is_refused = (ran.returncode, ran.stderr) == (1, b"tfk: main.tf: cannot read\n")
+    check.see("refused" if is_refused else "not refused")
+    check.require(is_refused, "not refused", ran)
+    changed = changes(before, state_of(folder.path))
+    check.require(not changed, "changed", changed)
     return check
 
 
