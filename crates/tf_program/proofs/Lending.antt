@@ -65,7 +65,7 @@ at_no_byte text RunFault.Endless read why = tt
 at_no_byte text fault read why = absurd why
 
 pub not_read_nowhere : (fault : RunFault) (unread : Option (List ℕ)) (read : Source) → IsReadStreamFault fault read
-    → IsLocatedInUnread true (record { fault = fault; location = None; explained = None; cause = None }) unread
+    → IsLocatedInUnread true (record { fault = fault; location = None; explained = None; cause = None; hint = None }) unread
 not_read_nowhere fault None read why = ([], tt, (λ _. at_no_byte [] fault read why, λ _. refl))
 not_read_nowhere fault (Some bytes) read why = (bytes, refl, (λ _. at_no_byte bytes fault read why, λ _. refl))
 

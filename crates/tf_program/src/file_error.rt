@@ -4,12 +4,13 @@ ghost use Rattle.std.specs.Prelude.{◌≡◌, IfSome};
 ghost use Rattle.tf_program.specs.Location.{byte_of, IsLocation, IsLocationOf, IsSaidAt};
 ghost use Rattle.tf_program.specs.Work.{IsLocatedIn};
 
+use crate::hint::{Hint, hint_of};
 use crate::location::{Location, byte_of, location_of};
 use hcl_explain::{Said, say_parse_fault, say_scan_fault};
 use std::alloc::{AllocError, Global};
 use std::io::Write;
 use tf_files::{Cause, FileFault, Trouble};
-use tf_session::RunFault;
+use tf_session::{Command, RunFault};
 
 /// What is said of an error of a text, and where that is printed.
 #[derive(Drop)]
@@ -28,13 +29,15 @@ pub struct FileError {
     explained: Option<Explained>,
     /// Why the file can't be read or written, if that is known.
     cause: Option<Cause>,
+    /// What an error of the journal means.
+    hint: Option<Hint>,
 }
 
 impl From<RunFault> for FileError {
     ghost use Rattle.std.specs.Prelude.{None};
 
     ghost from_gives = { λ given error.
-        error ≡ record { fault = given; location = None; explained = None; cause = None } };
+        error ≡ record { fault = given; location = None; explained = None; cause = None; hint = None } };
 
     fn from(fault: RunFault) -> FileError {
         FileError {
@@ -42,6 +45,7 @@ impl From<RunFault> for FileError {
             location: None,
             explained: None,
             cause: None,
+            hint: None,
         }
     }
 }
@@ -50,7 +54,7 @@ impl From<Trouble> for FileError {
     ghost use Rattle.std.specs.Prelude.{None};
 
     ghost from_gives = { λ given error.
-        error ≡ record { fault = given.fault; location = None; explained = None; cause = given.cause } };
+        error ≡ record { fault = given.fault; location = None; explained = None; cause = given.cause; hint = None } };
 
     fn from(trouble: Trouble) -> FileError {
         FileError {
@@ -58,6 +62,7 @@ impl From<Trouble> for FileError {
             location: None,
             explained: None,
             cause: trouble.cause,
+            hint: None,
         }
     }
 }
@@ -65,7 +70,7 @@ impl From<Trouble> for FileError {
 impl FileError {
     /// Returns the error of the file with this text, with its location if it is at a byte, and what
     /// is said of it.
-    pub fn located(alloc: Global, fault: RunFault, text: &[u8]) -> FileError
+    pub fn located(alloc: Global, fault: RunFault, text: &[u8], hint: Option<Hint>) -> FileError
         ensures fault { result.fault ≡ fault }
         ensures location { IsLocationOf text.now (byte_of fault) result.location }
         ensures explained { IfSome result.explained
@@ -78,16 +83,23 @@ impl FileError {
             location,
             explained,
             cause: None,
+            hint,
         }
     }
 
     /// Returns the error of a command that did nothing to a file, located if `locate` says so.
-    pub fn of_refused(alloc: Global, refused: &FileFault, locate: bool) -> FileError
+    pub fn of_refused(
+        alloc: Global,
+        command: Command,
+        refused: &FileFault,
+        locate: bool,
+    ) -> FileError
         ensures fault { result.fault ≡ refused.now.fault }
         ensures location { IsLocatedIn refused.now.text.items locate result }
     {
         if locate {
-            FileError::located(alloc, refused.fault, &refused.text)
+            let hint = hint_of(command, &refused.fault, refused.text.len());
+            FileError::located(alloc, refused.fault, &refused.text, hint)
         } else {
             FileError::from(refused.fault)
         }
@@ -113,7 +125,7 @@ impl FileError {
 
     /// Returns whether there is more to say than the error.
     fn has_second_line(&self, locate: bool) -> bool {
-        self.location.is_some() || (locate && self.cause.is_some())
+        self.location.is_some() || self.hint.is_some() || (locate && self.cause.is_some())
     }
 
     /// Returns the line `tfk: NAME: ERROR` and, if errors are located, one that says where it is in
@@ -123,19 +135,22 @@ impl FileError {
         if let Some(Explained { location, sentence }) = &self.explained {
             return located_lines(alloc, name, fault, *location, sentence.as_str());
         }
-        match (self.location, self.cause) {
-            (Some(location), _) => {
-                let whole = format!(in alloc; "{fault}")?;
-                located_lines(
-                    alloc,
-                    name,
-                    fault,
-                    location,
-                    text_after_byte(whole.as_str()),
-                )
-            }
-            (None, Some(cause)) if locate => {
+        if let Some(location) = self.location {
+            let whole = format!(in alloc; "{fault}")?;
+            return located_lines(
+                alloc,
+                name,
+                fault,
+                location,
+                text_after_byte(whole.as_str()),
+            );
+        }
+        match (self.cause, self.hint) {
+            (Some(cause), _) if locate => {
                 format!(in alloc; "tfk: {name}: {fault}\n{name}: error: {cause}\n")
+            }
+            (None, Some(hint)) => {
+                format!(in alloc; "tfk: {name}: {fault}\n{name}: error: {hint}\n")
             }
             _ => format!(in alloc; "tfk: {name}: {fault}\n"),
         }

@@ -4,6 +4,7 @@
 mod batch;
 mod file_error;
 mod files;
+mod hint;
 mod location;
 mod record_list;
 mod run;

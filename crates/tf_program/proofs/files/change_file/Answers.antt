@@ -6,7 +6,7 @@ use Rattle.tf_program.proofs.files.change_file.Goals as goal
 pub returns-in_err-file-clause-fault : goal.returns-in_err-file-clause-fault
 returns-in_err-file-clause-fault g c =
     let trouble = c.in_err-file.field-0.0 in
-    let answer : c.from_residual.result ≡ Err (record { fault = trouble.fault; location = None; explained = None; cause = trouble.cause }) = search rules in
+    let answer : c.from_residual.result ≡ Err (record { fault = trouble.fault; location = None; explained = None; cause = trouble.cause; hint = None }) = search rules in
     rw answer (inl (c.in_err-file.ensures.fault, refl))
 
 pub returns-clause-made : goal.returns-clause-made

@@ -8,13 +8,13 @@ use Rattle.tf_program.proofs.files.run_and_locate.Goals as goal
 pub returns-in_err-text-clause-fault : goal.returns-in_err-text-clause-fault
 returns-in_err-text-clause-fault g c =
     let fault = c.in_err-text.field-0.0 in
-    let answer : c.from_residual.result ≡ Err (record { fault = fault; location = None; explained = None; cause = None }) = search rules in
+    let answer : c.from_residual.result ≡ Err (record { fault = fault; location = None; explained = None; cause = None; hint = None }) = search rules in
     rw answer (not_read c.args.action c.args.name.now fault _ _ c.in_err-text.ensures.fault (first_of (search rules, cc, grind (arith, common_steps))))
 
 pub returns-in_err-text-clause-location : goal.returns-in_err-text-clause-location
 returns-in_err-text-clause-location g c =
     let fault = c.in_err-text.field-0.0 in
-    let answer : c.from_residual.result ≡ Err (record { fault = fault; location = None; explained = None; cause = None }) = search rules in
+    let answer : c.from_residual.result ≡ Err (record { fault = fault; location = None; explained = None; cause = None; hint = None }) = search rules in
     rw answer (not_read_nowhere fault _ _ c.in_err-text.ensures.fault)
 
 pub returns-in-Ok-clause-done : goal.returns-in-Ok-clause-done

@@ -1,0 +1,84 @@
+//! What an error of a command on a journal means, and what to do.
+
+use std::fmt;
+use tf_session::{Command, Refused, RunFault};
+
+/// What is said of an error of a file's journal beside its own text.
+#[derive(Clone, Copy)]
+pub enum Hint {
+    /// The file has another length than the last command left.
+    Changed { left: usize, now: usize },
+    /// A command found another length than the one before it had left.
+    ChangedBetween { left: usize, found: usize },
+    /// One of these.
+    ChangedSomewhere,
+    /// What the command had added is not there any more.
+    ChangedInPlace,
+    /// There is no such command.
+    NoCommand,
+    /// A later command changed the same place.
+    Blocked { number: usize },
+    /// The journal can't be decoded.
+    Damaged,
+}
+
+/// Returns what is said of an error of a command on a file with so many bytes.
+pub fn hint_of(command: Command, fault: &RunFault, len: usize) -> Option<Hint> {
+    match fault {
+        RunFault::Refused(refused) => hint_of_refused(command, refused, len),
+        RunFault::NoRecord => Some(Hint::NoCommand),
+        RunFault::Blocked { number } => Some(Hint::Blocked { number: *number }),
+        RunFault::BadJournal(_) => Some(Hint::Damaged),
+        _ => None,
+    }
+}
+
+/// Returns what is said of a record that does not fit. A plain revert compares the file with the
+/// last record; a take compares records with each other before.
+fn hint_of_refused(command: Command, refused: &Refused, len: usize) -> Option<Hint> {
+    match refused {
+        Refused::Length { expected, found } => Some(match command {
+            Command::Take(_) if *found == len => Hint::ChangedSomewhere,
+            Command::Take(_) => Hint::ChangedBetween {
+                left: *found,
+                found: *expected,
+            },
+            _ => Hint::Changed {
+                left: *expected,
+                now: *found,
+            },
+        }),
+        Refused::Differs { .. } => Some(Hint::ChangedInPlace),
+        Refused::Memory => None,
+    }
+}
+
+impl fmt::Display for Hint {
+    fn fmt<W: fmt::Write>(&self, f: &mut fmt::Formatter<W>) -> fmt::Result {
+        match self {
+            Hint::Changed { left, now } => write!(
+                f,
+                "the last command left {left} bytes, and there are {now} now: undo what you \
+                 changed since, or delete the journal",
+            ),
+            Hint::ChangedBetween { left, found } => write!(
+                f,
+                "a command left {left} bytes, and the next one found {found}: undo the later \
+                 commands first, or delete the journal",
+            ),
+            Hint::ChangedSomewhere => f.write_str(
+                "the file was changed by hand since a command: undo that change, or delete the \
+                 journal",
+            ),
+            Hint::ChangedInPlace => f.write_str(
+                "the file was changed where the command had changed it: undo that change, or \
+                 delete the journal",
+            ),
+            Hint::NoCommand => f.write_str("tfk revert --list FILE prints what can be reverted"),
+            Hint::Blocked { number } => write!(f, "undo command {number} first"),
+            Hint::Damaged => {
+                f.write_str("the journal is damaged, or not tfk's: restore it, or delete it")
+            }
+        }
+    }
+}
