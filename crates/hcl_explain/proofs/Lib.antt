@@ -1,1 +1,2 @@
 pub mod OpeningsLemmas
+pub mod SaidLemmas

@@ -5,7 +5,7 @@ use Rattle.hcl_scan.specs.Tokenization.{IsTokenization}
 use Rattle.hcl_scan.specs.declared.fault.ScanFault.{ScanFault}
 use Rattle.hcl_text_laws.specs.Faults.{byte_offset}
 use Rattle.hcl_text_laws.specs.declared.fault.ParseFault.{ParseFault}
-use Rattle.hcl_explain.specs.Explanations.{IsExplanation}
+use Rattle.hcl_explain.specs.Explanations.{IsExplanation, IsAtNoToken}
 use Rattle.hcl_explain.specs.ScanExplanations.{IsScanExplanation}
 use Rattle.hcl_explain.specs.declared.explanation.Explanation.{Explanation}
 use Rattle.hcl_explain.specs.declared.scan_error.ScanExplanation.{ScanExplanation}
@@ -20,3 +20,8 @@ abbrev pub IsSaidOfParse : List ℕ → ParseFault → ℕ → Type 0
 IsSaidOfParse text fault at =
     (t : TokenizedText) × (t.text ≡ text) × IsTokenization text t.pairs t.last
     × (e : Explanation) × IsExplanation t fault e × (at ≡ byte_offset t e.token)
+
+-- the error is at no token of the text, and not at its end
+abbrev pub IsAtNoTokenOf : List ℕ → ParseFault → Type 0
+IsAtNoTokenOf text fault =
+    (t : TokenizedText) → t.text ≡ text → IsTokenization text t.pairs t.last → IsAtNoToken t fault

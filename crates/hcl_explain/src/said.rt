@@ -1,7 +1,10 @@
 //! The place and the sentence of an error of a text.
 
-ghost use Rattle.std.specs.Prelude.{IfOk, IfSome};
-ghost use Rattle.hcl_explain.specs.Said.{IsSaidOfScan, IsSaidOfParse};
+ghost use Rattle.std.specs.Prelude.{◌≡◌, IfOk, IfSome, IfNone, IsErr, None};
+ghost use Rattle.hcl_scan.specs.declared.fault.ScanFault.TheVariants.{Memory};
+ghost use Rattle.hcl_explain.specs.Explanations.{IsAtNoToken};
+ghost use Rattle.hcl_explain.specs.ScanExplanations.{IsScanExplanation};
+ghost use Rattle.hcl_explain.specs.Said.{IsSaidOfScan, IsSaidOfParse, IsAtNoTokenOf};
 
 use crate::explanation::explain;
 use crate::scan_error::explain_scan;
@@ -27,7 +30,8 @@ pub fn say_scan_fault(
     text: &[u8],
     fault: ScanFault,
 ) -> Result<Option<Said>, AllocError>
-    ensures { IfOk result (λ o. IfSome o (λ said. IsSaidOfScan text.now fault said.at)) }
+    ensures said { IfOk result (λ o. IfSome o (λ said. IsSaidOfScan text.now fault said.at)) }
+    ensures none { IfOk result (λ o. IfNone o (IsScanExplanation text.now fault None)) }
 {
     match explain_scan(alloc, text, fault)? {
         Some(explanation) => {
@@ -52,12 +56,25 @@ pub fn say_parse_fault(
     text: &[u8],
     fault: ParseFault,
 ) -> Result<Option<Said>, AllocError>
-    ensures { IfOk result (λ o. IfSome o (λ said. IsSaidOfParse text.now fault said.at)) }
+    ensures said { IfOk result (λ o. IfSome o (λ said. IsSaidOfParse text.now fault said.at)) }
+    ensures none { IfOk result (λ o. IfNone o (IsAtNoTokenOf text.now fault)) }
 {
+    hcl_scan::laws::one_tokenization();
+    hcl_scan::laws::no_tokenization_with_fault();
     match scan(alloc, text) {
         Ok(scanned) => say_of_tokens(alloc, &scanned, fault),
-        Err(ScanFault::Memory) => Err(AllocError),
-        Err(_) => Ok(None),
+        Err(fault) => none_unless_memory(fault),
+    }
+}
+
+/// Returns that nothing is said, or that memory ran out if that is the error.
+fn none_unless_memory(fault: ScanFault) -> Result<Option<Said>, AllocError>
+    ensures none { IfOk result (λ o. o ≡ None) }
+    ensures memory { fault ≡ Memory → IsErr result }
+{
+    match fault {
+        ScanFault::Memory => Err(AllocError),
+        _ => Ok(None),
     }
 }
 
@@ -67,7 +84,9 @@ fn say_of_tokens(
     scanned: &Scanned<'_>,
     fault: ParseFault,
 ) -> Result<Option<Said>, AllocError>
-    ensures { IfOk result (λ o. IfSome o (λ said. IsSaidOfParse scanned.now.text fault said.at)) }
+    ensures said { IfOk result
+        (λ o. IfSome o (λ said. IsSaidOfParse scanned.now.text fault said.at)) }
+    ensures none { IfOk result (λ o. IfNone o (IsAtNoToken scanned.now fault)) }
 {
     // for the proof: a clause of `text` says that these are the tokens of the text
     let _text = scanned.text();
