@@ -2,57 +2,37 @@
 
 use crate::actual::Answer;
 use crate::row::Row;
-use hcl_explain::{explain, explain_scan};
-use hcl_scan::{ScanFault, Scanned, scan};
+use hcl_explain::{Said, say_parse_fault, say_scan_fault};
+use hcl_scan::scan;
 use hcl_token::clusters;
 use std::alloc::AllocError;
 use std::fmt::Write;
 use std::str::from_utf8;
 
 pub fn answer(row: &Row, out: &mut Answer) {
-    match scan(out.alloc, row.text(1)) {
-        Ok(scanned) => parsed(row, &scanned, out),
-        Err(fault) => refused(row, fault, out),
-    }
-}
-
-/// Writes what is said of a text that has tokens.
-fn parsed(row: &Row, scanned: &Scanned<'_>, out: &mut Answer) {
-    match hcl_check::check(out.alloc, scanned) {
-        Ok(()) => out.put("parses"),
-        Err(fault) => match explain(scanned, fault) {
-            Some(said) => {
-                let sentence = said.sentence(out.alloc, scanned);
-                write_line(row, said.place(scanned), sentence, out);
-            }
-            None => out.put("nothing is said"),
+    let text = row.text(1);
+    match scan(out.alloc, text) {
+        Ok(scanned) => match hcl_check::check(out.alloc, &scanned) {
+            Ok(()) => out.put("parses"),
+            Err(fault) => write_said(row, say_parse_fault(out.alloc, text, fault), out),
         },
+        Err(fault) => write_said(row, say_scan_fault(out.alloc, text, fault), out),
     }
 }
 
-/// Writes what is said of a text that has no tokens.
-fn refused(row: &Row, fault: ScanFault, out: &mut Answer) {
-    match explain_scan(out.alloc, row.text(1), fault) {
+/// Writes the line of what is said of the error.
+fn write_said(row: &Row, said: Result<Option<Said>, AllocError>, out: &mut Answer) {
+    match said {
         Ok(Some(said)) => {
-            let sentence = said.sentence(out.alloc, row.text(1));
-            write_line(row, said.at, sentence, out);
+            let before = text_before(row.text(1), said.at);
+            let (line, column) = (line_after(before), column_after(before));
+            let sentence = said.sentence.as_str();
+            let _ = write!(out, "{line}:{column}: error: {sentence}");
+            is_beside_terraform(row.word(2), line, out);
         }
         Ok(None) => out.put("nothing is said"),
         Err(_) => out.hold(false, "out of memory"),
     }
-}
-
-/// Writes the line of the error at a byte.
-fn write_line(row: &Row, at: usize, sentence: Result<String, AllocError>, out: &mut Answer) {
-    let before = text_before(row.text(1), at);
-    let (line, column) = (line_after(before), column_after(before));
-    match sentence {
-        Ok(sentence) => {
-            let _ = write!(out, "{line}:{column}: error: {sentence}");
-        }
-        Err(_) => out.hold(false, "out of memory"),
-    }
-    is_beside_terraform(row.word(2), line, out);
 }
 
 /// The line is that of terraform, or before it if the row says `opening`.
