@@ -121,7 +121,7 @@ fn check_new_journal<R: SystemFiles>(
     paths: &FilePaths,
     text: &Access,
     new_journal: &Option<Metadata>,
-    is_to_go: bool,
+    is_to_be_removed: bool,
 ) -> Result<(), Trouble>
     ensures { IfErr result (λ trouble. is_file_fault trouble.fault ≡ true) }
 {
@@ -130,9 +130,8 @@ fn check_new_journal<R: SystemFiles>(
     };
     match refusal(rt, found, text, paths.journal_folder()) {
         None => Ok(()),
-        Some(Reason::OfAnotherUser) if is_to_go && is_of_journal_owner(rt, paths, text, found) => {
-            Ok(())
-        }
+        Some(Reason::OfAnotherUser)
+            if is_to_be_removed && is_of_journal_owner(rt, paths, text, found) => { Ok(()) }
         Some(reason) => Err(Trouble::unread(Subject::NewJournal, reason)),
     }
 }

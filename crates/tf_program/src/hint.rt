@@ -19,16 +19,16 @@ pub enum Hint {
     /// A later command changed the same place.
     Blocked { number: usize },
     /// The journal can't be decoded.
-    Damaged,
+    NotDecoded,
 }
 
-/// Returns what is said of an error of a command on a file with so many bytes.
+/// Returns what is said of an error of a command on a file with `len` bytes.
 pub fn hint_of(command: Command, fault: &RunFault, len: usize) -> Option<Hint> {
     match fault {
         RunFault::Refused(refused) => hint_of_refused(command, refused, len),
         RunFault::NoRecord => Some(Hint::NoCommand),
         RunFault::Blocked { number } => Some(Hint::Blocked { number: *number }),
-        RunFault::BadJournal(_) => Some(Hint::Damaged),
+        RunFault::BadJournal(_) => Some(Hint::NotDecoded),
         _ => None,
     }
 }
@@ -76,7 +76,7 @@ impl fmt::Display for Hint {
             ),
             Hint::NoCommand => f.write_str("tfk revert --list FILE prints what can be reverted"),
             Hint::Blocked { number } => write!(f, "undo command {number} first"),
-            Hint::Damaged => {
+            Hint::NotDecoded => {
                 f.write_str("the journal is damaged, or not tfk's: restore it, or delete it")
             }
         }
