@@ -70,6 +70,20 @@ impl Trouble {
 }
 
 impl Trouble {
+    /// Returns this error, of another file.
+    pub fn of_subject(self, subject: Subject) -> Trouble
+        ensures { result.fault ≡ self.fault }
+    {
+        let cause = match self.cause {
+            Some(Cause { reason, .. }) => Some(Cause { subject, reason }),
+            None => None,
+        };
+        Trouble {
+            fault: self.fault,
+            cause,
+        }
+    }
+
     /// Returns this error if it is one of files, else that a file can't be read.
     pub fn of_files(self) -> Trouble
         ensures { is_file_fault result.fault ≡ true }

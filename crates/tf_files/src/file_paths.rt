@@ -271,11 +271,28 @@ impl Place {
             Some(found) if found.is_symlink() => found,
             _ => return Ok(None),
         };
-        let Some(target) = self.follow(rt, alloc, JOURNAL)? else {
-            return Err(Trouble::unread(Subject::Journal, Reason::Link));
-        };
-        match target.look(rt, alloc, "")? {
-            Some(found) if target.may_be_journal(rt, &link, &found) => Ok(Some(target)),
+        match self.follow(rt, alloc, JOURNAL) {
+            Ok(Some(target)) => target.as_journal(rt, alloc, &link),
+            Ok(None) => Err(Trouble::unread(Subject::Journal, Reason::Link)),
+            Err(trouble) => Err(trouble.of_subject(Subject::Journal)),
+        }
+    }
+
+    /// Returns this place, to which the link of a journal leads.
+    ///
+    /// # Errors
+    ///
+    /// `Memory`; `Read` if the link may not be followed.
+    fn as_journal<R: SystemFiles>(
+        self,
+        rt: &R,
+        alloc: Global,
+        link: &Metadata,
+    ) -> Result<Option<Place>, Trouble>
+        ensures { IfErr result (λ trouble. is_file_fault trouble.fault ≡ true) }
+    {
+        match self.look(rt, alloc, "")? {
+            Some(found) if self.may_be_journal(rt, link, &found) => Ok(Some(self)),
             _ => Err(Trouble::unread(Subject::Journal, Reason::Link)),
         }
     }

@@ -59,6 +59,8 @@ fn overwrite_both<R: SystemFiles>(
     )?;
     let old_text = old_bytes(rt, alloc, SessionPart::Text, &paths.text, seen)?;
     check_sizes(size_limit(rt, alloc), contents, &old_text, &old_journal)?;
+    check_kind(rt, SessionPart::Journal, &paths.journal, seen_journal)?;
+    check_kind(rt, SessionPart::Text, &paths.text, seen)?;
     let mut journal = open_seen(rt, SessionPart::Journal, &paths.journal, seen_journal)?;
     let mut text = open_seen(rt, SessionPart::Text, &paths.text, seen)?;
     let put = write_both(&mut journal, &mut text, contents);
@@ -98,6 +100,7 @@ fn overwrite_text<R: SystemFiles>(
     old_text: &Option<Vec<u8>>,
 ) -> Result<(), Trouble> {
     sync_journal_name(paths)?;
+    check_kind(rt, SessionPart::Text, &paths.text, seen)?;
     let mut text = open_seen(rt, SessionPart::Text, &paths.text, seen)?;
     if len_of(journal) != Some(0) {
         return Err(changed(SessionPart::Journal));
@@ -239,6 +242,24 @@ fn len_of<F: OpenFile>(file: &F) -> Option<u64> {
     }
 }
 
+/// Tests that a regular file was replaced by nothing else, as a pipe, which must not be opened.
+///
+/// # Errors
+///
+/// `Write` with no byte sent.
+fn check_kind<R: SystemFiles>(
+    rt: &R,
+    part: SessionPart,
+    path: &str,
+    seen: Snapshot,
+) -> Result<(), Trouble> {
+    if seen.is_regular() && is_irregular(rt, path) {
+        Err(changed(part))
+    } else {
+        Ok(())
+    }
+}
+
 /// Opens a part to be written over, and changes nothing.
 ///
 /// # Errors
@@ -251,9 +272,6 @@ fn open_seen<R: SystemFiles>(
     name: &str,
     seen: Snapshot,
 ) -> Result<File, Trouble> {
-    if seen.is_regular() && is_irregular(rt, name) {
-        return Err(changed(part));
-    }
     match OpenOptions::new().write(true).open(rt, name) {
         Ok(file) if seen.is_of(&file) => Ok(file),
         Ok(_) => Err(changed(part)),
@@ -297,9 +315,7 @@ fn old_bytes<R: SystemFiles>(
     if !seen.is_regular() {
         return Ok(None);
     }
-    if is_irregular(rt, name) {
-        return Err(changed(part));
-    }
+    check_kind(rt, part, name, seen)?;
     let mut file = match fs::open(rt, name) {
         Ok(file) => file,
         Err(error) => return Err(Trouble::unread_after(subject_of(part), &error)),
