@@ -58,7 +58,7 @@ fn overwrite_both<R: SystemFiles>(
         seen_journal,
     )?;
     let old_text = old_bytes(rt, alloc, SessionPart::Text, &paths.text, seen)?;
-    check_sizes(size_limit(rt, alloc), contents, &old_text, &old_journal)?;
+    check_sizes(size_limit(rt), contents, &old_text, &old_journal)?;
     check_kind(rt, SessionPart::Journal, &paths.journal, seen_journal)?;
     check_kind(rt, SessionPart::Text, &paths.text, seen)?;
     let mut journal = open_seen(rt, SessionPart::Journal, &paths.journal, seen_journal)?;
@@ -81,7 +81,7 @@ fn create_and_overwrite<R: SystemFiles>(
     seen: Snapshot,
 ) -> Result<(), Trouble> {
     let old_text = old_bytes(rt, alloc, SessionPart::Text, &paths.text, seen)?;
-    check_sizes(size_limit(rt, alloc), contents, &old_text, &None)?;
+    check_sizes(size_limit(rt), contents, &old_text, &None)?;
     let mut journal = create_journal(rt, paths, seen)?;
     let put = overwrite_text(rt, paths, contents, seen, &mut journal, &old_text);
     if put.is_err() {
