@@ -19,19 +19,38 @@ abbrev pub may_only_group_create : Access → ℕ → Bool
 may_only_group_create folder group =
     not (may_others_write folder) && (not (may_group_write folder) || (folder.group == group))
 
--- the file has the text's group, whose members may write the text, and nobody else can have made it
+-- the file has the text's group, whose members may write the text, and nobody else can have made or
+-- written it
 abbrev pub is_of_team : Access → Access → Access → Bool
 is_of_team file text folder =
-    (file.group == text.group) && (may_group_write text && may_only_group_create folder text.group)
+    ((file.group == text.group) && may_group_write text)
+    && (not (may_others_write file) && may_only_group_create folder text.group)
 
 -- in a folder of which this is known
 abbrev pub is_of_team_in : Access → Access → Option Access → Bool
 is_of_team_in file text (Some folder) = is_of_team file text folder
 is_of_team_in file text None = false
 
--- it belongs to the caller or to the text's owner, or everybody may write the text, or it is the
--- team's
+-- those who may write the file may write the text, apart from the file's owner
+abbrev pub is_written_alike : Access → Access → Bool
+is_written_alike file text =
+    not (may_others_write file)
+    && (not (may_group_write file) || ((file.group == text.group) && may_group_write text))
+
+-- only the caller or the text's owner may create files in the folder, of which this is known
+abbrev pub is_closed : Access → Option Access → Option ℕ → Bool
+is_closed text (Some folder) caller =
+    (not (may_others_write folder) && not (may_group_write folder))
+    && (is_of folder caller || (folder.owner == text.owner))
+is_closed text None caller = false
+
+-- it belongs to the caller or to the text's owner, and nobody else can have written it here
+abbrev pub is_of_owner : Access → Access → Option Access → Option ℕ → Bool
+is_of_owner file text folder caller =
+    (is_of file caller || (file.owner == text.owner))
+    && (is_written_alike file text || is_closed text folder caller)
+
+-- everybody may write the text, or it is the team's, or the owner's
 abbrev pub is_trusted : Access → Access → Option Access → Option ℕ → Bool
 is_trusted file text folder caller =
-    is_of file caller
-    || ((file.owner == text.owner) || (may_others_write text || is_of_team_in file text folder))
+    may_others_write text || (is_of_team_in file text folder || is_of_owner file text folder caller)

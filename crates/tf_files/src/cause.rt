@@ -143,7 +143,7 @@ impl fmt::Display for Cause {
         match self.reason {
             Reason::System(number) => { write!(f, "{}", io::Error::from_raw_os_error(number)) }
             Reason::Changed => f.write_str("changed by another program"),
-            Reason::OfAnotherUser => f.write_str("of another user, who may not write the file"),
+            Reason::OfAnotherUser => f.write_str("another user may have written it"),
             Reason::NotRegular => f.write_str("no regular file"),
             Reason::Link => f.write_str("a link that is not followed"),
             Reason::OverSizeLimit => f.write_str("over the limit of a file's size"),

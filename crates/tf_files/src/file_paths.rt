@@ -20,6 +20,9 @@ const NEW_TEXT: &str = ".tfnew";
 /// The suffix that the name of a new journal adds to that of the journal that it is to replace.
 const NEW_JOURNAL: &str = ".new";
 
+/// The system's number of the error that there is no such file: `ENOENT` of Linux.
+const NO_SUCH_FILE: i32 = 2;
+
 /// The most links that are followed, each to the next: as many as Linux follows.
 const MOST_LINKS: u32 = 40;
 
@@ -77,6 +80,10 @@ impl FilePaths {
         ensures name { IfOk result (λ paths. string_bytes paths.name ≡ name.now) }
         ensures fault { IfErr result (λ trouble. is_file_fault trouble.fault ≡ true) }
     {
+        if name.is_empty() {
+            let reason = Reason::System(NO_SUCH_FILE);
+            return Err(Trouble::unread(Subject::File, reason));
+        }
         let given = Place::open(rt, alloc, "", name)?;
         let places = Places::of(rt, alloc, given)?;
         let paths = places.paths(alloc)?;
@@ -104,6 +111,17 @@ impl FilePaths {
         match &self.places.journal {
             Some(journal) => &journal.folder,
             None => &self.places.given.folder,
+        }
+    }
+
+    /// Returns who may create files beside the text; none if the journal is in another folder, or the
+    /// system does not say.
+    pub fn shared_access(&self) -> Option<Access> {
+        let folder = self.text_folder();
+        if folder.id() == self.journal_folder().id() {
+            folder.access()
+        } else {
+            None
         }
     }
 

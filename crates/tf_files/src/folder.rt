@@ -90,6 +90,11 @@ impl Folder {
         }
     }
 
+    /// Returns whether it could be opened: else its name may lead to another folder at each call.
+    pub fn is_open(&self) -> bool {
+        self.handle.is_some()
+    }
+
     /// Returns the id of this folder; none if the system does not say.
     pub fn id(&self) -> Option<FileId> {
         FileId::of_opened(self.handle.as_ref()?)

@@ -7,7 +7,7 @@ ghost use Rattle.tf_files.specs.Opening.{is_file_fault};
 
 use crate::cause::{Reason, Subject, Trouble};
 use crate::file_paths::{FilePaths, is_not_found};
-use crate::folder::{Folder, SystemFiles};
+use crate::folder::SystemFiles;
 use crate::found_files::FileId;
 use crate::trust::{Access, caller, is_trusted};
 use std::fs::{self, File, Metadata, OpenFile};
@@ -46,8 +46,8 @@ impl Leftovers {
     pub fn of<R: SystemFiles>(rt: &R, paths: &FilePaths) -> Result<Leftovers, Trouble>
         ensures { IfErr result (λ trouble. is_file_fault trouble.fault ≡ true) }
     {
-        let new_text = look_for(rt, &paths.new_text, Subject::NewText)?;
-        let new_journal = look_for(rt, &paths.new_journal, Subject::NewJournal)?;
+        let new_text = look_for(rt, &paths.new_text)?;
+        let new_journal = look_for(rt, &paths.new_journal)?;
         check_new_files(rt, paths, &new_text, &new_journal)?;
         Ok(Leftovers {
             new_text: new_text.as_ref().map(Found::of),
@@ -106,7 +106,7 @@ fn check_new_text<R: SystemFiles>(
     ensures { IfErr result (λ trouble. is_file_fault trouble.fault ≡ true) }
 {
     match new_text {
-        Some(found) => match refusal(rt, found, text, paths.text_folder()) {
+        Some(found) => match refusal(rt, paths, found, text) {
             None => Ok(()),
             Some(reason) => Err(Trouble::unread(Subject::NewText, reason)),
         },
@@ -128,7 +128,7 @@ fn check_new_journal<R: SystemFiles>(
     let Some(found) = new_journal else {
         return Ok(());
     };
-    match refusal(rt, found, text, paths.journal_folder()) {
+    match refusal(rt, paths, found, text) {
         None => Ok(()),
         Some(Reason::OfAnotherUser)
             if is_to_be_removed && is_of_journal_owner(rt, paths, text, found) => { Ok(()) }
@@ -145,27 +145,27 @@ fn is_of_journal_owner<R: SystemFiles>(
 ) -> bool {
     match fs::symlink_metadata(rt, &paths.journal) {
         Ok(journal) => {
-            refusal(rt, &journal, text, paths.journal_folder()).is_none()
+            refusal(rt, paths, &journal, text).is_none()
                 && Access::of(found).has_owner_of(&Access::of(&journal))
         }
         Err(_) => false,
     }
 }
 
-/// Returns why what was found in a folder may not be taken for a journal or a new file; none if it
-/// may: it is a regular file, and nobody can have put it there who may not write the text.
+/// Returns why what was found may not be taken for a journal or a new file; none if it may: it is a
+/// regular file, and nobody can have written it who may not write the text.
 pub fn refusal<R: SystemFiles>(
     rt: &R,
+    paths: &FilePaths,
     found: &Metadata,
     text: &Access,
-    folder: &Folder,
 ) -> Option<Reason>
     ensures { is_none result ≡ true → IsFile (file_type found.now) }
 {
     if !found.is_file() {
         return Some(Reason::NotRegular);
     }
-    if is_trusted(&Access::of(found), text, folder.access(), caller(rt)) {
+    if is_trusted(&Access::of(found), text, paths.shared_access(), caller(rt)) {
         None
     } else {
         Some(Reason::OfAnotherUser)
@@ -206,16 +206,13 @@ fn is_of_found(file: &File, found: Found) -> bool {
 /// # Errors
 ///
 /// `Read` if the system does not say it.
-pub fn look_for<R: SystemFiles>(
-    rt: &R,
-    path: &str,
-    subject: Subject,
-) -> Result<Option<Metadata>, Trouble>
+pub fn look_for<R: SystemFiles>(rt: &R, path: &str) -> Result<Option<Metadata>, Trouble>
     ensures { IfErr result (λ trouble. is_file_fault trouble.fault ≡ true) }
 {
     match fs::symlink_metadata(rt, path) {
         Ok(found) => Ok(Some(found)),
         Err(error) if is_not_found(&error) => Ok(None),
-        Err(error) => Err(Trouble::unread_after(subject, &error)),
+        // its folder may not be searched, as for the file
+        Err(error) => Err(Trouble::unread_after(Subject::File, &error)),
     }
 }

@@ -204,6 +204,9 @@ fn create_journal<R: SystemFiles>(
     paths: &FilePaths,
     seen: Snapshot,
 ) -> Result<File, Trouble> {
+    if !paths.journal_folder().is_open() {
+        return Err(Trouble::from(write_fault(SessionPart::Journal, 0)));
+    }
     let mut options = OpenOptions::new();
     options.write(true).create_new(true).mode(PRIVATE);
     match options.open(rt, &paths.journal) {

@@ -115,14 +115,14 @@ fn find_journal<R: SystemFiles>(
 ) -> Result<Option<File>, Trouble>
     ensures { IfErr result (λ trouble. is_file_fault trouble.fault ≡ true) }
 {
-    let Some(found) = look_for(rt, &paths.journal, Subject::Journal)? else {
+    let Some(found) = look_for(rt, &paths.journal)? else {
         return Ok(None);
     };
     let text = match text.metadata() {
         Ok(text) => Access::of(&text),
         Err(error) => return Err(Trouble::unread_after(Subject::File, &error)),
     };
-    if let Some(reason) = refusal(rt, &found, &text, paths.journal_folder()) {
+    if let Some(reason) = refusal(rt, paths, &found, &text) {
         return Err(Trouble::unread(Subject::Journal, reason));
     }
     let journal = open_found(rt, &paths.journal, Found::of(&found), Subject::Journal)?;

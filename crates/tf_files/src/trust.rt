@@ -4,7 +4,8 @@
 ghost use Rattle.std.specs.Prelude.{◌≡◌, ◌==◌};
 ghost use Rattle.std.specs.Fs.{metadata_mode};
 ghost use Rattle.tf_files.specs.Trust.{is_of, may_group_write, may_others_write, may_only_group_create};
-ghost use Rattle.tf_files.specs.Trust.{is_of_team, is_of_team_in, is_trusted};
+ghost use Rattle.tf_files.specs.Trust.{is_of_team, is_of_team_in, is_of_owner, is_written_alike, is_closed};
+ghost use Rattle.tf_files.specs.Trust.{is_trusted};
 
 use crate::folder::SystemFiles;
 use std::fs::{self, Metadata};
@@ -73,14 +74,45 @@ impl Access {
 }
 
 /// Returns whether a file beside the text may be taken for a journal or a new file of it, if the
-/// caller is this user: nobody can have made it who may not write the text.
+/// caller is this user: nobody can have written it who may not write the text.
 pub fn is_trusted(file: &Access, text: &Access, folder: Option<Access>, caller: Option<u32>) -> bool
     ensures { result ≡ is_trusted file.now text.now folder caller }
 {
-    file.is_of(caller)
-        || file.has_owner_of(text)
-        || text.may_others_write()
+    text.may_others_write()
         || is_of_team_in(file, text, folder)
+        || is_of_owner(file, text, folder, caller)
+}
+
+/// Returns whether a file belongs to the caller or to the text's owner, and nobody else can have
+/// written it: such a file can be linked or moved here by others.
+fn is_of_owner(file: &Access, text: &Access, folder: Option<Access>, caller: Option<u32>) -> bool
+    ensures { result ≡ is_of_owner file.now text.now folder caller }
+{
+    let is_own = file.is_of(caller) || file.has_owner_of(text);
+    is_own && (is_written_alike(file, text) || is_closed(text, folder, caller))
+}
+
+/// Returns whether those who may write a file may write the text, apart from its owner.
+fn is_written_alike(file: &Access, text: &Access) -> bool
+    ensures { result ≡ is_written_alike file.now text.now }
+{
+    !file.may_others_write()
+        && (!file.may_group_write() || file.group == text.group && text.may_group_write())
+}
+
+/// Returns whether only the caller or the text's owner may create files in a folder of which this is
+/// known.
+fn is_closed(text: &Access, folder: Option<Access>, caller: Option<u32>) -> bool
+    ensures { result ≡ is_closed text.now folder caller }
+{
+    match folder {
+        Some(folder) => {
+            !folder.may_others_write()
+                && !folder.may_group_write()
+                && (folder.is_of(caller) || folder.has_owner_of(text))
+        }
+        None => false,
+    }
 }
 
 /// Returns whether a file is one of the group that may write the text, in a folder of which this is
@@ -95,11 +127,12 @@ fn is_of_team_in(file: &Access, text: &Access, folder: Option<Access>) -> bool
 }
 
 /// Returns whether a file is one of the group that may write the text, and nobody else can have
-/// made it in this folder.
+/// made it in this folder, or written it.
 fn is_of_team(file: &Access, text: &Access, folder: &Access) -> bool
     ensures { result ≡ is_of_team file.now text.now folder.now }
 {
-    file.group == text.group && text.may_group_write() && may_only_group_create(folder, text.group)
+    let is_of_group = file.group == text.group && text.may_group_write();
+    is_of_group && !file.may_others_write() && may_only_group_create(folder, text.group)
 }
 
 /// Returns whether, besides its owner, only members of this group may create files in a folder.

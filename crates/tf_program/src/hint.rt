@@ -63,8 +63,8 @@ impl fmt::Display for Hint {
             ),
             Hint::ChangedBetween { left, found } => write!(
                 f,
-                "a command left {left} bytes, and the next one found {found}: undo the later \
-                 commands first, or delete the journal",
+                "the file was changed by hand between two commands, from {left} to {found} bytes: \
+                 undo the later ones and that change first, or delete the journal",
             ),
             Hint::ChangedSomewhere => f.write_str(
                 "the file was changed by hand since a command: undo that change, or delete the \
@@ -74,7 +74,9 @@ impl fmt::Display for Hint {
                 "the file was changed where the command had changed it: undo that change, or \
                  delete the journal",
             ),
-            Hint::NoCommand => f.write_str("tfk revert --list FILE prints what can be reverted"),
+            Hint::NoCommand => f.write_str(
+                "no such command: tfk revert --list FILE prints those that there are",
+            ),
             Hint::Blocked { number } => write!(f, "undo command {number} first"),
             Hint::NotDecoded => {
                 f.write_str("the journal is damaged, or not tfk's: restore it, or delete it")
