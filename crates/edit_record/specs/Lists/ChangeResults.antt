@@ -1,5 +1,6 @@
 -- What applying and undoing edits returns for a text, in terms of pieces.
-use Rattle.std.specs.Prelude.{◌≡◌, ℕ, ◌+◌, ◌<◌, List, length, take, ⊤, Result, Ok, Err}
+use Rattle.std.specs.Prelude.{◌≡◌, ℕ, ◌+◌, ◌<◌, List, ◌++◌, length, take, ⊤, Result, Ok, Err, codes}
+use Rattle.std.specs.Fmt.{decimal}
 use Rattle.std.specs.Global.{Vec}
 use Rattle.edit_record.specs.declared.lists.change.Refused.{Refused}
 use Rattle.edit_record.specs.declared.lists.change.Refused.TheVariants.{Length, Differs, Memory}
@@ -72,3 +73,11 @@ AgreesWith (Ok v) answer = answer ≡ Ok v.items
 AgreesWith (Err Memory) answer = ⊤
 AgreesWith (Err (Length m n)) answer = answer ≡ Err (Length m n)
 AgreesWith (Err (Differs m n)) answer = answer ≡ Err (Differs m n)
+
+-- what is written of a refusal
+abbrev pub refused_message : Refused → List ℕ
+refused_message (Length expected found) =
+    codes "record expects " ++ (decimal expected ++ (codes " bytes, found " ++ decimal found))
+refused_message (Differs step edit) =
+    codes "record does not stand, step " ++ (decimal step ++ (codes " edit " ++ decimal edit))
+refused_message Memory = codes "out of memory"

@@ -6,22 +6,42 @@ ghost use Rattle.edit_record.specs.declared.lists.change.Refused.{Refused};
 ghost use Rattle.edit_record.specs.Lists.ChangeResults.{AgreesWith};
 
 use std::alloc::{AllocError, AllocFailed, Global};
-use thiserror::Error;
+use std::error::Error;
+use std::fmt;
 
 /// Why a change was not applied or undone.
-#[derive(Clone, Copy, Debug, PartialEq, Eq, Error)]
+#[derive(Clone, Copy, Debug, PartialEq, Eq)]
 pub enum Refused {
     /// The text has another length than the change requires, in bytes.
-    #[error("record expects {expected} bytes, found {found}")]
     Length { expected: usize, found: usize },
     /// The text does not have the bytes that an edit expects. `edit` is the first such edit; steps
     /// and edits are numbered from 0.
-    #[error("record does not stand, step {step} edit {edit}")]
     Differs { step: usize, edit: usize },
     /// Memory for the other text ran out.
-    #[error("out of memory")]
     Memory,
 }
+
+// By hand, since a derived one does not state the message.
+impl fmt::Display for Refused {
+    ghost use Rattle.std.specs.Prelude.{Some};
+    ghost use Rattle.edit_record.specs.Lists.ChangeResults.{refused_message};
+
+    ghost output = { λ refused. Some (refused_message refused) };
+
+    fn fmt<W: fmt::Write>(&self, f: &mut fmt::Formatter<W>) -> fmt::Result {
+        match self {
+            Refused::Length { expected, found } => {
+                write!(f, "record expects {expected} bytes, found {found}")
+            }
+            Refused::Differs { step, edit } => {
+                write!(f, "record does not stand, step {step} edit {edit}")
+            }
+            Refused::Memory => f.write_str("out of memory"),
+        }
+    }
+}
+
+impl Error for Refused {}
 
 impl From<AllocError> for Refused {
     ghost from_gives = { λ _ e. e ≡ Memory };
