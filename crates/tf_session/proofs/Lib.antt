@@ -15,6 +15,7 @@ pub mod TakeLaws
 pub mod OneMachine
 pub mod TakeIsUnique
 pub mod AnyTake
+pub mod LastTake
 pub mod LayersLaws
 pub mod ReadTexts
 pub mod RevertRestores

@@ -13,13 +13,14 @@ use Rattle.edit_record.specs.declared.swaps.reorder.MoveFault.TheVariants.{Lengt
 use Rattle.edit_record.specs.Swaps.Swap.{IsItem}
 use Rattle.edit_record.specs.Swaps.MoveToEnd.{IsMovedToEnd}
 use Rattle.edit_record.specs.Swaps.MoveToEndResult.{IsMoveToEndResult}
+use Rattle.tf_session.specs.declared.command.Fault.{Fault}
 use Rattle.tf_session.specs.Faults.{fault_of_refused}
 use Rattle.tf_lint.specs.Steps.{texts_differ}
 use Rattle.tf_session.specs.Machine.{done}
 use Rattle.tf_session.specs.NthItem.{Nth}
-use Rattle.tf_session.specs.RemovingRecord.{RemovesRecord, RefusesTake, fault_of_move, counted_records}
+use Rattle.tf_session.specs.RemovingRecord.{RemovesRecord, RefusesTake, TakeMayAllocate, fault_of_move, counted_records}
 use Rattle.tf_session.specs.RemovingRecord.RefusesTake.{not_undone, lengths_differ, blocked, too_long, memory}
-use Rattle.tf_session.specs.Session.{with_records}
+use Rattle.tf_session.specs.Session.{SessionContents, with_records}
 
 -- what undoing edits answers, by the laws of edits
 abbrev pub Undoes : EditList → Type 0
@@ -97,3 +98,7 @@ short n rs a (Blocked k) le h =
     omega (arith, l, m, s, d, le)
 short n rs a TooLong le h = omega (arith, le)
 short n rs a Memory le h = omega (arith, le)
+
+-- memory runs out only where it is allocated
+pub may_allocate : (n : ℕ) (contents : SessionContents) → RefusesTake n contents Fault.Memory → TakeMayAllocate n contents
+may_allocate n contents (memory may) = may

@@ -1,7 +1,7 @@
 -- A take: reverting one record of any journal out of order, from outside too. What it means to
 -- remove one record from among others is this project's own, and is defined here and in swaps of
 -- edit_record.
-use Rattle.std.specs.Prelude.{◌≡◌, ◌+◌, ◌<◌, ◌⊎◌, ℕ, List, ◌++◌, length, Err}
+use Rattle.std.specs.Prelude.{◌≡◌, ◌≢◌, ◌+◌, ◌<◌, ◌⊎◌, ℕ, List, ◌++◌, length, Err, Option, Some, None}
 use Rattle.edit_record.specs.Lists.Pieces.{EditList, Transforms}
 use Rattle.edit_record.specs.Lists.ChangeResults.{IsChangeResult, HasExpectedLen}
 use Rattle.edit_record.specs.Lists.Journal.{JournalEntry, edits_of, words_of}
@@ -86,6 +86,12 @@ pub data RefusesTake (n : ℕ) (contents : SessionContents) : Fault → Type 0 w
   not_undone : {refused : Refused} → UndoFails n contents refused
       → RefusesTake n contents (Fault.Refused refused)
   memory : TakeMayAllocate n contents → RefusesTake n contents Fault.Memory
+
+-- why record n can't be removed now, or nothing if it can; memory aside
+abbrev pub IsTakeRefusal : ℕ → SessionContents → Option Fault → Type 0
+IsTakeRefusal n contents None =
+    (d : Done) × (new : SessionContents) × RemovesRecord n contents d new
+IsTakeRefusal n contents (Some fault) = RefusesTake n contents fault × (fault ≢ Fault.Memory)
 
 -- what `move_to_end` returns of the records after record n, of which it counts the first as 0
 abbrev pub fault_of_move : ℕ → MoveFault → Fault

@@ -1,5 +1,5 @@
 -- Laws of the machine with take, over lists of commands; and of a take over any text and journal.
-use Rattle.std.specs.Prelude.{◌≡◌, ◌+◌, ◌⊎◌, ℕ, List, ◌∷◌, length, replicate, Result}
+use Rattle.std.specs.Prelude.{◌≡◌, ◌↔◌, ◌+◌, ◌⊎◌, ℕ, List, ◌∷◌, length, replicate, Result}
 use Rattle.edit_record.specs.Lists.Pieces.{EditList, Transforms}
 use Rattle.edit_record.specs.Lists.Journal.{edits_of}
 use Rattle.tf_session.specs.declared.command.Command.{Command}
@@ -10,6 +10,7 @@ use Rattle.tf_session.specs.declared.command.Fault.TheVariants.{Memory}
 use Rattle.tf_session.specs.JournalLaws.{SquashToOne}
 use Rattle.tf_session.specs.ResultIsUnique.{AreSameUpToParseFault}
 use Rattle.tf_session.specs.RunLaws.{completed_commands, completed_replies}
+use Rattle.tf_session.specs.Records.{RevertsLast, RefusesRevert}
 use Rattle.tf_session.specs.RemovingRecord.{RemovesRecord, RefusesTake}
 use Rattle.tf_session.specs.Session.{SessionContents}
 use Rattle.tf_session.specs.Runs.{RunBy}
@@ -85,3 +86,10 @@ pub record TakeResultIsUniqueOverRecords (n : ℕ) (old : SessionContents) : Typ
       → RefusesTake n old fault → fault ≡ Memory
   pub one_reason : (fault other : Fault) → RefusesTake n old fault
       → RefusesTake n old other → (fault ≡ other) ⊎ (fault ≡ Memory) ⊎ (other ≡ Memory)
+
+-- A take of the last record is a revert: it leaves the same, and is refused for the same reasons.
+pub record LastTakeIsRevert (old : SessionContents) : Type 0 where
+  pub leaves : (d : Done) (new : SessionContents)
+      → RemovesRecord (length old.records) old d new ↔ RevertsLast old d new
+  pub refuses : (fault : Fault)
+      → RefusesTake (length old.records) old fault ↔ RefusesRevert old fault

@@ -3,14 +3,15 @@
 ghost use Rattle.std.specs.Prelude.{◌≡◌, ◌<◌, ◌+◌, ◌^◌};
 ghost use Rattle.tf_session.specs.RemovingRecord.{fault_of_move, counted_records};
 
+use crate::fault::RunFault;
 use edit_record::lists::Refused;
 use edit_record::swaps::MoveFault;
 use hcl_layout::LayoutFault;
-use hcl_scan::{MAX_TEXT, ScanFault};
+use hcl_scan::ScanFault;
 use hcl_tree::ParseFault;
+use std::error::Error;
 use std::fmt;
 use tf_lint::{FixFault, LintFault, Rule, RuleSet};
-use thiserror::Error;
 
 /// A command of a session.
 #[derive(Clone, Copy, Debug, PartialEq, Eq)]
@@ -38,34 +39,38 @@ pub struct Done {
 }
 
 /// Why a command was refused.
-#[derive(Clone, Copy, PartialEq, Eq, Error)]
+#[derive(Clone, Copy, PartialEq, Eq)]
 pub enum Fault {
     /// The text has no tokens: it is too long, not UTF-8, or breaks a rule of the scanner.
-    #[error(transparent)]
     Scan(ScanFault),
     /// The tokens do not follow the grammar, or more than `MAX_NESTING` constructs are nested.
-    #[error(transparent)]
     Parse(ParseFault),
     /// What the fix of the rule makes of the text does not parse.
-    #[error("fix of {} does not parse", .rule.name())]
     FixBroken { rule: Rule },
     /// The new text would have more than `MAX_TEXT` bytes.
-    #[error("the text has more than {} bytes", MAX_TEXT)]
     TooLong,
     /// There is no command to revert.
-    #[error("nothing to revert")]
     NoRecord,
     /// The text does not have what the record added, or two records do not follow each other.
-    #[error(transparent)]
     Refused(Refused),
     /// Memory ran out.
-    #[error("out of memory")]
     Memory,
     /// What the command did overlaps or touches what the command of this record did, the oldest
     /// being 1.
-    #[error("blocked by command {number}")]
     Blocked { number: usize },
 }
+
+impl fmt::Display for Fault {
+    ghost use Rattle.tf_session.specs.Faults.{message_of, run_fault_of};
+
+    ghost output = { λ fault. message_of (run_fault_of fault) };
+
+    fn fmt<W: fmt::Write>(&self, f: &mut fmt::Formatter<W>) -> fmt::Result {
+        fmt::Display::fmt(&RunFault::from(*self), f)
+    }
+}
+
+impl Error for Fault {}
 
 // The message says all: a form of its own would only be more to prove.
 impl fmt::Debug for Fault {

@@ -8,10 +8,10 @@ use edit_record::lists::Refused;
 use hcl_scan::{MAX_TEXT, ScanFault};
 use hcl_tree::ParseFault;
 use std::alloc::{AllocError, AllocFailed};
+use std::error::Error;
 use std::fmt;
 use tf_lint::Rule;
 use tf_stream::ReadFault;
-use thiserror::Error;
 
 /// What a writer was given.
 #[derive(Clone, Copy, Debug, PartialEq, Eq)]
@@ -23,46 +23,63 @@ pub enum SessionPart {
 }
 
 /// Why a call over readers and writers was refused.
-#[derive(Clone, Copy, PartialEq, Eq, Error)]
+#[derive(Clone, Copy, PartialEq, Eq)]
 pub enum RunFault {
     /// The text has no tokens: it is too long, not UTF-8, or breaks a rule of the scanner.
-    #[error(transparent)]
     Scan(ScanFault),
     /// The tokens do not follow the grammar, or more than `MAX_NESTING` constructs are nested.
-    #[error(transparent)]
     Parse(ParseFault),
     /// What the fix of the rule makes of the text does not parse.
-    #[error("fix of {} does not parse", .rule.name())]
     FixBroken { rule: Rule },
     /// The new text would have more than `MAX_TEXT` bytes.
-    #[error("the text has more than {} bytes", MAX_TEXT)]
     TooLong,
     /// There is no command to revert.
-    #[error("nothing to revert")]
     NoRecord,
     /// The text does not have what the record added, or two records do not follow each other.
-    #[error(transparent)]
     Refused(Refused),
     /// Memory ran out.
-    #[error("out of memory")]
     Memory,
     /// What the command did overlaps or touches what the command of this record did, the oldest
     /// being 1.
-    #[error("blocked by command {number}")]
     Blocked { number: usize },
     /// A read failed, whatever its error.
-    #[error("cannot read")]
     Read,
     /// A write or a flush failed, or a write took nothing, after `sent` bytes of the part went out.
-    #[error("cannot write, {sent} bytes sent")]
     Write { part: SessionPart, sent: usize },
     /// The reader has more bytes than the limit allows.
-    #[error("text or journal is too long")]
     Endless,
     /// What was read for a journal is the text of none.
-    #[error("journal: {0}")]
     BadJournal(RecordFault),
 }
+
+// By hand, since a derived one does not state the message.
+impl fmt::Display for RunFault {
+    ghost use Rattle.tf_session.specs.Faults.{message_of};
+
+    ghost output = { message_of };
+
+    fn fmt<W: fmt::Write>(&self, f: &mut fmt::Formatter<W>) -> fmt::Result {
+        match self {
+            RunFault::Scan(fault) => fmt::Display::fmt(fault, f),
+            RunFault::Parse(fault) => fmt::Display::fmt(fault, f),
+            RunFault::FixBroken { rule } => {
+                let name = rule.name();
+                write!(f, "fix of {name} does not parse")
+            }
+            RunFault::TooLong => write!(f, "the text has more than {MAX_TEXT} bytes"),
+            RunFault::NoRecord => f.write_str("nothing to revert"),
+            RunFault::Refused(refused) => fmt::Display::fmt(refused, f),
+            RunFault::Memory => f.write_str("out of memory"),
+            RunFault::Blocked { number } => write!(f, "blocked by command {number}"),
+            RunFault::Read => f.write_str("cannot read"),
+            RunFault::Write { part: _, sent } => write!(f, "cannot write, {sent} bytes sent"),
+            RunFault::Endless => f.write_str("text or journal is too long"),
+            RunFault::BadJournal(fault) => write!(f, "journal: {fault}"),
+        }
+    }
+}
+
+impl Error for RunFault {}
 
 // The message says all: a form of its own would only be more to prove.
 impl fmt::Debug for RunFault {

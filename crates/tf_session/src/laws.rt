@@ -10,7 +10,7 @@ ghost use Rattle.tf_session.specs.TakeLaws.{CommandResultIsUniqueOverLayers, Tak
 ghost use Rattle.tf_session.specs.TakeLaws.{TakePreservesHistory, RevertsRestoreTheFirstAfterTakes};
 ghost use Rattle.tf_session.specs.TakeLaws.{OutOfMemoryChangesNothingOverLayers};
 ghost use Rattle.tf_session.specs.TakeLaws.{JournalSquashesToOneAfterTakes};
-ghost use Rattle.tf_session.specs.TakeLaws.{TakeResultIsUniqueOverRecords};
+ghost use Rattle.tf_session.specs.TakeLaws.{TakeResultIsUniqueOverRecords, LastTakeIsRevert};
 ghost use Rattle.tf_session.specs.MachinesAgree.{MachinesAgreeWithoutTake};
 ghost use Rattle.tf_session.specs.RunLaws.{OutOfMemoryChangesNothing, RevertsPop, RevertsRestoreTheFirst};
 
@@ -106,6 +106,11 @@ pub fn take_result_is_unique_over_records()
     move_to_end_is_unique();
     change_result_is_unique();
 }
+
+/// A take of the last record is a revert, over any text and journal.
+pub fn last_take_is_revert()
+    ensures { (contents : SessionContents) → LastTakeIsRevert contents }
+{}
 
 /// A command over a first text with its layers of edits has at most one reply, but for which
 /// `Parse` error it is, and leaves at most one history.

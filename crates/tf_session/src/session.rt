@@ -11,6 +11,7 @@ ghost use Rattle.tf_lint.specs.FixResult.{changed_text, changed_edits};
 ghost use Rattle.tf_session.specs.Session.{contents_of, text_of, records_of};
 ghost use Rattle.tf_session.specs.Records.{DoesStep, RefusesStep, AddsRecord, RevertsLast, RefusesRevert};
 ghost use Rattle.tf_session.specs.RemovingRecord.{RemovesRecord, RefusesTake};
+ghost use Rattle.tf_session.specs.RemovingRecord.{IsTakeRefusal, TakeMayAllocate};
 
 use crate::command::{Command, Done, Fault, Reply};
 use crate::fault::RunFault;
@@ -19,7 +20,7 @@ use crate::taking::{TakeResult, without_record};
 use edit_record::decode_owned;
 use edit_record::laws::undo_is_exact;
 use edit_record::lists::{Change as _, Journal, Record, Word};
-use std::alloc::Global;
+use std::alloc::{AllocError, Global};
 use tf_lint::{FixResult, NewText, Remaining, RuleSet, fix_text};
 
 /// A text, and the journal of the commands that changed it.
@@ -227,5 +228,22 @@ impl Session {
             fixed: 0,
             left: 0,
         })
+    }
+
+    /// Returns why `Command::Take` of this number is refused now, or `None` if it is not. Nothing
+    /// changes.
+    ///
+    /// # Errors
+    ///
+    /// Out of memory.
+    pub fn take_refusal(&self, alloc: Global, number: usize) -> Result<Option<Fault>, AllocError>
+        ensures refusal { IfOk result (IsTakeRefusal number (contents_of self.now)) }
+        ensures memory { OnErr result (TakeMayAllocate number (contents_of self.now)) }
+    {
+        match without_record(alloc, &self.text, self.journal.records(), number) {
+            Ok(_) => Ok(None),
+            Err(Fault::Memory) => Err(AllocError),
+            Err(fault) => Ok(Some(fault)),
+        }
     }
 }

@@ -34,6 +34,8 @@ fn refusals(rt: HostRuntime) {
     let mut session = Session::start(bytes_of(&rt, UNFORMATTED), Journal::empty(rt.alloc()));
     let fault = session.step(rt.alloc(), Command::Revert).err();
     assert!(rt; fault == Some(Fault::NoRecord));
+    let refusal = given(&rt, session.take_refusal(rt.alloc(), 1));
+    assert!(rt; refusal == Some(Fault::NoRecord));
 }
 
 /// The first of two commands is undone, and then the other.

@@ -67,6 +67,17 @@ fn step_take(rt: HostRuntime) {
     assert!(rt; are_same_sessions(&session, &right));
 }
 
+/// The removal of a record is only tried.
+#[test]
+fn take_refusal(rt: HostRuntime) {
+    let before = session_of(&rt, APART, APART_JOURNAL);
+    let session = session_of(&rt, APART, APART_JOURNAL);
+    begin(&rt);
+    let answer = session.take_refusal(rt.alloc(), 1);
+    let is_as_before = are_same_sessions(&session, &before);
+    assert!(rt; answered(&rt, answer, AllocError, is_as_before).is_none());
+}
+
 /// What a command does to a file, by its bytes and those of its journal.
 fn invoked(rt: &impl Host, text: &[u8], journal: &[u8], command: Command) -> Effect {
     let mut text = bytes_of(rt, text);
