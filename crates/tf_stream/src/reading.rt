@@ -25,13 +25,14 @@ pub fn read_to_limit<R: Read>(
     limit: usize,
     reader: &mut Told<R>,
 ) -> Result<Vec<u8>, ReadFault>
-    requires limit_fits { limit < 2 ^ 40 }
-    requires not_failed { has_failed reader.old ≡ false }
+    requires { limit < 2 ^ 40 }
     ensures reads_all { IfOk result
         (λ text. ReadsAll limit (source_of R.remaining reader.old reader.new) text.items) }
     ensures fault { IfErr result
         (λ fault. ReadAtFault limit fault (source_of R.remaining reader.old reader.new)) }
-    ensures read { IsErrOf result ReadFault.Read ↔ has_failed reader.new ≡ true }
+    ensures read { has_failed reader.old ≡ false
+        → (IsErrOf result ReadFault.Read ↔ has_failed reader.new ≡ true) }
+    ensures failed { has_failed reader.old ≡ true → has_failed reader.new ≡ true }
 {
     let mut text = Vec::new(alloc);
     let mut chunk = [0u8; CHUNK_LEN];

@@ -15,11 +15,12 @@ use std::io::Write;
 /// A write that fails or takes nothing, with the number of bytes that were sent before it, and a
 /// flush that fails, with all bytes sent. Neither is tried again.
 pub fn write_and_flush<W: Write>(bytes: &[u8], writer: &mut Told<W>) -> Result<(), WriteFault>
-    requires { has_failed writer.old ≡ false }
     ensures ok { OnOk result (WritesBytes (target_of W.contents writer.old writer.new) bytes.now) }
     ensures fault { IfErr result
         (λ fault. WritesPrefix fault.sent (target_of W.contents writer.old writer.new) bytes.now) }
-    ensures failed { is_ok result ≡ false ↔ has_failed writer.new ≡ true }
+    ensures write { has_failed writer.old ≡ false
+        → (is_ok result ≡ false ↔ has_failed writer.new ≡ true) }
+    ensures failed { has_failed writer.old ≡ true → has_failed writer.new ≡ true }
 {
     let mut sent = 0;
     while sent < bytes.len() {
