@@ -47,8 +47,13 @@ pub fn lint_stream<R: Read, W: Write>(
     Ok(count)
 }
 
-/// Returns the lines of the issues of a text, and their number.
-fn issue_lines(
+/// Returns a line for each issue that the rules find in a text, each followed by LF, and their
+/// number.
+///
+/// # Errors
+///
+/// `Scan` or `Parse` if the text does not parse; `Memory`.
+pub fn issue_lines(
     alloc: Global,
     name: &str,
     text: &[u8],

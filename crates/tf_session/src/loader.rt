@@ -23,12 +23,13 @@ pub const MAX_JOURNAL: usize = 268_435_456;
 ///
 /// `Read` if a read fails; `Endless` if it has more than [`MAX_JOURNAL`] bytes; `Memory`.
 pub fn take_journal<R: Read>(alloc: Global, reader: &mut Told<R>) -> Result<Vec<u8>, RunFault>
-    requires { has_failed reader.old ≡ false }
     ensures bytes { IfOk result
         (λ bytes. ReadsAll MAX_JOURNAL (source_of R.remaining reader.old reader.new) bytes.items) }
     ensures fault { IfErr result
         (λ fault. ReadAllFault MAX_JOURNAL fault (source_of R.remaining reader.old reader.new)) }
-    ensures read { IsErrOf result RunFault.Read ↔ has_failed reader.new ≡ true }
+    ensures read { has_failed reader.old ≡ false
+        → (IsErrOf result RunFault.Read ↔ has_failed reader.new ≡ true) }
+    ensures failed { has_failed reader.old ≡ true → has_failed reader.new ≡ true }
 {
     match read_to_limit(alloc, MAX_JOURNAL, reader) {
         Ok(bytes) => Ok(bytes),

@@ -19,12 +19,13 @@ use tf_stream::{Told, read_to_limit, write_and_flush};
 /// `Endless` if there is such a byte; `Read` if a read fails, whatever its error, and it is not
 /// tried again; `Memory`.
 pub fn take_text<R: Read>(alloc: Global, reader: &mut Told<R>) -> Result<Vec<u8>, RunFault>
-    requires { has_failed reader.old ≡ false }
     ensures text { IfOk result
         (λ text. ReadsText (source_of R.remaining reader.old reader.new) text.items) }
     ensures fault { IfErr result
         (λ fault. IsReadStreamFault fault (source_of R.remaining reader.old reader.new)) }
-    ensures read { IsErrOf result RunFault.Read ↔ has_failed reader.new ≡ true }
+    ensures read { has_failed reader.old ≡ false
+        → (IsErrOf result RunFault.Read ↔ has_failed reader.new ≡ true) }
+    ensures failed { has_failed reader.old ≡ true → has_failed reader.new ≡ true }
 {
     match read_to_limit(alloc, MAX_TEXT, reader) {
         Ok(text) => Ok(text),
@@ -39,12 +40,13 @@ pub fn take_text<R: Read>(alloc: Global, reader: &mut Told<R>) -> Result<Vec<u8>
 /// `Write` of the text: with the number of bytes that were sent before a write that fails or takes
 /// nothing, which is not tried again; with all bytes sent if the flush fails.
 pub fn put_text<W: Write>(bytes: &[u8], writer: &mut Told<W>) -> Result<(), RunFault>
-    requires { has_failed writer.old ≡ false }
     ensures text { OnOk result (WritesBytes (target_of W.contents writer.old writer.new) bytes.now) }
     ensures fault { IfErr result
         (λ fault. IsWriteFault SessionPart.Text fault
         (target_of W.contents writer.old writer.new) bytes.now) }
-    ensures failed { is_ok result ≡ false ↔ has_failed writer.new ≡ true }
+    ensures write { has_failed writer.old ≡ false
+        → (is_ok result ≡ false ↔ has_failed writer.new ≡ true) }
+    ensures failed { has_failed writer.old ≡ true → has_failed writer.new ≡ true }
 {
     write_part(SessionPart::Text, bytes, writer)
 }
@@ -55,12 +57,13 @@ pub fn put_text<W: Write>(bytes: &[u8], writer: &mut Told<W>) -> Result<(), RunF
 ///
 /// `Write` of the journal, as [`put_text`] has it of the text.
 pub fn put_journal<W: Write>(bytes: &[u8], writer: &mut Told<W>) -> Result<(), RunFault>
-    requires { has_failed writer.old ≡ false }
     ensures text { OnOk result (WritesBytes (target_of W.contents writer.old writer.new) bytes.now) }
     ensures fault { IfErr result
         (λ fault. IsWriteFault SessionPart.Journal fault
         (target_of W.contents writer.old writer.new) bytes.now) }
-    ensures failed { is_ok result ≡ false ↔ has_failed writer.new ≡ true }
+    ensures write { has_failed writer.old ≡ false
+        → (is_ok result ≡ false ↔ has_failed writer.new ≡ true) }
+    ensures failed { has_failed writer.old ≡ true → has_failed writer.new ≡ true }
 {
     write_part(SessionPart::Journal, bytes, writer)
 }
@@ -71,11 +74,12 @@ fn write_part<W: Write>(
     bytes: &[u8],
     writer: &mut Told<W>,
 ) -> Result<(), RunFault>
-    requires { has_failed writer.old ≡ false }
     ensures text { OnOk result (WritesBytes (target_of W.contents writer.old writer.new) bytes.now) }
     ensures fault { IfErr result
         (λ fault. IsWriteFault part fault (target_of W.contents writer.old writer.new) bytes.now) }
-    ensures failed { is_ok result ≡ false ↔ has_failed writer.new ≡ true }
+    ensures write { has_failed writer.old ≡ false
+        → (is_ok result ≡ false ↔ has_failed writer.new ≡ true) }
+    ensures failed { has_failed writer.old ≡ true → has_failed writer.new ≡ true }
 {
     match write_and_flush(bytes, writer) {
         Ok(()) => Ok(()),
