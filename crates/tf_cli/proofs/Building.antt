@@ -1,11 +1,9 @@
 -- Arguments of clap's, made step by step, and a list of them.
-use Rattle.std.proofs.Common.{◌≡◌, ◌∙◌, ◌<◌, ◌+◌, ◌==◌, ◌&&◌, ◌||◌, ℕ, Bool, true, false, not, List, [], ◌∷◌, ◌++◌, Option, Some, None, Result, Ok, Err, Bor, IfOk, IsSomeAnd, length, take, get_or, if◌then◌else◌, inl, inr, refl, sym, ap, subst, arith}
-use Rattle.std.proofs.lemmas.Bool.Decides.{eqb_tells}
-use Rattle.std.proofs.lemmas.List.{take_more, length_push}
-use Rattle.clap.specs.Adds.{AddsConflicts}
+use Rattle.std.proofs.Common.{◌≡◌, ◌∙◌, ◌<◌, ◌+◌, ◌||◌, ℕ, Bool, true, false, List, [], ◌∷◌, ◌++◌, Option, Some, None, Result, Ok, Err, IfOk, IsSomeAnd, length, take, get_or, if◌then◌else◌, inl, inr, sym, ap, subst}
+use Rattle.std.proofs.lemmas.List.{take_more}
 use Rattle.clap.specs.Built.{AddsArg, AddsInTurn}
 use Rattle.clap.specs.Simple.{App, app_of, with_rule, with_subcommand}
-use Rattle.clap.specs.Walk.{Rule, is_empty, rule_of}
+use Rattle.clap.specs.Walk.{Rule}
 use Rattle.clap.specs.declared.builder.arg.Arg.{Arg}
 use Rattle.clap.specs.declared.builder.command.Command.{Command}
 use Rattle.clap.specs.declared.builder.command.Command.TheViews.{out-Command as fields_of}
@@ -13,7 +11,7 @@ use Rattle.clap.specs.declared.builder.command.Command.TheOpen.{Command-F}
 use Rattle.clap.specs.declared.builder.range.ValueRange.{ValueRange}
 use Rattle.clap.specs.declared.builder.value_parser.ValueParser.{ValueParser}
 use Rattle.tf_cli.specs.Options.{has_flag}
-use Rattle.tf_cli.specs.Parsing.{AddsCommand, AddsFlag, AreArguments, HasChangedRule, HasParser, HasRange, IsArgumentOf, IsCommand, command_app, conflict_in, flag_rule, flag_rules, with_command, with_conflict, with_rules}
+use Rattle.tf_cli.specs.Parsing.{AddsCommand, AddsFlag, AreArguments, HasParser, HasRange, IsArgumentOf, IsCommand, command_app, flag_rule, flag_rules, with_command, with_rules}
 use Rattle.tf_cli.specs.declared.options.Flag.{Flag}
 use Rattle.tf_cli.specs.declared.options.Subcommand.{Subcommand}
 
@@ -36,39 +34,6 @@ pub parsed_by : (argument made : Arg) (parser given : ValueParser) → made ≡ 
 parsed_by argument made parser given same some is =
     same ∙ ap (λ (o : Option ValueParser). record argument { value_parser = o }) (some ∙ ap (λ (q : ValueParser). Some q) is)
 
--- ---- an argument that excludes another one
-
-pushed_not_empty : (xs : List (Bor (List ℕ))) (x : Bor (List ℕ)) → is_empty (xs ++ x ∷ []) ≡ false
-pushed_not_empty xs x = elim (eqb_tells (length (xs ++ x ∷ [])) 0) [
-  | inl same ↦ absurd (omega (arith, same.1, length_push xs x))
-  | inr other ↦ other.0
-]
-
-second_false : (a b c : Bool) → b ≡ false → (a && (b && c)) ≡ false
-second_false true b c is = ap (λ (x : Bool). x && c) is
-second_false false b c is = refl
-
--- the other rules of an argument on another one
-abbrev is_free_but_for_conflicts : Arg → Bool
-is_free_but_for_conflicts a =
-    is_empty a.needs.items && (is_empty a.r_ifs.items && (is_empty a.r_ifs_all.items
-    && (is_empty a.r_unless.items && is_empty a.r_unless_all.items)))
-
-not_free : (argument made : Arg) (id : Bor (List ℕ)) → AddsConflicts argument made (id ∷ [])
-    → rule_of made ≡ record (rule_of argument) { is_free = false }
-not_free argument made id adds =
-    let some : is_empty made.conflicts.items ≡ false = ap (λ (xs : List (Bor (List ℕ))). is_empty xs) adds.1 ∙ pushed_not_empty argument.conflicts.items id in
-    ap rule_of adds.0
-    ∙ ap (λ (free : Bool). record (rule_of argument) { is_free = free })
-    (second_false (not argument.exclusive) (is_empty made.conflicts.items) (is_free_but_for_conflicts argument) some)
-
-pub excluding : (excludes : Bool) (flag other : Flag) (argument made : Arg) (id : Bor (List ℕ)) → conflict_in excludes flag ≡ Some other
-    → AddsConflicts argument made (id ∷ []) → HasChangedRule (with_conflict (conflict_in excludes flag)) argument made
-excluding excludes flag other argument made id is adds = (
-  not_free argument made id adds ∙ ap (λ (conflict : Option Flag). with_conflict conflict (rule_of argument)) (sym is),
-  ap global_of adds.0,
-)
-
 -- ---- a list of arguments
 
 pub argument_pushed : (rules : List Rule) (arguments : List Arg) (rule : Rule) (argument : Arg)
@@ -84,35 +49,35 @@ then_more : (has : Bool) (rule : Rule) (before after more : List Rule) → after
 then_more true rule before after more is = ap (λ (rules : List Rule). rule ∷ rules) is
 then_more false rule before after more is = is
 
-flag_more : (excludes : Bool) (subcommand : Subcommand) (flags : List Flag) (flag : Flag) → has_flag subcommand flag ≡ true
-    → flag_rules excludes subcommand (flags ++ flag ∷ []) ≡ flag_rules excludes subcommand flags ++ flag_rule excludes flag ∷ []
-flag_more excludes subcommand [] flag has = ap (λ (b : Bool). if b then flag_rule excludes flag ∷ [] else []) has
-flag_more excludes subcommand (f ∷ flags) flag has =
-    then_more (has_flag subcommand f) (flag_rule excludes f) (flag_rules excludes subcommand flags) (flag_rules excludes subcommand (flags ++ flag ∷ [])) (flag_rule excludes flag ∷ [])
-    (flag_more excludes subcommand flags flag has)
+flag_more : (subcommand : Subcommand) (flags : List Flag) (flag : Flag) → has_flag subcommand flag ≡ true
+    → flag_rules subcommand (flags ++ flag ∷ []) ≡ flag_rules subcommand flags ++ flag_rule flag ∷ []
+flag_more subcommand [] flag has = ap (λ (b : Bool). if b then flag_rule flag ∷ [] else []) has
+flag_more subcommand (f ∷ flags) flag has =
+    then_more (has_flag subcommand f) (flag_rule f) (flag_rules subcommand flags) (flag_rules subcommand (flags ++ flag ∷ [])) (flag_rule flag ∷ [])
+    (flag_more subcommand flags flag has)
 
-flag_less : (excludes : Bool) (subcommand : Subcommand) (flags : List Flag) (flag : Flag) → has_flag subcommand flag ≡ false
-    → flag_rules excludes subcommand (flags ++ flag ∷ []) ≡ flag_rules excludes subcommand flags
-flag_less excludes subcommand [] flag has = ap (λ (b : Bool). if b then flag_rule excludes flag ∷ [] else []) has
-flag_less excludes subcommand (f ∷ flags) flag has =
-    ap (λ (rules : List Rule). if has_flag subcommand f then flag_rule excludes f ∷ rules else rules) (flag_less excludes subcommand flags flag has)
+flag_less : (subcommand : Subcommand) (flags : List Flag) (flag : Flag) → has_flag subcommand flag ≡ false
+    → flag_rules subcommand (flags ++ flag ∷ []) ≡ flag_rules subcommand flags
+flag_less subcommand [] flag has = ap (λ (b : Bool). if b then flag_rule flag ∷ [] else []) has
+flag_less subcommand (f ∷ flags) flag has =
+    ap (λ (rules : List Rule). if has_flag subcommand f then flag_rule f ∷ rules else rules) (flag_less subcommand flags flag has)
 
-flag_added : (excludes : Bool) (subcommand : Subcommand) (flags : List Flag) (flag : Flag) (old new : List Arg) → AreArguments (flag_rules excludes subcommand flags) old
-    → AddsFlag excludes subcommand flag old new → AreArguments (flag_rules excludes subcommand (flags ++ flag ∷ [])) new
-flag_added excludes subcommand flags flag old new are (inl without) =
-    subst (λ (rules : List Rule). AreArguments rules new) (sym (flag_less excludes subcommand flags flag without.0))
-    (subst (λ (arguments : List Arg). AreArguments (flag_rules excludes subcommand flags) arguments) (sym without.1) are)
-flag_added excludes subcommand flags flag old new are (inr has) =
-    subst (λ (rules : List Rule). AreArguments rules new) (sym (flag_more excludes subcommand flags flag has.0))
-    (subst (λ (arguments : List Arg). AreArguments (flag_rules excludes subcommand flags ++ flag_rule excludes flag ∷ []) arguments) (sym has.3)
-    (argument_pushed (flag_rules excludes subcommand flags) old (flag_rule excludes flag) has.1 are has.2))
+flag_added : (subcommand : Subcommand) (flags : List Flag) (flag : Flag) (old new : List Arg) → AreArguments (flag_rules subcommand flags) old
+    → AddsFlag subcommand flag old new → AreArguments (flag_rules subcommand (flags ++ flag ∷ [])) new
+flag_added subcommand flags flag old new are (inl without) =
+    subst (λ (rules : List Rule). AreArguments rules new) (sym (flag_less subcommand flags flag without.0))
+    (subst (λ (arguments : List Arg). AreArguments (flag_rules subcommand flags) arguments) (sym without.1) are)
+flag_added subcommand flags flag old new are (inr has) =
+    subst (λ (rules : List Rule). AreArguments rules new) (sym (flag_more subcommand flags flag has.0))
+    (subst (λ (arguments : List Arg). AreArguments (flag_rules subcommand flags ++ flag_rule flag ∷ []) arguments) (sym has.3)
+    (argument_pushed (flag_rules subcommand flags) old (flag_rule flag) has.1 are has.2))
 
-pub next_flag : (excludes : Bool) (subcommand : Subcommand) (flags : List Flag) (i : ℕ) (d : Flag) (old new : List Arg) → i < length flags
-    → AreArguments (flag_rules excludes subcommand (take i flags)) old → AddsFlag excludes subcommand (get_or flags i d) old new
-    → AreArguments (flag_rules excludes subcommand (take (i + 1) flags)) new
-next_flag excludes subcommand flags i d old new below are adds =
-    subst (λ (some : List Flag). AreArguments (flag_rules excludes subcommand some) new) (sym (take_more flags i d below))
-    (flag_added excludes subcommand (take i flags) (get_or flags i d) old new are adds)
+pub next_flag : (subcommand : Subcommand) (flags : List Flag) (i : ℕ) (d : Flag) (old new : List Arg) → i < length flags
+    → AreArguments (flag_rules subcommand (take i flags)) old → AddsFlag subcommand (get_or flags i d) old new
+    → AreArguments (flag_rules subcommand (take (i + 1) flags)) new
+next_flag subcommand flags i d old new below are adds =
+    subst (λ (some : List Flag). AreArguments (flag_rules subcommand some) new) (sym (take_more flags i d below))
+    (flag_added subcommand (take i flags) (get_or flags i d) old new are adds)
 
 -- ---- a command, and the program
 
@@ -133,10 +98,10 @@ arguments_added (rule ∷ rules) (a ∷ arguments) old new are adds local =
     let rest = arguments_added rules arguments adds.0 new are.1 adds.2 still_local in
     (rest.0 ∙ ap (λ (app : App). with_rules app rules) one, rest.1)
 
-pub command_added : {E : Type 0} (excludes : Bool) (subcommand : Subcommand) (program new : Command) (made : Result Command E) (app : App)
-    → app_of program ≡ app → IfOk made (λ command. IsCommand (command_app excludes subcommand) command) → AddsCommand program made new
-    → app_of new ≡ with_command excludes subcommand app
-command_added excludes subcommand program new (Ok command) app is made added =
+pub command_added : {E : Type 0} (subcommand : Subcommand) (program new : Command) (made : Result Command E) (app : App)
+    → app_of program ≡ app → IfOk made (λ command. IsCommand (command_app subcommand) command) → AddsCommand program made new
+    → app_of new ≡ with_command subcommand app
+command_added subcommand program new (Ok command) app is made added =
     added.shape made.1 ∙ ap (λ (c : App). with_subcommand (app_of program) c.top) made.0
-    ∙ ap (λ (p : App). with_command excludes subcommand p) is
-command_added excludes subcommand program new (Err error) app is made added = absurd added
+    ∙ ap (λ (p : App). with_command subcommand p) is
+command_added subcommand program new (Err error) app is made added = absurd added

@@ -14,11 +14,6 @@ abbrev pub begins_with_fmt : List (List ℕ) → Bool
 begins_with_fmt [] = false
 begins_with_fmt (arg ∷ args) = bytes_eq arg (codes "fmt")
 
--- whether the first of the arguments is revert
-abbrev pub begins_with_revert : List (List ℕ) → Bool
-begins_with_revert [] = false
-begins_with_revert (arg ∷ args) = bytes_eq arg (codes "revert")
-
 -- all arguments, after the name of the program
 abbrev pub all_normalized : List (List ℕ) → List (List ℕ)
 all_normalized args = codes "tfk" ∷ map (normalized (begins_with_fmt args)) args

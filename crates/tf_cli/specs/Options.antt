@@ -1,5 +1,5 @@
 -- The commands and their options, by the names that arguments have for them.
-use Rattle.std.specs.Prelude.{ℕ, Bool, true, false, List, [], ◌∷◌, Option, Some, None, codes}
+use Rattle.std.specs.Prelude.{ℕ, Bool, true, false, List, [], ◌∷◌, codes}
 use Rattle.tf_cli.specs.declared.options.Commands.{Commands}
 use Rattle.tf_cli.specs.declared.options.FileCount.{FileCount}
 use Rattle.tf_cli.specs.declared.options.Flag.{Flag}
@@ -36,15 +36,6 @@ flag_value Flag.DisableRule = FlagValue.Rule
 flag_value Flag.Take = FlagValue.Number
 flag_value Flag.List = FlagValue.Nothing
 flag_value Flag.Locate = FlagValue.Nothing
-
--- the option that it can't be used with
-abbrev pub flag_conflict : Flag → Option Flag
-flag_conflict Flag.Check = None
-flag_conflict Flag.EnableRule = None
-flag_conflict Flag.DisableRule = None
-flag_conflict Flag.Take = None
-flag_conflict Flag.List = Some Flag.Take
-flag_conflict Flag.Locate = None
 
 -- which commands have an option
 abbrev pub flag_commands : Flag → Commands

@@ -1,7 +1,7 @@
 -- The commands and their options as clap has them: the rules by which it reads arguments. How it
 -- reads them by rules, Walk and Simple of clap's specs say.
-use Rattle.std.specs.Prelude.{◌≡◌, ◌⊎◌, ℕ, Bool, true, false, List, [], ◌∷◌, ◌++◌, ⊤, pos, Option}
-use Rattle.std.specs.Prelude.{Some, None, Result, Ok, Err, codes, if◌then◌else◌}
+use Rattle.std.specs.Prelude.{◌≡◌, ◌⊎◌, ℕ, true, false, List, [], ◌∷◌, ◌++◌, ⊤, pos, Some, Result}
+use Rattle.std.specs.Prelude.{Ok, Err, codes, if◌then◌else◌}
 use Rattle.clap.specs.Lexer.{usize_max}
 use Rattle.clap.specs.Walk.{Rule, rule_of}
 use Rattle.clap.specs.Words.{AddsSubcommand}
@@ -13,7 +13,7 @@ use Rattle.clap.specs.declared.builder.command.Command.TheViews.{out-Command as 
 use Rattle.clap.specs.declared.builder.range.ValueRange.{ValueRange}
 use Rattle.clap.specs.declared.builder.value_parser.ValueParser.{ValueParser}
 use Rattle.clap.specs.declared.builder.value_parser.ValueParser.TheVariants as vp
-use Rattle.tf_cli.specs.Options.{file_count_of, flag_name, flag_value, flag_conflict, has_flag}
+use Rattle.tf_cli.specs.Options.{file_count_of, flag_name, flag_value, has_flag}
 use Rattle.tf_cli.specs.Options.{all_flags, subcommand_name}
 use Rattle.tf_cli.specs.declared.options.FileCount.{FileCount}
 use Rattle.tf_cli.specs.declared.options.Flag.{Flag}
@@ -43,20 +43,8 @@ with_flag_value FlagValue.Rule rule =
 with_flag_value FlagValue.Number rule =
     record rule { action = Some Set; value_names = 1; parser = Some number_parser }
 
--- it can't be used with another option; with which, clap's rule does not say
-abbrev pub with_conflict : Option Flag → Rule → Rule
-with_conflict None rule = rule
-with_conflict (Some other) rule = record rule { is_free = false }
-
--- The option that it excludes, if clap is to know of that: only if the first argument is revert,
--- which alone has such options.
-abbrev pub conflict_in : Bool → Flag → Option Flag
-conflict_in excludes flag = if excludes then flag_conflict flag else None
-
-abbrev pub flag_rule : Bool → Flag → Rule
-flag_rule excludes flag =
-    with_conflict (conflict_in excludes flag)
-    (with_flag_value (flag_value flag) (named_rule (flag_name flag)))
+abbrev pub flag_rule : Flag → Rule
+flag_rule flag = with_flag_value (flag_value flag) (named_rule (flag_name flag))
 
 -- ---- FILE
 
@@ -78,16 +66,16 @@ file_rule count = with_file_count count (required_rule (codes "FILE"))
 -- ---- the arguments of a command
 
 -- the options among these that it has
-abbrev pub flag_rules : Bool → Subcommand → List Flag → List Rule
-flag_rules excludes subcommand [] = []
-flag_rules excludes subcommand (flag ∷ flags) =
-    if has_flag subcommand flag then flag_rule excludes flag ∷ flag_rules excludes subcommand flags
-    else flag_rules excludes subcommand flags
+abbrev pub flag_rules : Subcommand → List Flag → List Rule
+flag_rules subcommand [] = []
+flag_rules subcommand (flag ∷ flags) =
+    if has_flag subcommand flag then flag_rule flag ∷ flag_rules subcommand flags
+    else flag_rules subcommand flags
 
 -- its options and FILE
-abbrev pub command_rules : Bool → Subcommand → List Rule
-command_rules excludes subcommand =
-    flag_rules excludes subcommand all_flags ++ file_rule (file_count_of subcommand) ∷ []
+abbrev pub command_rules : Subcommand → List Rule
+command_rules subcommand =
+    flag_rules subcommand all_flags ++ file_rule (file_count_of subcommand) ∷ []
 
 -- ---- how the arguments are made
 
@@ -115,12 +103,11 @@ HasChangedRule change argument made =
     (rule_of made ≡ change (rule_of argument)) × (made.global ≡ argument.global)
 
 -- `new` is the list with the option, if the command has it
-abbrev pub AddsFlag : Bool → Subcommand → Flag → List Arg → List Arg → Type 0
-AddsFlag excludes subcommand flag old new =
+abbrev pub AddsFlag : Subcommand → Flag → List Arg → List Arg → Type 0
+AddsFlag subcommand flag old new =
     ((has_flag subcommand flag ≡ false) × (new ≡ old))
     ⊎ ((has_flag subcommand flag ≡ true)
-    × (argument : Arg) × IsArgumentOf (flag_rule excludes flag) argument
-    × (new ≡ old ++ argument ∷ []))
+    × (argument : Arg) × IsArgumentOf (flag_rule flag) argument × (new ≡ old ++ argument ∷ []))
 
 -- ---- commands
 
@@ -129,9 +116,9 @@ abbrev pub with_rules : App → List Rule → App
 with_rules app [] = app
 with_rules app (rule ∷ rules) = with_rules (with_rule app rule) rules
 
-abbrev pub command_app : Bool → Subcommand → App
-command_app excludes subcommand =
-    with_rules (new_app (subcommand_name subcommand)) (command_rules excludes subcommand)
+abbrev pub command_app : Subcommand → App
+command_app subcommand =
+    with_rules (new_app (subcommand_name subcommand)) (command_rules subcommand)
 
 -- the program has a version, and wants a command
 abbrev pub empty_program : App
@@ -140,16 +127,16 @@ empty_program = record {
   subs = [];
 }
 
-abbrev pub with_command : Bool → Subcommand → App → App
-with_command excludes subcommand app = with_subcommand app (command_app excludes subcommand).top
+abbrev pub with_command : Subcommand → App → App
+with_command subcommand app = with_subcommand app (command_app subcommand).top
 
 -- The program, with its commands: what clap reads arguments by. It adds -h, --help and the command
 -- help, and -V, --version.
-unfoldable pub program_app : Bool → App
-program_app excludes =
-    with_command excludes Subcommand.Revert
-    (with_command excludes Subcommand.Fix
-    (with_command excludes Subcommand.Lint (with_command excludes Subcommand.Fmt empty_program)))
+unfoldable pub program_app : App
+program_app =
+    with_command Subcommand.Revert
+    (with_command Subcommand.Fix
+    (with_command Subcommand.Lint (with_command Subcommand.Fmt empty_program)))
 
 -- ---- how the commands are made
 

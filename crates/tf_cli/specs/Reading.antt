@@ -1,5 +1,5 @@
 -- The task of a list of arguments: as clap reads them by the program's table, and no other way.
-use Rattle.std.specs.Prelude.{◌≡◌, ◌≢◌, ◌⊎◌, ℕ, Bool, false, List, [], Some, None, map, codes, ⊤}
+use Rattle.std.specs.Prelude.{◌≡◌, ◌≢◌, ◌⊎◌, ℕ, List, [], Some, map, ⊤}
 use Rattle.clap.specs.Faults.{fault_of}
 use Rattle.clap.specs.Kinds.{IsAmong}
 use Rattle.clap.specs.Simple.{subcommand_of}
@@ -7,7 +7,7 @@ use Rattle.clap.specs.Walk.{Row}
 use Rattle.clap.specs.declared.error.kind.ErrorKind.{ErrorKind}
 use Rattle.clap.specs.declared.error.kind.ErrorKind.TheVariants.{DisplayHelp, DisplayVersion}
 use Rattle.tf_cli.specs.Parsing.{program_app}
-use Rattle.tf_cli.specs.Tasks.{IsTaskOfName, IsTaskOfNameFault, SaysUsage}
+use Rattle.tf_cli.specs.Tasks.{IsTaskOfName, IsTaskOfNameFault}
 use Rattle.tf_cli.specs.declared.command_line.CommandLine.{CommandLine}
 use Rattle.tf_cli.specs.declared.command_line.Exit.{Exit}
 use Rattle.tf_cli.specs.declared.command_line.Exit.TheVariants.{Help, UsageError, Memory}
@@ -17,24 +17,19 @@ use Rattle.tf_cli.specs.declared.command_line.Task.{Task}
 abbrev pub arguments_of : CommandLine → List (List ℕ)
 arguments_of line = map (λ arg. arg.now) line.args.items
 
--- the first of them is revert, which has options that exclude each other
-abbrev pub excludes_of : CommandLine → Bool
-excludes_of line = line.excludes
-
 -- The arguments name this command, and what clap reads of those after it are these rows: for each
 -- option that is given and for FILE its values, in the order given.
-abbrev pub ReadsCommand : Bool → List (List ℕ) → List ℕ → List Row → Type 0
-ReadsCommand excludes args name rows =
-    subcommand_of (program_app excludes) args ≡ Some (name, rows)
+abbrev pub ReadsCommand : List (List ℕ) → List ℕ → List Row → Type 0
+ReadsCommand args name rows = subcommand_of program_app args ≡ Some (name, rows)
 
--- clap refuses none of the arguments; of revert, this says nothing
-abbrev pub HasNoError : Bool → List (List ℕ) → Type 0
-HasNoError excludes args = excludes ≡ false → fault_of (program_app excludes) args ≡ []
+-- clap finds no error in the arguments
+abbrev pub HasNoError : List (List ℕ) → Type 0
+HasNoError args = fault_of program_app args ≡ []
 
-abbrev pub IsTaskOfArguments : Bool → List (List ℕ) → Task → Type 0
-IsTaskOfArguments excludes args task =
-    (name : List ℕ) × (rows : List Row) × ReadsCommand excludes args name rows
-    × IsTaskOfName name rows task × HasNoError excludes args
+abbrev pub IsTaskOfArguments : List (List ℕ) → Task → Type 0
+IsTaskOfArguments args task =
+    (name : List ℕ) × (rows : List Row) × ReadsCommand args name rows
+    × IsTaskOfName name rows task × HasNoError args
 
 -- The end after an error of this kind: a text for standard output if it is help or the version, else
 -- one for standard error, as clap's `use_stderr` says; or there is no memory for the text.
@@ -44,20 +39,16 @@ IsExitOfKind kind (UsageError text) = (kind ≢ DisplayHelp) × (kind ≢ Displa
 IsExitOfKind kind Memory = ⊤
 
 -- Memory ran out; or clap finds an error in the arguments, and the end is that of its kind. The word
--- help may have either kind, by clap's definitions. Of revert, this says nothing.
-abbrev pub IsRefused : Bool → List (List ℕ) → Exit → Type 0
-IsRefused excludes args exit =
-    excludes ≡ false
-    → (exit ≡ Memory)
-    ⊎ ((kind : ErrorKind) × IsAmong kind (fault_of (program_app excludes) args)
-    × IsExitOfKind kind exit)
+-- help may have either kind, by clap's definitions.
+abbrev pub IsRefused : List (List ℕ) → Exit → Type 0
+IsRefused args exit =
+    (exit ≡ Memory)
+    ⊎ ((kind : ErrorKind) × IsAmong kind (fault_of program_app args) × IsExitOfKind kind exit)
 
--- Why the arguments have no task: clap finds no error in them, but what it reads has none, or they
--- name no command; or clap refuses them.
-abbrev pub IsArgumentsFault : Bool → List (List ℕ) → Exit → Type 0
-IsArgumentsFault excludes args exit =
-    ((name : List ℕ) × (rows : List Row) × ReadsCommand excludes args name rows
-    × IsTaskOfNameFault name rows exit × HasNoError excludes args)
-    ⊎ ((subcommand_of (program_app excludes) args ≡ None)
-    × SaysUsage (codes "tfk: no command\n") exit × HasNoError excludes args)
-    ⊎ IsRefused excludes args exit
+-- Why the arguments have no task: clap finds no error in them, but what it reads has none; or clap
+-- refuses them.
+abbrev pub IsArgumentsFault : List (List ℕ) → Exit → Type 0
+IsArgumentsFault args exit =
+    ((name : List ℕ) × (rows : List Row) × ReadsCommand args name rows
+    × IsTaskOfNameFault name rows exit × HasNoError args)
+    ⊎ IsRefused args exit

@@ -1,6 +1,6 @@
 -- What is to be done, from what clap has read of the arguments: a row for each option and for FILE.
 use Rattle.std.specs.Prelude.{◌≡◌, ◌≤◌, ◌<◌, ◌^◌, ◌⊎◌, ◌||◌, ℕ, Bool, true, false, not, List, []}
-use Rattle.std.specs.Prelude.{Option, Some, None, map, length, codes, string_bytes, unwrap_or}
+use Rattle.std.specs.Prelude.{◌++◌, Option, Some, None, map, length, codes, string_bytes, unwrap_or}
 use Rattle.std.specs.Prelude.{option_map, if◌then◌else◌, ⊤}
 use Rattle.std.specs.Borrow.{Bor}
 use Rattle.std.specs.List.{list_any}
@@ -90,6 +90,26 @@ IsRulesFault rows exit =
 
 -- ---- actions
 
+-- the text is to be said on standard error; or there is no memory for that
+abbrev pub SaysUsage : List ℕ → Exit → Type 0
+SaysUsage text (UsageError said) = string_bytes said ≡ text
+SaysUsage text Memory = ⊤
+SaysUsage text (Help said) = ⊥
+
+-- what is said of --list with --take, in the form of clap's errors
+abbrev pub list_with_take : List ℕ
+list_with_take =
+    codes "error: the argument '--list' cannot be used with '--take <N>'\n\n"
+    ++ (codes "Usage: tfk revert [OPTIONS] <FILE>\n\n"
+    ++ codes "For more information, try '--help'.\n")
+
+-- what revert does: with --list it lists, else it reverts, by the number of --take if it is given;
+-- with both, nothing
+abbrev pub IsRevertAction : Bool → Option ℕ → Action → Type 0
+IsRevertAction false number action = action ≡ Action.Revert number
+IsRevertAction true None action = action ≡ Action.List
+IsRevertAction true (Some number) action = ⊥
+
 -- what a command does, by its options
 abbrev pub IsAction : Subcommand → List Row → Action → Type 0
 IsAction Subcommand.Fmt rows action =
@@ -101,14 +121,16 @@ IsAction Subcommand.Fix rows action =
     (rules : RuleSet) × AreChosenRules rows rules × (action ≡ Action.Fix rules)
 IsAction Subcommand.Revert rows action =
     (given : Bool) × IsGiven rows Flag.List given
-    × (number : Option ℕ) × IsTakenNumber rows number
-    × (action ≡ (if given then Action.List else Action.Revert number))
+    × (number : Option ℕ) × IsTakenNumber rows number × IsRevertAction given number action
 
+-- why there is none: a rule is unknown, or --list is given with --take
 abbrev pub IsActionFault : Subcommand → List Row → Exit → Type 0
 IsActionFault Subcommand.Fmt rows exit = ⊥
 IsActionFault Subcommand.Lint rows exit = IsRulesFault rows exit
 IsActionFault Subcommand.Fix rows exit = IsRulesFault rows exit
-IsActionFault Subcommand.Revert rows exit = ⊥
+IsActionFault Subcommand.Revert rows exit =
+    IsGiven rows Flag.List true
+    × (number : ℕ) × IsTakenNumber rows (Some number) × SaysUsage list_with_take exit
 
 -- ---- tasks
 
@@ -128,12 +150,6 @@ IsTask subcommand rows task =
     × AreFiles rows task.files.items
     × IsAccepted (file_count_of subcommand) task.files.items
     × IsGiven rows Flag.Locate task.locate
-
--- the text is to be said on standard error; or there is no memory for that
-abbrev pub SaysUsage : List ℕ → Exit → Type 0
-SaysUsage text (UsageError said) = string_bytes said ≡ text
-SaysUsage text Memory = ⊤
-SaysUsage text (Help said) = ⊥
 
 -- why there is no task, in this order: no action, memory ran out, or the FILEs are not accepted
 abbrev pub IsTaskFault : Subcommand → List Row → Exit → Type 0

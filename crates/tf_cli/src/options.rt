@@ -4,7 +4,7 @@ ghost use Rattle.std.specs.Prelude.{◌≡◌, ◌≤◌, ◌↔◌, ◌⊎◌, 
 ghost use Rattle.std.specs.List.{list_any};
 ghost use Rattle.tf_cli.specs.Arguments.{is_dash};
 ghost use Rattle.tf_cli.specs.Options.{subcommand_name, file_count_of, flag_name, flag_value};
-ghost use Rattle.tf_cli.specs.Options.{flag_conflict, flag_commands, is_among, has_flag};
+ghost use Rattle.tf_cli.specs.Options.{flag_commands, is_among, has_flag};
 ghost use Rattle.tf_cli.specs.declared.options.FileCount.{FileCount};
 ghost use Rattle.tf_cli.specs.declared.options.Subcommand.{Subcommand};
 
@@ -70,8 +70,6 @@ pub struct FlagInfo {
     pub name: &'static str,
     pub help: &'static str,
     pub value: FlagValue,
-    /// The option that it can't be used with.
-    pub conflict: Option<Flag>,
     pub commands: Commands,
 }
 
@@ -176,7 +174,6 @@ impl Flag {
     pub fn info(self) -> FlagInfo
         ensures name { result.name.now ≡ flag_name self }
         ensures value { result.value ≡ flag_value self }
-        ensures conflict { result.conflict ≡ flag_conflict self }
         ensures commands { result.commands ≡ flag_commands self }
     {
         match self {
@@ -184,42 +181,36 @@ impl Flag {
                 name: "check",
                 help: "Write nothing; print the names of files that are not formatted",
                 value: FlagValue::Nothing,
-                conflict: None,
                 commands: Commands::Fmt,
             },
             Flag::EnableRule => FlagInfo {
                 name: "enable-rule",
                 help: "Enable a rule, or `all`; applied last",
                 value: FlagValue::Rule,
-                conflict: None,
                 commands: Commands::LintAndFix,
             },
             Flag::DisableRule => FlagInfo {
                 name: "disable-rule",
                 help: "Disable a rule, or `all`; applied first",
                 value: FlagValue::Rule,
-                conflict: None,
                 commands: Commands::LintAndFix,
             },
             Flag::Take => FlagInfo {
                 name: "take",
                 help: "Revert command N alone, the oldest being 1",
                 value: FlagValue::Number,
-                conflict: None,
                 commands: Commands::Revert,
             },
             Flag::List => FlagInfo {
                 name: "list",
                 help: "Write nothing; list the recorded commands",
                 value: FlagValue::Nothing,
-                conflict: Some(Flag::Take),
                 commands: Commands::Revert,
             },
             Flag::Locate => FlagInfo {
                 name: "locate",
                 help: "Also print where each error is, and why",
                 value: FlagValue::Nothing,
-                conflict: None,
                 commands: Commands::All,
             },
         }

@@ -1,5 +1,5 @@
 -- The exit status of a run, by its arguments.
-use Rattle.std.specs.Prelude.{◌≡◌, ◌⊎◌, ℕ, Bool, true, false, List}
+use Rattle.std.specs.Prelude.{◌≡◌, ◌⊎◌, ℕ, true, false, List}
 use Rattle.tf_cli.specs.Reading.{IsTaskOfArguments, IsArgumentsFault}
 use Rattle.tf_cli.specs.declared.command_line.Exit.{Exit}
 use Rattle.tf_cli.specs.declared.command_line.Task.{Task}
@@ -24,7 +24,7 @@ IsStatusOfTask task status =
     × IsStatusOfOutcome outcome status
 
 -- the status of the task of these arguments; or they have none, and it is that of the reason
-abbrev pub IsStatusOfArguments : Bool → List (List ℕ) → ℕ → Type 0
-IsStatusOfArguments excludes args status =
-    ((task : Task) × IsTaskOfArguments excludes args task × IsStatusOfTask task status)
-    ⊎ ((exit : Exit) × IsArgumentsFault excludes args exit × IsStatusOf exit status)
+abbrev pub IsStatusOfArguments : List (List ℕ) → ℕ → Type 0
+IsStatusOfArguments args status =
+    ((task : Task) × IsTaskOfArguments args task × IsStatusOfTask task status)
+    ⊎ ((exit : Exit) × IsArgumentsFault args exit × IsStatusOf exit status)

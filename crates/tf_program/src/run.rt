@@ -1,8 +1,8 @@
 //! The work that the arguments ask for.
 
 ghost use Rattle.std.specs.Prelude.{◌≡◌, ◌≤◌, map, string_bytes};
-ghost use Rattle.tf_cli.specs.Arguments.{all_normalized, begins_with_revert};
-ghost use Rattle.tf_cli.specs.Reading.{arguments_of, excludes_of};
+ghost use Rattle.tf_cli.specs.Arguments.{all_normalized};
+ghost use Rattle.tf_cli.specs.Reading.{arguments_of};
 ghost use Rattle.tf_program.specs.Batches.{HasNext, ReportsRest, DoesFile, RunsTask};
 ghost use Rattle.tf_program.specs.Runs.{IsStatusOfArguments};
 ghost use Rattle.tf_program.specs.Work.{IsStatusOf, command_of, file_command};
@@ -28,8 +28,7 @@ pub fn work<R: SystemFiles, I: Read, O: Write, F: Write>(
     output: &mut O,
     faults: &mut F,
 ) -> u8
-    ensures { let args = map string_bytes words.now in
-        IsStatusOfArguments (begins_with_revert args) (all_normalized args) result }
+    ensures { IsStatusOfArguments (all_normalized (map string_bytes words.now)) result }
 {
     match CommandLine::new(alloc, words) {
         Ok(line) => run_command_line(rt, alloc, &line, input, output, faults),
@@ -47,7 +46,7 @@ fn run_command_line<R: SystemFiles, I: Read, O: Write, F: Write>(
     output: &mut O,
     faults: &mut F,
 ) -> u8
-    ensures { IsStatusOfArguments (excludes_of line.now) (arguments_of line.now) result }
+    ensures { IsStatusOfArguments (arguments_of line.now) result }
 {
     match line.task(alloc) {
         Ok(task) => run_task(rt, alloc, &task, input, output, faults).status(),

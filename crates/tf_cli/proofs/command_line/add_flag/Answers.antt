@@ -7,4 +7,4 @@ returns-then-not-is_of c = inl (sym c.is_of.ensures ∙ c.if-not-is_of.true, ref
 
 pub returns : goal.returns
 returns c =
-    inr (sym c.is_of.ensures ∙ c.if-not-is_of.false, c.in_ok-argument.argument, c.in_ok-argument.ensures, search rules)
+    inr (sym c.is_of.ensures ∙ c.if-not-is_of.false, c.option_argument-argument.result, c.option_argument-argument.ensures, search rules)

@@ -11,8 +11,8 @@ pub returns : goal.returns
 returns c =
     let subcommand = c.args.subcommand in
     let flags : c.as_slice.result.now ≡ all_flags = search rules in
-    let options = subst (λ (fs : List Flag). AreArguments (flag_rules c.args.excludes subcommand fs) c.in_ok-all.all.items) flags c.in_ok-all.ensures in
+    let options = subst (λ (fs : List Flag). AreArguments (flag_rules subcommand fs) c.in_ok-all.all.items) flags c.in_ok-all.ensures in
     let pushed : c.push.new.self.items ≡ c.in_ok-all.all.items ++ c.file_argument-file.result ∷ [] = search rules in
-    subst (λ (arguments : List Arg). AreArguments (command_rules c.args.excludes subcommand) arguments) (sym pushed)
-    (argument_pushed (flag_rules c.args.excludes subcommand all_flags) c.in_ok-all.all.items (file_rule (file_count_of subcommand)) c.file_argument-file.result
+    subst (λ (arguments : List Arg). AreArguments (command_rules subcommand) arguments) (sym pushed)
+    (argument_pushed (flag_rules subcommand all_flags) c.in_ok-all.all.items (file_rule (file_count_of subcommand)) c.file_argument-file.result
     options c.file_argument-file.ensures)

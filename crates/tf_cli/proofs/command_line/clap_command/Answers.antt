@@ -7,7 +7,7 @@ use Rattle.tf_cli.proofs.command_line.clap_command.Goals as goal
 
 pub returns : goal.returns
 returns c =
-    let rules = command_rules c.args.excludes c.args.subcommand in
+    let rules = command_rules c.args.subcommand in
     IfOk-weaker c.new_command.result _ _
     (λ command new. subst (λ (name : List ℕ). IsCommand (with_rules (new_app name) rules) command) c.info-info.ensures.name (new rules c.in_ok-arguments.ensures))
     c.new_command.ensures

@@ -4,5 +4,5 @@ use Rattle.tf_cli.proofs.command_line.option_arguments.Goals as goal
 
 pub loop-flag-preserved : goal.loop-flag-preserved
 loop-flag-preserved c =
-    next_flag c.args.excludes c.args.subcommand c.args.flags.now c.loop-flag.flag-index _ c.loop-flag.all.items c.in_ok-extended.extended.items
+    next_flag c.args.subcommand c.args.flags.now c.loop-flag.flag-index _ c.loop-flag.all.items c.in_ok-extended.extended.items
     c.loop-flag-test.true c.loop-flag.invariant c.in_ok-extended.ensures

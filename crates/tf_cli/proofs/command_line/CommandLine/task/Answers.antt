@@ -13,46 +13,43 @@ use Rattle.tf_cli.proofs.command_line.CommandLine.task.Goals as goal
 pub returns-in_err-command-clause-fault : goal.returns-in_err-command-clause-fault
 returns-in_err-command-clause-fault c =
     let answer : c.from_residual.result ≡ Err Memory = search rules in
-    rw answer (inr (inr (λ free. inl refl)))
+    rw answer (inr (inl refl))
 
 pub returns-in-Ok-clause-task : goal.returns-in-Ok-clause-task
 returns-in-Ok-clause-task c =
-    let excludes = c.args.self.now.excludes in
     let program = c.in_ok-command.ensures in
     let args : map (λ (arg : Bor (List ℕ)). arg.now) c.as_slice.result.now ≡ arguments_of c.args.self.now =
     ap (map (λ (arg : Bor (List ℕ)). arg.now)) c.as_slice.ensures.value in
-    let met = c.in-Ok.ensures.matches (ap is_simple program ∙ program_is_simple excludes) in
-    let found : subcommand_rows_of c.in-Ok.matches ≡ subcommand_of (program_app excludes) (arguments_of c.args.self.now) =
+    let met = c.in-Ok.ensures.matches (ap is_simple program ∙ program_is_simple) in
+    let found : subcommand_rows_of c.in-Ok.matches ≡ subcommand_of program_app (arguments_of c.args.self.now) =
     met.1 ∙ ap₂ subcommand_of program args in
-    let no_error : HasNoError excludes (arguments_of c.args.self.now) =
-    (λ free. sym (ap₂ fault_of program args) ∙ c.in-Ok.ensures.kinds (ap is_simple_and_free program ∙ program_is_free excludes free)) in
-    IfOk-weaker c.task_of.result _ _ (λ task is. task_found excludes c.in-Ok.matches (arguments_of c.args.self.now) task found no_error is) c.task_of.ensures.task
+    let no_error : HasNoError (arguments_of c.args.self.now) =
+    sym (ap₂ fault_of program args) ∙ c.in-Ok.ensures.kinds (ap is_simple_and_free program ∙ program_is_free) in
+    IfOk-weaker c.task_of.result _ _ (λ task is. task_found c.in-Ok.matches (arguments_of c.args.self.now) task found no_error is) c.task_of.ensures.task
 
 pub returns-in-Ok-clause-fault : goal.returns-in-Ok-clause-fault
 returns-in-Ok-clause-fault c =
-    let excludes = c.args.self.now.excludes in
     let program = c.in_ok-command.ensures in
     let args : map (λ (arg : Bor (List ℕ)). arg.now) c.as_slice.result.now ≡ arguments_of c.args.self.now =
     ap (map (λ (arg : Bor (List ℕ)). arg.now)) c.as_slice.ensures.value in
-    let met = c.in-Ok.ensures.matches (ap is_simple program ∙ program_is_simple excludes) in
-    let found : subcommand_rows_of c.in-Ok.matches ≡ subcommand_of (program_app excludes) (arguments_of c.args.self.now) =
+    let met = c.in-Ok.ensures.matches (ap is_simple program ∙ program_is_simple) in
+    let found : subcommand_rows_of c.in-Ok.matches ≡ subcommand_of program_app (arguments_of c.args.self.now) =
     met.1 ∙ ap₂ subcommand_of program args in
-    let no_error : HasNoError excludes (arguments_of c.args.self.now) =
-    (λ free. sym (ap₂ fault_of program args) ∙ c.in-Ok.ensures.kinds (ap is_simple_and_free program ∙ program_is_free excludes free)) in
-    IfErr-weaker c.task_of.result _ _ (λ exit is. fault_found excludes c.in-Ok.matches (arguments_of c.args.self.now) exit found no_error is) c.task_of.ensures.fault
+    let no_error : HasNoError (arguments_of c.args.self.now) =
+    sym (ap₂ fault_of program args) ∙ c.in-Ok.ensures.kinds (ap is_simple_and_free program ∙ program_is_free) in
+    IfErr-weaker c.task_of.result _ _ (λ exit is. fault_found c.in-Ok.matches (arguments_of c.args.self.now) exit found no_error is) c.task_of.ensures.fault
 
 pub returns-in-Err-clause-fault : goal.returns-in-Err-clause-fault
 returns-in-Err-clause-fault c =
-    let excludes = c.args.self.now.excludes in
     let program = c.in_ok-command.ensures in
     let args : map (λ (arg : Bor (List ℕ)). arg.now) c.as_slice.result.now ≡ arguments_of c.args.self.now =
     ap (map (λ (arg : Bor (List ℕ)). arg.now)) c.as_slice.ensures.value in
-    inr (inr (λ free.
-    elim (c.in-Err.ensures.kinds (ap is_simple_and_free program ∙ program_is_free excludes free)) [
+    inr (
+    elim (c.in-Err.ensures.kinds (ap is_simple_and_free program ∙ program_is_free)) [
       | inl memory ↦ inl (c.exit_for.ensures.memory memory)
       | inr among ↦ inr (
         kind_of c.in-Err.error,
-        among_same (kind_of c.in-Err.error) _ (fault_of (program_app excludes) (arguments_of c.args.self.now)) among (ap₂ fault_of program args),
+        among_same (kind_of c.in-Err.error) _ (fault_of program_app (arguments_of c.args.self.now)) among (ap₂ fault_of program args),
         c.exit_for.ensures.kind,
       )
-    ]))
+    ])
