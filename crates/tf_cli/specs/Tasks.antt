@@ -151,12 +151,14 @@ IsTask subcommand rows task =
     × IsAccepted (file_count_of subcommand) task.files.items
     × IsGiven rows Flag.Locate task.locate
 
--- why there is no task, in this order: no action, memory ran out, or the FILEs are not accepted
+-- why there is no task: there is no action; memory ran out; or there is one, and the FILEs are not
+-- accepted
 abbrev pub IsTaskFault : Subcommand → List Row → Exit → Type 0
 IsTaskFault subcommand rows exit =
     IsActionFault subcommand rows exit
     ⊎ (exit ≡ Memory)
-    ⊎ ((files : List (Bor (List ℕ))) × AreFiles rows files
+    ⊎ ((action : Action) × IsAction subcommand rows action
+    × (files : List (Bor (List ℕ))) × AreFiles rows files
     × ¬ (IsAccepted (file_count_of subcommand) files)
     × SaysUsage (codes "tfk: - stands alone\n") exit)
 

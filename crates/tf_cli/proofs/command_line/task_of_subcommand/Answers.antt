@@ -28,6 +28,8 @@ returns-clause-task c = (
 pub returns-then-not-accepts-clause-fault : goal.returns-then-not-accepts-clause-fault
 returns-then-not-accepts-clause-fault c =
     inr (inr (
+      c.in_ok-action.action,
+      c.in_ok-action.ensures.action,
       c.in_ok-files.files.items,
       c.in_ok-files.ensures,
       not_accepted (file_count_of c.args.subcommand) c.info.result.file_count c.in_ok-files.files.items c.deref.result.now c.accepts.result
