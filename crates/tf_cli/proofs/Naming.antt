@@ -1,8 +1,8 @@
 -- Names of rules, read one after another.
 use Rattle.std.proofs.Common.{◌≡◌, ◌∙◌, ◌<◌, ◌+◌, ℕ, zero, suc, List, [], ◌∷◌, ◌++◌, length, take, drop, map, get_or, refl, ap, sym, subst, arith}
 use Rattle.std.proofs.lemmas.List.{take_more, map-append}
-use Rattle.tf_cli.specs.declared.command_line.Exit.{Exit}
-use Rattle.tf_cli.specs.declared.command_line.Exit.TheVariants.{Memory}
+use Rattle.tf_cli.specs.declared.exits.Exit.{Exit}
+use Rattle.tf_cli.specs.declared.exits.Exit.TheVariants.{Memory}
 use Rattle.tf_cli.specs.declared.rule_choice.Choice.{Choice}
 use Rattle.tf_cli.specs.Choices.{IsName, AreNames, IsUnknownRule, HasUnknownRule}
 

@@ -15,8 +15,8 @@ use Rattle.clap.specs.declared.parser.matches.ArgMatches.TheViews.{out-ArgMatche
 use Rattle.tf_cli.specs.Parsing.{program_app}
 use Rattle.tf_cli.specs.Reading.{HasNoError, IsArgumentsFault, IsTaskOfArguments}
 use Rattle.tf_cli.specs.Tasks.{HasCommand, IsTaskOf, IsTaskOfFault}
-use Rattle.tf_cli.specs.declared.command_line.Exit.{Exit}
-use Rattle.tf_cli.specs.declared.command_line.Task.{Task}
+use Rattle.tf_cli.specs.declared.exits.Exit.{Exit}
+use Rattle.tf_cli.specs.declared.tasks.Task.{Task}
 
 -- clap says what it reads by a table of this kind, and what it refuses
 pub program_is_simple : is_simple program_app ≡ true

@@ -3,8 +3,8 @@ use Rattle.std.specs.Prelude.{◌≡◌, ◌==◌, ℕ, Bool, true, List, [], �
 use Rattle.std.specs.List.{list_any}
 use Rattle.tf_rules.specs.declared.rule.Rule.{Rule}
 use Rattle.tf_rules.specs.Table.{index_of, name_of}
-use Rattle.tf_cli.specs.declared.command_line.Exit.{Exit}
-use Rattle.tf_cli.specs.declared.command_line.Exit.TheVariants.{Help, UsageError, Memory}
+use Rattle.tf_cli.specs.declared.exits.Exit.{Exit}
+use Rattle.tf_cli.specs.declared.exits.Exit.TheVariants.{Help, UsageError, Memory}
 use Rattle.tf_cli.specs.declared.rule_choice.Choice.{Choice}
 use Rattle.tf_cli.specs.declared.rule_choice.Choice.TheVariants.{All, One}
 

@@ -9,9 +9,9 @@ use Rattle.clap.specs.declared.error.kind.ErrorKind.TheVariants.{DisplayHelp, Di
 use Rattle.tf_cli.specs.Parsing.{program_app}
 use Rattle.tf_cli.specs.Tasks.{IsTaskOfName, IsTaskOfNameFault}
 use Rattle.tf_cli.specs.declared.command_line.CommandLine.{CommandLine}
-use Rattle.tf_cli.specs.declared.command_line.Exit.{Exit}
-use Rattle.tf_cli.specs.declared.command_line.Exit.TheVariants.{Help, UsageError, Memory}
-use Rattle.tf_cli.specs.declared.command_line.Task.{Task}
+use Rattle.tf_cli.specs.declared.exits.Exit.{Exit}
+use Rattle.tf_cli.specs.declared.exits.Exit.TheVariants.{Help, UsageError, Memory}
+use Rattle.tf_cli.specs.declared.tasks.Task.{Task}
 
 -- the arguments as they are read, after the name of the program
 abbrev pub arguments_of : CommandLine → List (List ℕ)

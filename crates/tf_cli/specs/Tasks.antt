@@ -14,9 +14,9 @@ use Rattle.tf_rules.specs.RuleSets.{has_rule}
 use Rattle.tf_cli.specs.Arguments.{is_dash}
 use Rattle.tf_cli.specs.Choices.{is_chosen, AreNames, HasUnknownRule}
 use Rattle.tf_cli.specs.Options.{subcommand_name, file_count_of, flag_name}
-use Rattle.tf_cli.specs.declared.command_line.Exit.{Exit}
-use Rattle.tf_cli.specs.declared.command_line.Exit.TheVariants.{Help, UsageError, Memory}
-use Rattle.tf_cli.specs.declared.command_line.Task.{Task}
+use Rattle.tf_cli.specs.declared.exits.Exit.{Exit}
+use Rattle.tf_cli.specs.declared.exits.Exit.TheVariants.{Help, UsageError, Memory}
+use Rattle.tf_cli.specs.declared.tasks.Task.{Task}
 use Rattle.tf_cli.specs.declared.options.Action.{Action}
 use Rattle.tf_cli.specs.declared.options.FileCount.{FileCount}
 use Rattle.tf_cli.specs.declared.options.Flag.{Flag}

@@ -3,12 +3,17 @@
 #![tactic(auto)]
 
 mod advice;
+mod clap_commands;
 mod command_line;
+mod exits;
 mod help;
 mod options;
 mod outcome;
 mod rule_choice;
+mod tasks;
 
-pub use command_line::{CommandLine, Exit, Task};
+pub use command_line::CommandLine;
+pub use exits::Exit;
 pub use options::Action;
 pub use outcome::{FileOutcome, RunOutcome};
+pub use tasks::Task;

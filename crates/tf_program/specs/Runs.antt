@@ -1,8 +1,8 @@
 -- The exit status of a run, by its arguments.
 use Rattle.std.specs.Prelude.{◌≡◌, ◌⊎◌, ℕ, true, false, List}
 use Rattle.tf_cli.specs.Reading.{IsTaskOfArguments, IsArgumentsFault}
-use Rattle.tf_cli.specs.declared.command_line.Exit.{Exit}
-use Rattle.tf_cli.specs.declared.command_line.Task.{Task}
+use Rattle.tf_cli.specs.declared.exits.Exit.{Exit}
+use Rattle.tf_cli.specs.declared.tasks.Task.{Task}
 use Rattle.tf_cli.specs.declared.outcome.RunOutcome.{RunOutcome}
 use Rattle.tf_program.specs.Batches.{RunsTask}
 use Rattle.tf_program.specs.Work.{IsStatusOf}

@@ -2,7 +2,7 @@
 use Rattle.std.specs.Prelude.{◌≡◌, ◌≤◌, ◌⊎◌, ℕ, Bool, true, false, List, [], ◌++◌, codes, Option, Some, None}
 use Rattle.std.specs.Prelude.{if◌then◌else◌, string_bytes, IfSome}
 use Rattle.tf_cli.specs.Arguments.{is_dash}
-use Rattle.tf_cli.specs.declared.command_line.Exit.{Exit}
+use Rattle.tf_cli.specs.declared.exits.Exit.{Exit}
 use Rattle.tf_cli.specs.declared.options.Action.{Action}
 use Rattle.tf_cli.specs.declared.outcome.FileOutcome.{FileOutcome}
 use Rattle.tf_stream.specs.Streams.{Source, Target, WritesBytes}

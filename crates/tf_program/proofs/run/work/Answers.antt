@@ -1,6 +1,6 @@
 -- The arguments are those that the command line has; or memory ran out for them.
 use Rattle.std.proofs.Common.{ℕ, List, inl, inr, refl, subst}
-use Rattle.tf_cli.specs.declared.command_line.Exit.TheVariants.{Memory}
+use Rattle.tf_cli.specs.declared.exits.Exit.TheVariants.{Memory}
 use Rattle.tf_program.specs.Runs.{IsStatusOfArguments}
 use Rattle.tf_program.proofs.run.work.Goals as goal
 

@@ -6,7 +6,7 @@ use Rattle.clap.specs.Simple.{is_simple, subcommand_of, subcommand_rows_of}
 use Rattle.clap.specs.Values.{kind_of}
 use Rattle.tf_cli.specs.Parsing.{program_app}
 use Rattle.tf_cli.specs.Reading.{HasNoError, arguments_of}
-use Rattle.tf_cli.specs.declared.command_line.Exit.TheVariants.{Memory}
+use Rattle.tf_cli.specs.declared.exits.Exit.TheVariants.{Memory}
 use Rattle.tf_cli.proofs.Reading.{among_same, fault_found, program_is_free, program_is_simple, task_found}
 use Rattle.tf_cli.proofs.command_line.CommandLine.task.Goals as goal
 

@@ -1,0 +1,7 @@
+-- clap makes the range of the number, or of the numbers, that it is given.
+use Rattle.tf_cli.specs.Parsing.{some_values}
+use Rattle.tf_cli.proofs.Building.{ranged}
+use Rattle.tf_cli.proofs.clap_commands.with_values.Goals as goal
+
+pub returns : goal.returns
+returns c = ranged c.args.argument c.num_args.result some_values c.num_args.ensures.0 c.num_args.ensures.1

@@ -1,4 +1,0 @@
-use Rattle.tf_cli.proofs.command_line.fmt_action.Goals as goal
-
-pub returns : goal.returns
-returns c = (c.is_given.result, c.is_given.ensures, c.action_if.ensures)
