@@ -1,6 +1,6 @@
 //! The task of what clap has read of the arguments.
 
-ghost use Rattle.std.specs.Prelude.{◌≡◌, if◌then◌else◌, map, IfOk, IfErr};
+ghost use Rattle.std.specs.Prelude.{◌≡◌, map, IfOk, IfErr};
 ghost use Rattle.tf_cli.specs.Choices.{IsName, AreNames, IsUnknownRule, HasUnknownRule};
 ghost use Rattle.tf_cli.specs.Tasks.{rows_in, values_of, option_values, IsNamesFault};
 ghost use Rattle.tf_cli.specs.Tasks.{AreChosenRules, IsRulesFault, IsGiven, IsTakenNumber};
@@ -131,22 +131,14 @@ fn taken_number(matches: &ArgMatches<'_>) -> Option<u32>
     matches.get_one(Flag::Take.name())
 }
 
-/// Returns `action` if the condition holds, and `other` if not.
-fn action_if(is_so: bool, action: Action, other: Action) -> Action
-    ensures { result ≡ (if is_so then action else other) }
-{
-    if is_so { action } else { other }
-}
-
 /// Returns what `fmt` does: with `--check` it checks files, else it formats them.
 fn fmt_action(matches: &ArgMatches<'_>) -> Action
     ensures { IsAction Subcommand.Fmt (rows_in matches.now) result }
 {
-    action_if(
-        is_given(matches, Flag::Check),
-        Action::Check,
-        Action::Format,
-    )
+    if is_given(matches, Flag::Check) {
+        return Action::Check;
+    }
+    Action::Format
 }
 
 /// Returns what `lint` does: it reports the issues of the rules that the options choose.
