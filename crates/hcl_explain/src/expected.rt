@@ -98,8 +98,19 @@ impl Expected {
     }
 }
 
-/// Returns what was expected after token `last`, which is in this construct, whose tokens begin
-/// with number `from`. `until` is the number of the token that was found.
+/// The part of a construct that is before the token which was found.
+#[derive(Clone, Copy)]
+struct Part {
+    context: Context,
+    sign: Sign,
+    /// Whether a value may end with the last token.
+    has_ended: bool,
+    /// The number of the last token.
+    last: usize,
+}
+
+/// Returns what was expected in this construct, whose tokens begin with number `from`. `until` is
+/// the number of the token that was found.
 pub fn expected_after(
     scanned: &Scanned<'_>,
     context: Context,
@@ -118,9 +129,13 @@ pub fn expected_after(
             if last > 0 && is_kind(scanned, last - 1, Kind::DoubleColon) {
                 return Expected::FunctionCall;
             }
-            let sign = last_sign(scanned, context, from, until);
-            let has_ended = ends_value(scanned, last) && !is_sign(scanned, context, last);
-            expected_in(scanned, context, sign, has_ended, last)
+            let part = Part {
+                context,
+                sign: last_sign(scanned, context, from, until),
+                has_ended: ends_value(scanned, last) && !is_sign(scanned, context, last),
+                last,
+            };
+            expected_in(scanned, part)
         }
         _ => at_start(context),
     }
@@ -145,39 +160,22 @@ fn at_start(context: Context) -> Expected {
     }
 }
 
-/// Returns what was expected after the last token of a construct, where this is its last sign, and
-/// a value may have ended.
-fn expected_in(
-    scanned: &Scanned<'_>,
-    context: Context,
-    sign: Sign,
-    has_ended: bool,
-    last: usize,
-) -> Expected {
-    match context {
-        Context::File | Context::Block | Context::OneLineBlock => {
-            in_body(scanned, context, sign, has_ended, last)
-        }
-        Context::Object => in_object(scanned, sign, has_ended, last),
-        Context::TupleFor | Context::ObjectFor | Context::Directive => {
-            in_for(scanned, context, sign, has_ended, last)
-        }
-        _ => in_values(context, sign, has_ended),
+/// Returns what was expected after this part of a construct.
+fn expected_in(scanned: &Scanned<'_>, part: Part) -> Expected {
+    match part.context {
+        _ if part.has_ended && matches!(part.sign, Sign::Question) => Expected::Else,
+        Context::File | Context::Block | Context::OneLineBlock => in_body(scanned, part),
+        Context::Object => in_object(scanned, part),
+        Context::TupleFor | Context::ObjectFor | Context::Directive => in_for(part),
+        _ => in_values(part),
     }
 }
 
-fn in_body(
-    scanned: &Scanned<'_>,
-    context: Context,
-    sign: Sign,
-    has_ended: bool,
-    last: usize,
-) -> Expected {
-    match sign {
-        Sign::Start | Sign::Newline => in_head(scanned, context, last),
-        Sign::Question if has_ended => Expected::Else,
-        _ if !has_ended => Expected::Value,
-        _ => match context {
+fn in_body(scanned: &Scanned<'_>, part: Part) -> Expected {
+    match part.sign {
+        Sign::Start | Sign::Newline => in_head(scanned, part),
+        _ if !part.has_ended => Expected::Value,
+        _ => match part.context {
             Context::OneLineBlock => Expected::OneLineEnd,
             _ => Expected::ValueEnd,
         },
@@ -185,14 +183,14 @@ fn in_body(
 }
 
 /// Returns what was expected in a line of a body that has no `=` yet.
-fn in_head(scanned: &Scanned<'_>, context: Context, last: usize) -> Expected {
-    match kind_at(scanned, last) {
-        Some(Kind::LineEnd) | Some(Kind::LineComment) | Some(Kind::Mark) => at_start(context),
+fn in_head(scanned: &Scanned<'_>, part: Part) -> Expected {
+    match kind_at(scanned, part.last) {
+        Some(Kind::LineEnd) | Some(Kind::LineComment) | Some(Kind::Mark) => at_start(part.context),
         Some(Kind::CloseBrace) => Expected::BlockEnd,
-        _ => match context {
+        _ => match part.context {
             Context::OneLineBlock => Expected::OneLineEqual,
             _ => {
-                if is_line_start(scanned, last) {
+                if is_line_start(scanned, part.last) {
                     Expected::EqualOrBlock
                 } else {
                     Expected::LabelOrBrace
@@ -202,29 +200,27 @@ fn in_head(scanned: &Scanned<'_>, context: Context, last: usize) -> Expected {
     }
 }
 
-fn in_object(scanned: &Scanned<'_>, sign: Sign, has_ended: bool, last: usize) -> Expected {
-    match sign {
-        Sign::Question if has_ended => Expected::Else,
-        Sign::Start | Sign::Newline | Sign::Comma => match kind_at(scanned, last) {
+fn in_object(scanned: &Scanned<'_>, part: Part) -> Expected {
+    match part.sign {
+        Sign::Start | Sign::Newline | Sign::Comma => match kind_at(scanned, part.last) {
             Some(Kind::LineEnd) | Some(Kind::LineComment) | Some(Kind::Comma) => {
                 Expected::KeyOrBrace
             }
-            _ if has_ended => Expected::KeySign,
+            _ if part.has_ended => Expected::KeySign,
             _ => Expected::Value,
         },
-        _ if has_ended => Expected::ElementEnd,
+        _ if part.has_ended => Expected::ElementEnd,
         _ => Expected::Value,
     }
 }
 
 /// Returns what was expected in brackets of values.
-fn in_values(context: Context, sign: Sign, has_ended: bool) -> Expected {
-    match sign {
-        Sign::Question if has_ended => Expected::Else,
+fn in_values(part: Part) -> Expected {
+    match part.sign {
         Sign::Ellipsis => Expected::Paren,
-        Sign::Comma if !has_ended => at_start(context),
-        _ if !has_ended => Expected::Value,
-        _ => match context {
+        Sign::Comma if !part.has_ended => at_start(part.context),
+        _ if !part.has_ended => Expected::Value,
+        _ => match part.context {
             Context::Tuple => Expected::CommaOrBracket,
             Context::Arguments => Expected::CommaOrParen,
             Context::Index => Expected::Bracket,
@@ -235,31 +231,24 @@ fn in_values(context: Context, sign: Sign, has_ended: bool) -> Expected {
 }
 
 /// Returns what was expected in a `for`, or in a directive.
-fn in_for(
-    scanned: &Scanned<'_>,
-    context: Context,
-    sign: Sign,
-    has_ended: bool,
-    last: usize,
-) -> Expected {
-    match sign {
-        Sign::For if has_ended => Expected::ForComma,
+fn in_for(part: Part) -> Expected {
+    match part.sign {
+        Sign::For if part.has_ended => Expected::ForComma,
         Sign::For => Expected::ForName,
-        Sign::Comma if has_ended => Expected::ForIn,
+        Sign::Comma if part.has_ended => Expected::ForIn,
         Sign::Comma => Expected::ForName,
-        Sign::Question if has_ended => Expected::Else,
         Sign::Ellipsis => Expected::ForBrace,
-        _ if !has_ended => Expected::Value,
-        Sign::If => match context {
+        _ if !part.has_ended => Expected::Value,
+        Sign::If => match part.context {
             Context::TupleFor => Expected::Bracket,
             Context::ObjectFor => Expected::Brace,
             _ => Expected::SequenceEnd,
         },
-        Sign::In => match context {
+        Sign::In => match part.context {
             Context::Directive => Expected::SequenceEnd,
             _ => Expected::ForColon,
         },
-        Sign::Colon => match context {
+        Sign::Colon => match part.context {
             Context::ObjectFor => Expected::ForArrow,
             _ => Expected::ForBracket,
         },

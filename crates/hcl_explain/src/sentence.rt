@@ -191,8 +191,8 @@ fn push_head_token(
     }
 }
 
-/// Returns the number of the first token of the head of the block of this `{`, or of a comment right
-/// before it.
+/// Returns the number of the first token of the head of the block of this `{`, or of a comment
+/// right before it.
 fn head_start(scanned: &Scanned<'_>, open: usize) -> usize {
     for i in (0..open).rev() {
         match kind_at(scanned, i) {
