@@ -1,2 +1,3 @@
 pub mod OpeningsLemmas
 pub mod SaidLemmas
+pub mod SequenceLemmas

@@ -2,3 +2,4 @@ pub mod Explanations
 pub mod Openings
 pub mod Said
 pub mod ScanExplanations
+pub mod Sequences

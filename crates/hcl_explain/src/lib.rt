@@ -17,6 +17,7 @@ mod said;
 mod scan_error;
 mod scan_sentence;
 mod sentence;
+mod sequence;
 mod unclosed;
 
 pub use advice::Advice;

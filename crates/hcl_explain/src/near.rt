@@ -1,7 +1,9 @@
 //! The tokens next to a token.
 
 ghost use Rattle.std.specs.Prelude.{◌≡◌, Some, true};
-ghost use Rattle.hcl_token.specs.TokenizedText.{kind_of};
+ghost use Rattle.hcl_token.specs.TokenizedText.{kind_of, spelling_of};
+ghost use Rattle.hcl_token.specs.declared.kind.Kind.TheVariants.{Star};
+ghost use Rattle.hcl_explain.specs.Sequences as spec;
 
 use hcl_scan::{Kind, Scanned};
 
@@ -27,12 +29,20 @@ pub fn is_kind(scanned: &Scanned<'_>, i: usize, kind: Kind) -> bool
 }
 
 /// Whether token `i` is this word.
-pub fn is_word(scanned: &Scanned<'_>, i: usize, word: &[u8]) -> bool {
-    i < scanned.len() && scanned.kind(i) == Kind::Identifier && scanned.spelling(i) == word
+pub fn is_word(scanned: &Scanned<'_>, i: usize, word: &[u8]) -> bool
+    ensures { result
+        ≡ spec.is_word (kind_of scanned.now.pairs i) (spelling_of scanned.now.pairs i) word.now }
+{
+    match kind_at(scanned, i) {
+        Some(Kind::Identifier) => scanned.spelling(i) == word,
+        _ => false,
+    }
 }
 
 /// Whether token `i` is one of the words of a `for`.
-pub fn is_keyword(scanned: &Scanned<'_>, i: usize) -> bool {
+pub fn is_keyword(scanned: &Scanned<'_>, i: usize) -> bool
+    ensures { result ≡ spec.is_keyword scanned.now.pairs i }
+{
     is_word(scanned, i, b"for") || is_word(scanned, i, b"in") || is_word(scanned, i, b"if")
 }
 
@@ -47,7 +57,9 @@ pub fn ends_line(kind: Kind) -> bool {
 }
 
 /// Whether the grammar drops a token of the kind, where it drops line ends or not.
-fn is_skipped(kind: Kind, lines: bool) -> bool {
+fn is_skipped(kind: Kind, lines: bool) -> bool
+    ensures { result ≡ spec.is_skipped (Some kind) lines }
+{
     match kind {
         Kind::InlineComment => true,
         Kind::LineEnd | Kind::LineComment => lines,
@@ -56,8 +68,12 @@ fn is_skipped(kind: Kind, lines: bool) -> bool {
 }
 
 /// Returns the number of the last token before number `i`, without those that are dropped.
-pub fn last_before(scanned: &Scanned<'_>, i: usize, lines: bool) -> Option<usize> {
-    for k in (0..i).rev() {
+pub fn last_before(scanned: &Scanned<'_>, i: usize, lines: bool) -> Option<usize>
+    ensures { result ≡ spec.last_before scanned.now.pairs lines i }
+{
+    let mut k = i;
+    while k > 0 {
+        k -= 1;
         if let Some(kind) = kind_at(scanned, k) {
             if !is_skipped(kind, lines) {
                 return Some(k);
@@ -92,9 +108,11 @@ pub fn is_line_start(scanned: &Scanned<'_>, i: usize) -> bool {
 }
 
 /// Whether a value can end with token `i`.
-pub fn ends_value(scanned: &Scanned<'_>, i: usize) -> bool {
+pub fn ends_value(scanned: &Scanned<'_>, i: usize) -> bool
+    ensures { result ≡ spec.ends_value scanned.now.pairs i }
+{
     match kind_at(scanned, i) {
-        Some(Kind::Star) => i > 0 && ends_before_splat(scanned, i - 1),
+        Some(Kind::Star) => i > 0 && is_before_splat(scanned, i - 1),
         Some(kind) => matches!(
             kind,
             Kind::Identifier
@@ -111,6 +129,8 @@ pub fn ends_value(scanned: &Scanned<'_>, i: usize) -> bool {
 }
 
 /// Whether a `*` after token `i` is a splat.
-fn ends_before_splat(scanned: &Scanned<'_>, i: usize) -> bool {
-    is_kind(scanned, i, Kind::Dot) || is_kind(scanned, i, Kind::OpenBracket)
+fn is_before_splat(scanned: &Scanned<'_>, i: usize) -> bool
+    ensures { result ≡ spec.is_splat (kind_of scanned.now.pairs i) (Some Star) }
+{
+    matches!(kind_at(scanned, i), Some(Kind::Dot | Kind::OpenBracket))
 }

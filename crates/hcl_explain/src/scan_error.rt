@@ -1,12 +1,15 @@
 //! The explanation of an error of a text that has no tokens.
 
-ghost use Rattle.std.specs.Prelude.{◌≡◌, IfOk, IfSome, take, drop};
-ghost use Rattle.hcl_scan.specs.Fault.{IsFault};
-ghost use Rattle.hcl_scan.specs.declared.fault.ScanFault.TheVariants.{OpenTemplate};
+ghost use Rattle.std.specs.Prelude.{◌≡◌, IfOk, take, drop};
+ghost use Rattle.std.specs.Bool.{Decides};
+ghost use Rattle.hcl_explain.specs.Sequences as spec;
+ghost use Rattle.hcl_explain.specs.Sequences.{IsCutShort};
 ghost use Rattle.hcl_explain.specs.ScanExplanations.{IsScanExplanation, IsStringExplanation};
-ghost use Rattle.hcl_explain.specs.ScanExplanations.{IsCharacterExplanation};
+ghost use Rattle.hcl_explain.specs.ScanExplanations.{IsCharacterExplanation, IsNestedExplanation};
+ghost use Rattle.hcl_explain.specs.ScanExplanations.{IsExplanationIn, of};
 
-use hcl_scan::{ScanFault, scan};
+use crate::sequence::{ends_in_value, open_sequence};
+use hcl_scan::ScanFault;
 use std::alloc::{AllocError, Global};
 
 /// Why a text has no tokens.
@@ -36,8 +39,9 @@ pub struct ScanExplanation {
 /// Explains the error of a text that `scan` refuses, if the error is at a byte.
 ///
 /// Where a `${` is not closed, the quote that should close its string opens another one, and that
-/// is the error of the text. So the `${` is blamed for a string that is not closed, if it is in the
-/// same line: it is the error of the text before that quote.
+/// is the error of the text. So the `${` that is the error of the text before that quote is blamed,
+/// if it is in the same line, if nothing follows the quote in its line, or if a value ends before
+/// the quote, where no string can begin.
 ///
 /// # Errors
 ///
@@ -66,44 +70,77 @@ pub fn explain_scan(
 fn open_string(alloc: Global, text: &[u8], at: usize) -> Result<ScanExplanation, AllocError>
     ensures { IfOk result (IsStringExplanation text.now at) }
 {
+    hcl_scan::laws::one_fault();
     match open_sequence(alloc, prefix(text, at))? {
-        Some(open) if is_line(bytes_from(prefix(text, at), open)) => Ok(ScanExplanation {
-            at: open,
-            reason: ScanReason::Sequence,
-        }),
-        _ => Ok(ScanExplanation {
-            at,
-            reason: ScanReason::String,
-        }),
+        Some(opened) => in_sequence(alloc, text, at, opened),
+        None => Ok(explanation(at, ScanReason::String)),
     }
+}
+
+/// Explains that the string which begins at a byte is not closed, if it begins in this template
+/// sequence.
+fn in_sequence(
+    alloc: Global,
+    text: &[u8],
+    at: usize,
+    opened: usize,
+) -> Result<ScanExplanation, AllocError>
+    ensures { IfOk result (IsExplanationIn text.now at opened) }
+{
+    if is_cut_short(alloc, text, opened, at)? {
+        Ok(explanation(opened, ScanReason::Sequence))
+    } else {
+        Ok(explanation(at, ScanReason::String))
+    }
+}
+
+/// Whether the template sequence that begins at byte `opened` is the mistake, and not the string
+/// that begins at byte `at`.
+fn is_cut_short(alloc: Global, text: &[u8], opened: usize, at: usize) -> Result<bool, AllocError>
+    ensures { IfOk result (λ b. Decides b (IsCutShort text.now opened at)) }
+{
+    let sequence = bytes_from(prefix(text, at), opened);
+    if !sequence.contains(&b'\n') {
+        return Ok(true);
+    }
+    if is_line_end(bytes_from(bytes_from(text, at), 1)) {
+        return Ok(true);
+    }
+    ends_in_value(alloc, sequence)
 }
 
 /// Explains that no token begins at a byte.
 fn character(alloc: Global, text: &[u8], at: usize) -> Result<ScanExplanation, AllocError>
     ensures { IfOk result (IsCharacterExplanation text.now at) }
 {
-    if !bytes_from(text, at).starts_with(b"${") {
-        return Ok(ScanExplanation {
-            at,
-            reason: ScanReason::Character,
-        });
+    if bytes_from(text, at).starts_with(b"${") {
+        nested(alloc, text, at)
+    } else {
+        Ok(explanation(at, ScanReason::Character))
     }
-    let reason = match open_sequence(alloc, prefix(text, at))? {
-        Some(_open) => ScanReason::Nested,
-        None => ScanReason::Character,
-    };
-    Ok(ScanExplanation { at, reason })
 }
 
-/// Returns where a template sequence begins in which the text ends, if that is its error.
-fn open_sequence(alloc: Global, text: &[u8]) -> Result<Option<usize>, AllocError>
-    ensures { IfOk result (λ o. IfSome o (λ at. IsFault text.now (OpenTemplate at))) }
+/// Explains that no token begins with the `${` at a byte.
+fn nested(alloc: Global, text: &[u8], at: usize) -> Result<ScanExplanation, AllocError>
+    ensures { IfOk result (IsNestedExplanation text.now at) }
 {
-    match scan(alloc, text) {
-        Err(ScanFault::OpenTemplate { at }) => Ok(Some(at)),
-        Err(ScanFault::Memory) => Err(AllocError),
-        _ => Ok(None),
+    let before = prefix(text, at);
+    match open_sequence(alloc, before)? {
+        Some(opened) => {
+            if ends_in_value(alloc, bytes_from(before, opened))? {
+                Ok(explanation(opened, ScanReason::Sequence))
+            } else {
+                Ok(explanation(at, ScanReason::Nested))
+            }
+        }
+        None => Ok(explanation(at, ScanReason::Character)),
     }
+}
+
+fn explanation(at: usize, reason: ScanReason) -> ScanExplanation
+    ensures { result ≡ of at reason }
+{
+    ScanExplanation { at, reason }
 }
 
 /// Returns the first `at` bytes of a text, or all of it if it has fewer.
@@ -120,12 +157,12 @@ pub fn bytes_from(text: &[u8], at: usize) -> &[u8]
     if at < text.len() { &text[at..] } else { &[] }
 }
 
-/// Whether a text has no line feed.
-fn is_line(text: &[u8]) -> bool {
-    for byte in text {
-        if *byte == b'\n' {
-            return false;
-        }
+/// Whether nothing follows in the line.
+fn is_line_end(text: &[u8]) -> bool
+    ensures { result ≡ spec.is_line_end text.now }
+{
+    match text {
+        [] => true,
+        [first, ..] => *first == b'\n' || *first == b'\r',
     }
-    true
 }

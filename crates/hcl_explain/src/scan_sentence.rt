@@ -9,7 +9,7 @@ use std::str::from_utf8;
 const MAX_MARKER: usize = 40;
 
 /// What is said of a `${` in a template sequence.
-const NESTED: &str = "unexpected `${`: the one before it is not closed";
+const NESTED: &str = "unexpected `${`: in `${ }` and `%{ }` write the value alone";
 
 /// What is said of a `${` outside of a template.
 const TEMPLATE_OUTSIDE: &str =

@@ -1,0 +1,116 @@
+-- When a template sequence that is not closed is the mistake, and not what follows it.
+use Rattle.std.specs.Prelude.{◌≡◌, ℕ, zero, suc, ◌==◌, ◌||◌, ◌&&◌, Bool, true, false, not}
+use Rattle.std.specs.Prelude.{List, [], ◌∷◌, length, take, drop, slice_index, ◌⊎◌}
+use Rattle.std.specs.Prelude.{Option, Some, None, if◌then◌else◌}
+use Rattle.std.specs.List.{list_any}
+use Rattle.std.specs.Str.{bytes_eq}
+use Rattle.hcl_token.specs.Bytes.{line_feed, carriage_return, tilde}
+use Rattle.hcl_token.specs.declared.kind.Kind.{Kind}
+use Rattle.hcl_token.specs.declared.kind.Kind.TheVariants as k
+use Rattle.hcl_token.specs.Tokens.{Pair}
+use Rattle.hcl_token.specs.TokenizedText.{kind_of, spelling_of}
+use Rattle.hcl_scan.specs.Tokenization.{IsTokenization}
+use Rattle.hcl_grammar.specs.Tokens.{for_word, in_word, if_word}
+use Rattle.hcl_explain.specs.Openings.{innermost_open}
+
+-- ---- the tokens of a template sequence
+
+-- the grammar drops a token of this kind, where it drops line ends or not
+abbrev pub is_skipped : Option Kind → Bool → Bool
+is_skipped None lines = true
+is_skipped (Some k.InlineComment) lines = true
+is_skipped (Some k.LineEnd) lines = lines
+is_skipped (Some k.LineComment) lines = lines
+is_skipped (Some _) lines = false
+
+-- the last token before token n that is not dropped
+abbrev pub last_before : List Pair → Bool → ℕ → Option ℕ
+last_before pairs lines zero = None
+last_before pairs lines (suc i) =
+    if is_skipped (kind_of pairs i) lines then last_before pairs lines i else Some i
+
+-- a value can end with a token of this kind
+abbrev pub is_value_end : Option Kind → Bool
+is_value_end (Some k.Identifier) = true
+is_value_end (Some k.Number) = true
+is_value_end (Some k.DotIndex) = true
+is_value_end (Some k.CloseBracket) = true
+is_value_end (Some k.CloseParen) = true
+is_value_end (Some k.CloseBrace) = true
+is_value_end (Some k.QuoteClose) = true
+is_value_end (Some k.HereClose) = true
+is_value_end _ = false
+
+-- a `*` after a token of the first kind is a splat: after `.` and `[`
+abbrev pub is_splat : Option Kind → Option Kind → Bool
+is_splat (Some k.Dot) (Some k.Star) = true
+is_splat (Some k.OpenBracket) (Some k.Star) = true
+is_splat _ _ = false
+
+abbrev pub ends_value : List Pair → ℕ → Bool
+ends_value pairs zero = is_value_end (kind_of pairs zero)
+ends_value pairs (suc i) =
+    is_value_end (kind_of pairs (suc i)) || is_splat (kind_of pairs i) (kind_of pairs (suc i))
+
+-- the token is this word
+abbrev pub is_word : Option Kind → Option (List ℕ) → List ℕ → Bool
+is_word (Some k.Identifier) (Some spelling) word = bytes_eq spelling word
+is_word _ _ word = false
+
+-- `for`, `in` or `if`, after which a value begins
+abbrev pub is_keyword : List Pair → ℕ → Bool
+is_keyword pairs i =
+    let is : List ℕ → Bool = is_word (kind_of pairs i) (spelling_of pairs i) in
+    is for_word || (is in_word || is if_word)
+
+abbrev pub is_brace : Option Kind → Bool
+is_brace (Some k.OpenBrace) = true
+is_brace _ = false
+
+-- line ends are dropped after this opening, the innermost: not in braces
+abbrev pub drops_lines_in : List Pair → Option ℕ → Bool
+drops_lines_in pairs None = true
+drops_lines_in pairs (Some opening) = not (is_brace (kind_of pairs opening))
+
+abbrev pub drops_lines_at_end : List Pair → Bool
+drops_lines_at_end pairs = drops_lines_in pairs (innermost_open pairs (length pairs))
+
+-- a value can end with the token, if there is one
+abbrev pub is_last_of_value : List Pair → Option ℕ → Bool
+is_last_of_value pairs None = false
+is_last_of_value pairs (Some last) = ends_value pairs last && not (is_keyword pairs last)
+
+-- a value ends with the last of the tokens, which are in a template sequence
+abbrev pub has_value_last : List Pair → Bool
+has_value_last pairs =
+    is_last_of_value pairs (last_before pairs (drops_lines_at_end pairs) (length pairs))
+
+-- ---- the text of a template sequence
+
+-- what follows `${`, `%{`, `${~` or `%{~`
+abbrev pub sequence_text : List ℕ → List ℕ
+sequence_text text = if slice_index text 2 == tilde then drop 3 text else drop 2 text
+
+-- a value ends with this text of a template sequence: neither a string nor another template sequence
+-- can follow
+abbrev pub EndsInValue : List ℕ → Type 0
+EndsInValue text = (pairs : List Pair) × (last : List ℕ) × IsTokenization text pairs last
+    × (has_value_last pairs ≡ true)
+
+-- the bytes from the first number up to the second
+abbrev pub between : List ℕ → ℕ → ℕ → List ℕ
+between text from until = drop from (take until text)
+
+-- nothing follows in the line
+abbrev pub is_line_end : List ℕ → Bool
+is_line_end [] = true
+is_line_end (b ∷ rest) = b == line_feed || b == carriage_return
+
+-- The template sequence that begins at `opened` is not closed before the quote at `at`, and no string
+-- begins there: the sequence begins in the same line; or the line ends after the quote; or a value
+-- ends before it.
+abbrev pub IsCutShort : List ℕ → ℕ → ℕ → Type 0
+IsCutShort text opened at =
+    (list_any (λ b. b == line_feed) (between text opened at) ≡ false)
+    ⊎ (is_line_end (drop 1 (drop at text)) ≡ true)
+    ⊎ EndsInValue (sequence_text (between text opened at))
