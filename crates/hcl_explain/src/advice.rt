@@ -39,6 +39,19 @@ pub enum Advice {
     DirectiveAlone,
     /// A `%{` without one of the words of directives.
     DirectiveWord,
+    /// `else if`, `elseif` or `elif` in a directive.
+    ElseIf,
+    /// `${` and a name with `:` after it, as in a shell.
+    OtherLanguage,
+    /// The marker of a heredoc in quotes, or after a space.
+    HeredocQuotes,
+    HeredocSpace,
+    /// `if` before the `:` of a `for`.
+    ForIf,
+    /// A quote in a string.
+    QuoteInString,
+    /// `*/` where no comment is open.
+    CommentEnd,
 }
 
 impl Advice {
@@ -64,6 +77,13 @@ impl Advice {
             Advice::DirectiveAlone => "no `%{ if }` or `%{ for }` is open here",
             Advice::DirectiveWord =>
                 "a `%{` is followed by `if`, `for`, `else`, `endif` or `endfor`",
+            Advice::ElseIf => "there is no `else if`: write `%{ if }` after `%{ else }`",
+            Advice::OtherLanguage => "a `${` that is not for Terraform is written `$${`",
+            Advice::HeredocQuotes => "the marker of a heredoc has no quotes",
+            Advice::HeredocSpace => "the marker of a heredoc is right after `<<` or `<<-`",
+            Advice::ForIf => "the `if` of a `for` is after its value",
+            Advice::QuoteInString => "a quote in a string is written `\\\"`",
+            Advice::CommentEnd => "no `/*` is open here",
         }
     }
 }
@@ -77,10 +97,14 @@ pub fn advice_for(
     found: usize,
 ) -> Option<Advice> {
     match kind_at(scanned, found) {
+        Some(kind) if is_marker(scanned, kind, found) => Some(Advice::ConflictMarker),
+        Some(kind) if is_comment_end(scanned, kind, found) => Some(Advice::CommentEnd),
         Some(kind) => match expected {
             Expected::Member | Expected::MemberOrBrace => at_line_start(scanned, kind, found),
             Expected::EqualOrBlock | Expected::LabelOrBrace => in_head(scanned, kind, found),
             Expected::OneLineEqual => None,
+            Expected::ForColon if is_word(scanned, found, b"if") => Some(Advice::ForIf),
+            Expected::SequenceEnd => at_sequence_end(scanned, kind, found, context),
             _ => in_value(scanned, kind, found, context),
         },
         None => None,
@@ -88,9 +112,6 @@ pub fn advice_for(
 }
 
 fn at_line_start(scanned: &Scanned<'_>, kind: Kind, found: usize) -> Option<Advice> {
-    if is_marker(scanned, kind, found) {
-        return Some(Advice::ConflictMarker);
-    }
     match kind {
         Kind::Number => Some(Advice::NameDigit),
         Kind::QuoteOpen => Some(Advice::NameQuoted),
@@ -113,20 +134,31 @@ fn follows_attribute(scanned: &Scanned<'_>, i: usize) -> bool {
     }
 }
 
+/// Whether `*/` is here: with this token, or with the one before it.
+fn is_comment_end(scanned: &Scanned<'_>, kind: Kind, found: usize) -> bool {
+    match kind {
+        Kind::Star => is_next(scanned, Kind::Slash, found),
+        Kind::Slash => found > 0
+            && is_adjacent(scanned, found)
+            && is_kind(scanned, found - 1, Kind::Star),
+        _ => false,
+    }
+}
+
 /// Whether a line begins here as conflict markers do.
 fn is_marker(scanned: &Scanned<'_>, kind: Kind, found: usize) -> bool {
     match kind {
         Kind::Less | Kind::Greater | Kind::DoubleEqual => {
             is_line_start(scanned, found)
-                && is_same_next(scanned, kind, found)
-                && is_same_next(scanned, kind, found.saturating_add(1))
+                && is_next(scanned, kind, found)
+                && is_next(scanned, kind, found.saturating_add(1))
         }
         _ => false,
     }
 }
 
-/// Whether a token of this kind is right after token `i`.
-fn is_same_next(scanned: &Scanned<'_>, kind: Kind, i: usize) -> bool {
+/// Whether a token of this kind follows token `i` with no gap.
+fn is_next(scanned: &Scanned<'_>, kind: Kind, i: usize) -> bool {
     let next = i.saturating_add(1);
     is_kind(scanned, next, kind) && is_adjacent(scanned, next)
 }
@@ -145,13 +177,38 @@ fn in_head(scanned: &Scanned<'_>, kind: Kind, found: usize) -> Option<Advice> {
     }
 }
 
-fn in_value(scanned: &Scanned<'_>, kind: Kind, found: usize, context: Context) -> Option<Advice> {
-    if is_marker(scanned, kind, found) {
-        return Some(Advice::ConflictMarker);
+/// Returns the advice for a token where a template sequence should end.
+fn at_sequence_end(
+    scanned: &Scanned<'_>,
+    kind: Kind,
+    found: usize,
+    context: Context,
+) -> Option<Advice> {
+    match kind {
+        Kind::Colon if is_only_name(scanned, found) => Some(Advice::OtherLanguage),
+        Kind::Identifier if is_else_if(scanned, found) => Some(Advice::ElseIf),
+        _ => in_value(scanned, kind, found, context),
     }
+}
+
+/// Whether `${` and a name are right before token `found`.
+fn is_only_name(scanned: &Scanned<'_>, found: usize) -> bool {
+    found > 1
+        && is_kind(scanned, found - 1, Kind::Identifier)
+        && is_kind(scanned, found - 2, Kind::InterpOpen)
+}
+
+/// Whether token `found` is the `if` of `else if`, or a word for it.
+pub fn is_else_if(scanned: &Scanned<'_>, found: usize) -> bool {
+    is_word(scanned, found, b"elseif")
+        || is_word(scanned, found, b"elif")
+        || (found > 0 && is_word(scanned, found, b"if") && is_word(scanned, found - 1, b"else"))
+}
+
+fn in_value(scanned: &Scanned<'_>, kind: Kind, found: usize, context: Context) -> Option<Advice> {
     match last_before(scanned, found, false) {
         Some(last) => match kind {
-            Kind::Less if is_same_next(scanned, kind, found) => heredoc(scanned, found),
+            Kind::Less if is_next(scanned, kind, found) => heredoc(scanned, found),
             Kind::Identifier if !has_keywords(context) => after_word(scanned, last, found),
             _ if is_word(scanned, last, b"not") => Some(Advice::Not),
             _ => None,
@@ -162,12 +219,34 @@ fn in_value(scanned: &Scanned<'_>, kind: Kind, found: usize, context: Context) -
 
 /// Returns the advice for the operator `<` with another one after it.
 fn heredoc(scanned: &Scanned<'_>, found: usize) -> Option<Advice> {
-    let marker = found.saturating_add(2);
-    if is_kind(scanned, marker, Kind::Identifier) || is_kind(scanned, marker, Kind::Minus) {
-        Some(Advice::HeredocLine)
-    } else {
-        None
+    let second = found.saturating_add(1);
+    let is_indented = is_next(scanned, Kind::Minus, second);
+    let marker = second.saturating_add(if is_indented { 2 } else { 1 });
+    match kind_at(scanned, marker) {
+        Some(Kind::QuoteOpen) if is_adjacent(scanned, marker) => Some(Advice::HeredocQuotes),
+        Some(Kind::Identifier) if is_adjacent(scanned, marker) => Some(Advice::HeredocLine),
+        Some(Kind::Identifier) => Some(Advice::HeredocSpace),
+        _ => None,
     }
+}
+
+/// Whether this token and words after it are in a string, whose quotes end it before them and begin
+/// another one after them.
+fn is_between_quotes(scanned: &Scanned<'_>, last: usize, found: usize) -> bool {
+    is_kind(scanned, last, Kind::QuoteClose)
+        && is_adjacent(scanned, found)
+        && are_words_before_quote(scanned, found)
+}
+
+/// Whether words, and right after them a quote, follow from token `from` on.
+fn are_words_before_quote(scanned: &Scanned<'_>, from: usize) -> bool {
+    for i in from..scanned.len() {
+        match scanned.kind(i) {
+            Kind::Identifier => {}
+            kind => return matches!(kind, Kind::QuoteOpen) && is_adjacent(scanned, i),
+        }
+    }
+    false
 }
 
 /// Returns the advice for a word after token `last`.
@@ -182,6 +261,8 @@ fn after_word(scanned: &Scanned<'_>, last: usize, found: usize) -> Option<Advice
         Some(Advice::Not)
     } else if is_word(scanned, found, b"if") || is_word(scanned, last, b"if") {
         Some(Advice::Conditional)
+    } else if is_between_quotes(scanned, last, found) {
+        Some(Advice::QuoteInString)
     } else {
         None
     }

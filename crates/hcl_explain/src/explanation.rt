@@ -7,7 +7,7 @@ ghost use Rattle.hcl_explain.specs.Explanations.{IsExplanation, IsSyntaxExplanat
 ghost use Rattle.hcl_explain.specs.Explanations.{IsToken, IsOfFound};
 ghost use Rattle.hcl_explain.specs.declared.explanation.Reason.TheVariants.{NotClosed};
 
-use crate::advice::{Advice, advice_for};
+use crate::advice::{Advice, advice_for, is_else_if};
 use crate::context::{Context, context_of};
 use crate::directives::{directive_advice, end_word, open_directive};
 use crate::expected::{Expected, expected_after};
@@ -130,7 +130,7 @@ fn reason_at(scanned: &Scanned<'_>, context: Context, from: usize, found: usize)
         return Reason::Advice(Advice::LabelTemplate);
     }
     if matches!(context, Context::Directive) && from == found {
-        return Reason::Expected(end_word(scanned, from));
+        return at_directive_word(scanned, found);
     }
     let expected = expected_after(scanned, context, from, found);
     if closes_nothing(scanned, expected, found) {
@@ -139,6 +139,17 @@ fn reason_at(scanned: &Scanned<'_>, context: Context, from: usize, found: usize)
     match advice_for(scanned, context, expected, found) {
         Some(advice) => Reason::Advice(advice),
         None => Reason::Expected(expected),
+    }
+}
+
+/// Returns why token `found` can't be the word of a directive, in which another one is open.
+fn at_directive_word(scanned: &Scanned<'_>, found: usize) -> Reason
+    ensures { IsOfFound result }
+{
+    if is_else_if(scanned, found) {
+        Reason::Advice(Advice::ElseIf)
+    } else {
+        Reason::Expected(end_word(scanned, found))
     }
 }
 

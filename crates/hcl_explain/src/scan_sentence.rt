@@ -105,6 +105,8 @@ fn character_advice(c: char) -> &'static str {
             ": a string is in plain double quotes, `\"`"
         }
         ';' => ": a newline ends an attribute, a `,` an element",
+        '\u{2010}'..='\u{2015}' | '\u{2212}' => ": a minus is written `-`",
+        '\u{2026}' => ": write three dots, `...`",
         '$' => ": a variable is written `var.NAME`",
         '&' => ": `and` is written `&&`",
         '|' => ": `or` is written `||`",
