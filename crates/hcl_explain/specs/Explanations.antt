@@ -1,39 +1,52 @@
 -- What an explanation says of a text with tokens.
-use Rattle.std.specs.Prelude.{◌≡◌, ◌≢◌, ◌<◌, ℕ, List, [], length, Some}
+use Rattle.std.specs.Prelude.{◌≡◌, ◌≢◌, ◌<◌, ℕ, List, [], length, Some, None, true}
+use Rattle.std.specs.Option.{option_map}
+use Rattle.hcl_token.specs.declared.kind.Kind.{Kind}
 use Rattle.hcl_token.specs.TokenizedText.{TokenizedText, kind_of}
 use Rattle.hcl_token.specs.Tokens.{Pair}
 use Rattle.hcl_token.specs.declared.kind.Kind.TheVariants as k
 use Rattle.hcl_text_laws.specs.Faults.{byte_offset}
 use Rattle.hcl_text_laws.specs.declared.fault.ParseFault.{ParseFault}
 use Rattle.hcl_text_laws.specs.declared.fault.ParseFault.TheVariants as fault
-use Rattle.hcl_explain.specs.Openings.{open_before, innermost_open}
+use Rattle.hcl_explain.specs.Openings.{closes, open_before, innermost_open, ClosesOuter}
 use Rattle.hcl_explain.specs.declared.explanation.Explanation.{Explanation}
 use Rattle.hcl_explain.specs.declared.explanation.Reason.{Reason}
 use Rattle.hcl_explain.specs.declared.explanation.Reason.TheVariants as reason
 
--- the reason is one that is printed at the token that was found
-abbrev pub IsOfFound : Reason → Type 0
-IsOfFound reason.NotClosed = ⊥
-IsOfFound reason.NoEnd = ⊥
-IsOfFound reason.TooDeep = Unit {0}
-IsOfFound (reason.Expected expected) = Unit {0}
-IsOfFound reason.ClosesNothing = Unit {0}
-IsOfFound (reason.Advice advice) = Unit {0}
+-- the token closes something where nothing is open
+abbrev pub ClosesNothing : List Pair → ℕ → Type 0
+ClosesNothing pairs found =
+    (innermost_open pairs found ≡ None) × (option_map closes (kind_of pairs found) ≡ Some true)
 
--- the token to be printed: the innermost opening that is not closed before the token that was found;
--- the opening of a directive before it; or that token itself
+-- the reason is one that is printed at the token that was found
+abbrev pub IsOfFound : List Pair → Reason → ℕ → Type 0
+IsOfFound pairs reason.NotClosed found = ⊥
+IsOfFound pairs reason.NoEnd found = ⊥
+IsOfFound pairs reason.TooDeep found = ⊥
+IsOfFound pairs (reason.Expected expected) found = Unit {0}
+IsOfFound pairs reason.ClosesNothing found = ClosesNothing pairs found
+IsOfFound pairs (reason.Advice advice) found = Unit {0}
+
+-- the token to be printed: the innermost opening that is not closed before the token that was
+-- found; the opening of a directive before it; or that token itself
 abbrev pub IsToken : List Pair → Reason → ℕ → ℕ → Type 0
 IsToken pairs reason.NotClosed token found = innermost_open pairs found ≡ Some token
-IsToken pairs reason.NoEnd token found = (kind_of pairs token ≡ Some k.DirectiveOpen) × (token < found)
-IsToken pairs reason.TooDeep token found = token ≡ found
+IsToken pairs reason.NoEnd token found =
+    (kind_of pairs token ≡ Some k.DirectiveOpen) × (token < found)
+IsToken pairs reason.TooDeep token found = ⊥
 IsToken pairs (reason.Expected expected) token found = token ≡ found
-IsToken pairs reason.ClosesNothing token found = token ≡ found
+IsToken pairs reason.ClosesNothing token found = (token ≡ found) × ClosesNothing pairs found
 IsToken pairs (reason.Advice advice) token found = token ≡ found
 
 -- an explanation of a syntax error at this token, or at the end of the text
 pub record IsSyntaxExplanation (t : TokenizedText) (number : ℕ) (e : Explanation) : Type 0 where
   pub found : e.found ≡ number
   pub token : IsToken t.pairs e.reason e.token number
+  -- what closes something blames the innermost opening if and only if it closes one around that
+  pub closing : (kind : Kind) (opening : ℕ) → kind_of t.pairs number ≡ Some kind
+      → closes kind ≡ true → innermost_open t.pairs number ≡ Some opening
+      → (e.reason ≡ reason.NotClosed → ClosesOuter t.pairs opening kind)
+      × (ClosesOuter t.pairs opening kind → e.reason ≡ reason.NotClosed)
   -- at the end of the text what is open there is blamed
   pub open_at_end : number ≡ length t.pairs → open_before t.pairs number ≢ []
       → e.reason ≡ reason.NotClosed

@@ -1,8 +1,11 @@
 //! The explanation of an error of a text that has tokens.
 
-ghost use Rattle.std.specs.Prelude.{◌≡◌, ◌<◌, ◌≤◌, Some, IfSome, IfNone, length};
+ghost use Rattle.std.specs.Prelude.{◌≡◌, ◌≢◌, ◌<◌, ◌≤◌, Some, None, IfSome, IfNone, true, length};
+ghost use Rattle.std.specs.Option.{option_map};
+ghost use Rattle.hcl_token.specs.TokenizedText.{kind_of};
+ghost use Rattle.hcl_token.specs.declared.kind.Kind.{Kind};
 ghost use Rattle.hcl_text_laws.specs.Faults.{byte_offset};
-ghost use Rattle.hcl_explain.specs.Openings.{innermost_open};
+ghost use Rattle.hcl_explain.specs.Openings.{closes, innermost_open, ClosesOuter};
 ghost use Rattle.hcl_explain.specs.Explanations.{IsExplanation, IsSyntaxExplanation, IsAtNoToken};
 ghost use Rattle.hcl_explain.specs.Explanations.{IsToken, IsOfFound};
 ghost use Rattle.hcl_explain.specs.declared.explanation.Reason.TheVariants.{NotClosed};
@@ -93,6 +96,10 @@ fn explain_in(scanned: &Scanned<'_>, opening: usize, found: usize) -> Explanatio
     requires within { found ≤ length scanned.now.pairs }
     ensures found { result.found ≡ found }
     ensures token { IsToken scanned.now.pairs result.reason result.token found }
+    ensures closing { (kind : Kind) → kind_of scanned.now.pairs found ≡ Some kind
+        → closes kind ≡ true
+        → (result.reason ≡ NotClosed → ClosesOuter scanned.now.pairs opening kind)
+        × (ClosesOuter scanned.now.pairs opening kind → result.reason ≡ NotClosed) }
     ensures end_blamed { found ≡ length scanned.now.pairs → result.reason ≡ NotClosed }
 {
     if is_not_closed(scanned, opening, found) {
@@ -108,24 +115,38 @@ fn explain_in(scanned: &Scanned<'_>, opening: usize, found: usize) -> Explanatio
 /// Explains the error at token `found` by what was expected there, in the construct of this
 /// opening.
 fn explain_at(scanned: &Scanned<'_>, opening: Option<usize>, found: usize) -> Explanation
+    requires { innermost_open scanned.now.pairs found ≡ opening }
     ensures found { result.found ≡ found }
+    ensures other { result.reason ≢ NotClosed }
     ensures token { IsToken scanned.now.pairs result.reason result.token found }
 {
     let context = context_of(scanned, opening);
-    let from = match opening {
-        Some(opening) => opening.saturating_add(1),
-        None => 0,
-    };
     if matches!(context, Context::Template) {
-        return in_template(scanned, from, found);
+        return in_template(scanned, first_in(opening), found);
     }
-    of_found(found, reason_at(scanned, context, from, found))
+    of_found(found, reason_at(scanned, context, opening, found))
 }
 
-/// Returns why token `found` can't be in this construct, whose tokens begin with number `from`.
-fn reason_at(scanned: &Scanned<'_>, context: Context, from: usize, found: usize) -> Reason
-    ensures { IsOfFound result }
+/// Returns the number of the first token after an opening, or of the text.
+fn first_in(opening: Option<usize>) -> usize {
+    match opening {
+        Some(opening) => opening.saturating_add(1),
+        None => 0,
+    }
+}
+
+/// Returns why token `found` can't be in the construct of this opening.
+fn reason_at(
+    scanned: &Scanned<'_>,
+    context: Context,
+    opening: Option<usize>,
+    found: usize,
+) -> Reason
+    requires { innermost_open scanned.now.pairs found ≡ opening }
+    ensures of_found { IsOfFound scanned.now.pairs result found }
+    ensures other { result ≢ NotClosed }
 {
+    let from = first_in(opening);
     if matches!(context, Context::Label) {
         return Reason::Advice(Advice::LabelTemplate);
     }
@@ -133,7 +154,7 @@ fn reason_at(scanned: &Scanned<'_>, context: Context, from: usize, found: usize)
         return at_directive_word(scanned, found);
     }
     let expected = expected_after(scanned, context, from, found);
-    if closes_nothing(scanned, expected, found) {
+    if closes_nothing(scanned, opening, expected, found) {
         return Reason::ClosesNothing;
     }
     match advice_for(scanned, context, expected, found) {
@@ -144,7 +165,8 @@ fn reason_at(scanned: &Scanned<'_>, context: Context, from: usize, found: usize)
 
 /// Returns why token `found` can't be the word of a directive, in which another one is open.
 fn at_directive_word(scanned: &Scanned<'_>, found: usize) -> Reason
-    ensures { IsOfFound result }
+    ensures of_found { IsOfFound scanned.now.pairs result found }
+    ensures other { result ≢ NotClosed }
 {
     if is_else_if(scanned, found) {
         Reason::Advice(Advice::ElseIf)
@@ -154,9 +176,27 @@ fn at_directive_word(scanned: &Scanned<'_>, found: usize) -> Reason
 }
 
 /// Whether token `found` closes something where nothing is open.
-fn closes_nothing(scanned: &Scanned<'_>, expected: Expected, found: usize) -> bool {
-    match kind_at(scanned, found) {
-        Some(kind) => matches!(expected, Expected::Member) && closes(kind),
+fn closes_nothing(
+    scanned: &Scanned<'_>,
+    opening: Option<usize>,
+    expected: Expected,
+    found: usize,
+) -> bool
+    ensures { result ≡ true
+        → (opening ≡ None) × (option_map closes (kind_of scanned.now.pairs found) ≡ Some true) }
+{
+    match opening {
+        Some(_) => false,
+        None => matches!(expected, Expected::Member) && is_closing(scanned, found),
+    }
+}
+
+/// Whether token `i` closes something.
+fn is_closing(scanned: &Scanned<'_>, i: usize) -> bool
+    ensures { result ≡ true → option_map closes (kind_of scanned.now.pairs i) ≡ Some true }
+{
+    match kind_at(scanned, i) {
+        Some(kind) => closes(kind),
         None => false,
     }
 }
@@ -164,6 +204,7 @@ fn closes_nothing(scanned: &Scanned<'_>, expected: Expected, found: usize) -> bo
 /// Explains an error in literal text and directives, whose tokens begin with number `from`.
 fn in_template(scanned: &Scanned<'_>, from: usize, found: usize) -> Explanation
     ensures found { result.found ≡ found }
+    ensures other { result.reason ≢ NotClosed }
     ensures token { IsToken scanned.now.pairs result.reason result.token found }
 {
     match open_directive(scanned, from, found) {

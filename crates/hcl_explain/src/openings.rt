@@ -2,7 +2,8 @@
 
 ghost use Rattle.std.specs.Prelude.{◌≡◌, ◌<◌, ◌≤◌, IfSome, length};
 ghost use Rattle.hcl_explain.specs.Openings as spec;
-ghost use Rattle.hcl_explain.specs.Openings.{innermost_open};
+ghost use Rattle.std.specs.Bool.{Decides};
+ghost use Rattle.hcl_explain.specs.Openings.{innermost_open, IsClosedBy, ClosesAny};
 
 use crate::near::kind_at;
 use hcl_scan::{Kind, Scanned};
@@ -38,16 +39,31 @@ pub fn closes(kind: Kind) -> bool
     )
 }
 
-/// Whether a token of the one kind closes one of the other.
-pub fn is_pair(opening: Kind, closing: Kind) -> bool {
+/// Returns the kind that closes an opening of this kind.
+fn closing_of(opening: Kind) -> Option<Kind>
+    ensures { result ≡ spec.closing_of opening }
+{
     match opening {
-        Kind::OpenParen => closing == Kind::CloseParen,
-        Kind::OpenBracket => closing == Kind::CloseBracket,
-        Kind::OpenBrace => closing == Kind::CloseBrace,
-        Kind::InterpOpen | Kind::DirectiveOpen => closing == Kind::SeqClose,
-        Kind::QuoteOpen => closing == Kind::QuoteClose,
-        Kind::HereOpen => closing == Kind::HereClose,
-        _ => false,
+        Kind::OpenParen => Some(Kind::CloseParen),
+        Kind::OpenBracket => Some(Kind::CloseBracket),
+        Kind::OpenBrace => Some(Kind::CloseBrace),
+        Kind::InterpOpen | Kind::DirectiveOpen => Some(Kind::SeqClose),
+        Kind::QuoteOpen => Some(Kind::QuoteClose),
+        Kind::HereOpen => Some(Kind::HereClose),
+        _ => None,
+    }
+}
+
+/// Whether a token of this kind closes this opening.
+pub fn is_closed_by(scanned: &Scanned<'_>, opening: usize, closing: Kind) -> bool
+    ensures { Decides result (IsClosedBy scanned.now.pairs opening closing) }
+{
+    match kind_at(scanned, opening) {
+        Some(kind) => match closing_of(kind) {
+            Some(other) => other == closing,
+            None => false,
+        },
+        None => false,
     }
 }
 
@@ -79,15 +95,14 @@ pub fn innermost_open(scanned: &Scanned<'_>, before: usize) -> Option<usize>
 /// `before`.
 pub fn closes_any(scanned: &Scanned<'_>, before: usize, closing: Kind) -> bool
     requires { before ≤ length scanned.now.pairs }
+    ensures { Decides result (ClosesAny scanned.now.pairs before closing) }
 {
     let mut at = before;
-    for _turn in 0..before {
+    while at > 0 {
         match innermost_open(scanned, at) {
             Some(opening) => {
-                if let Some(kind) = kind_at(scanned, opening) {
-                    if is_pair(kind, closing) {
-                        return true;
-                    }
+                if is_closed_by(scanned, opening, closing) {
+                    return true;
                 }
                 at = opening;
             }

@@ -1,16 +1,22 @@
 //! Whether the innermost opening is not closed, where something else than its end was found.
 
-ghost use Rattle.std.specs.Prelude.{◌≡◌, ◌≤◌, true, length};
+ghost use Rattle.std.specs.Prelude.{◌≡◌, ◌≤◌, true, length, Some};
+ghost use Rattle.std.specs.Bool.{Decides};
+ghost use Rattle.hcl_token.specs.TokenizedText.{kind_of};
+ghost use Rattle.hcl_token.specs.declared.kind.Kind.{Kind};
+ghost use Rattle.hcl_explain.specs.Openings.{closes, ClosesOuter};
 
 use crate::context::{Context, context_of};
 use crate::near::{is_kind, is_line_start, kind_at, last_before};
-use crate::openings::{closes, closes_any, is_pair, opens};
+use crate::openings::{closes, closes_any, is_closed_by, opens};
 use hcl_scan::{Kind, Scanned};
 
 /// Whether token `found` shows that this opening, the innermost, is not closed.
 pub fn is_not_closed(scanned: &Scanned<'_>, opening: usize, found: usize) -> bool
     requires { opening ≤ length scanned.now.pairs }
-    ensures { found ≡ length scanned.now.pairs → result ≡ true }
+    ensures end { found ≡ length scanned.now.pairs → result ≡ true }
+    ensures closing { (kind : Kind) → kind_of scanned.now.pairs found ≡ Some kind
+        → closes kind ≡ true → Decides result (ClosesOuter scanned.now.pairs opening kind) }
 {
     match kind_at(scanned, found) {
         Some(kind) => {
@@ -26,8 +32,12 @@ pub fn is_not_closed(scanned: &Scanned<'_>, opening: usize, found: usize) -> boo
 /// Whether a token of this kind closes not the innermost opening, but one around it.
 fn closes_outer(scanned: &Scanned<'_>, opening: usize, kind: Kind) -> bool
     requires { opening ≤ length scanned.now.pairs }
+    ensures { Decides result (ClosesOuter scanned.now.pairs opening kind) }
 {
-    !closes_token(scanned, opening, kind) && closes_any(scanned, opening, kind)
+    if is_closed_by(scanned, opening, kind) {
+        return false;
+    }
+    closes_any(scanned, opening, kind)
 }
 
 /// Whether token `found` shows that the line of it is outside of this construct.
@@ -92,20 +102,12 @@ fn is_closed_after(scanned: &Scanned<'_>, opening: usize, found: usize) -> bool 
             opened = opened.saturating_add(1);
         } else if closes(kind) {
             if opened == 0 {
-                return closes_token(scanned, opening, kind);
+                return is_closed_by(scanned, opening, kind);
             }
             opened -= 1;
         }
     }
     false
-}
-
-/// Whether a token of this kind closes this opening.
-fn closes_token(scanned: &Scanned<'_>, opening: usize, kind: Kind) -> bool {
-    match kind_at(scanned, opening) {
-        Some(innermost) => is_pair(innermost, kind),
-        None => false,
-    }
 }
 
 /// Whether token `found` begins the labels of a block, in an object.
