@@ -8,7 +8,8 @@ use Rattle.hcl_explain.specs.Openings.{opens, closes, open_after, open_before, i
 use Rattle.hcl_explain.specs.Openings.{IsClosedBy, ClosesOneOf, ClosesAny}
 
 -- what is open before token j, which follows token i
-pub before_next : (pairs : List Pair) (j i : ℕ) (kind : Kind) → j ≡ suc i → Some kind ≡ kind_of pairs i
+pub before_next : (pairs : List Pair) (j i : ℕ) (kind : Kind) → j ≡ suc i
+    → Some kind ≡ kind_of pairs i
     → open_before pairs j ≡ open_after (Some kind) i (open_before pairs i)
 before_next pairs j i kind follows is = rw (follows, ← is) refl
 

@@ -1,6 +1,6 @@
 -- The template sequence in which a text ends: a text has one error, or one list of tokens.
-use Rattle.std.proofs.Common.{◌≡◌, ℕ, List, Option, Some, None, Result, Ok, Err, inl, inr, Bool, true}
-use Rattle.std.proofs.Common.{false, sym, subst, ◌∙◌, ◌⊎◌, take, drop}
+use Rattle.std.proofs.Common.{◌≡◌, ℕ, List, Option, Some, None, Result, Ok, Err, inl, inr, Bool}
+use Rattle.std.proofs.Common.{true, false, sym, subst, ◌∙◌, ◌⊎◌, take, drop}
 use Rattle.std.proofs.lemmas.Bool.{false≢true}
 use Rattle.std.specs.Prelude.{IfOk, IfSome, IfNone, IsErr}
 use Rattle.std.specs.Bool.{Decides}
@@ -10,7 +10,7 @@ use Rattle.hcl_scan.specs.Fault.{IsFault}
 use Rattle.hcl_scan.specs.ScanResult.{IsScanFault}
 use Rattle.hcl_scan.specs.declared.fault.ScanFault.{ScanFault}
 use Rattle.hcl_scan.specs.declared.fault.ScanFault.TheVariants.{Memory, OpenTemplate}
-use Rattle.hcl_explain.specs.Sequences.{has_value_last, sequence_text, EndsInValue, IsCutShort}
+use Rattle.hcl_explain.specs.Sequences.{has_value_last, sequence_text, EndsInValue, IsBlamed}
 use Rattle.hcl_explain.specs.ScanExplanations.{IsOpenBefore, IsEnded, IsStringExplanation}
 use Rattle.hcl_explain.specs.ScanExplanations.{IsExplanationIn}
 use Rattle.hcl_explain.specs.declared.scan_error.ScanExplanation.{ScanExplanation}
@@ -81,7 +81,8 @@ only_third Ended feeds ends (Ok b) has none decides = (
 -- ---- the sequence that is open before a byte
 
 pub opened_is : (text before : List ℕ) (at opened : ℕ) (o : Option ℕ) → before ≡ take at text
-    → o ≡ Some opened → IfSome o (λ i. IsFault before (OpenTemplate i)) → IsOpenBefore text at opened
+    → o ≡ Some opened → IfSome o (λ i. IsFault before (OpenTemplate i))
+    → IsOpenBefore text at opened
 opened_is text before at opened o same is h =
     subst (λ (x : List ℕ). IsFault x (OpenTemplate opened)) same
     (subst (λ (x : Option ℕ). IfSome x (λ i. IsFault before (OpenTemplate i))) is h)
@@ -104,10 +105,10 @@ string_of : OneFault → (text : List ℕ) (at opened : ℕ) (e : ScanExplanatio
     → IsOpenBefore text at opened → IsExplanationIn text at opened e → IsStringExplanation text at e
 string_of one text at opened e before (inl h) = inl (
   h.0,
-  λ other is cut.
+  λ other is blamed.
       let equal = one (take at text) (OpenTemplate other) (OpenTemplate opened) is before in
       let same : other ≡ opened = cc in
-      h.1 (subst (λ (x : ℕ). IsCutShort text x at) same cut),
+      h.1 (subst (λ (x : ℕ). IsBlamed text x at) same blamed),
 )
 string_of one text at opened e before (inr h) = inr (opened, h.0, before, h.1)
 

@@ -19,13 +19,17 @@ ClosesNothing pairs found =
     (innermost_open pairs found ≡ None) × (option_map closes (kind_of pairs found) ≡ Some true)
 
 -- the reason is one that is printed at the token that was found
+abbrev pub IsAtFound : List Pair → Reason → ℕ → Type 0
+IsAtFound pairs reason.NotClosed found = ⊥
+IsAtFound pairs reason.NoEnd found = ⊥
+IsAtFound pairs reason.TooDeep found = ⊥
+IsAtFound pairs (reason.Expected expected) found = Unit {0}
+IsAtFound pairs reason.ClosesNothing found = ClosesNothing pairs found
+IsAtFound pairs (reason.Advice advice) found = Unit {0}
+
+-- and none that says of an opening that it is not closed
 abbrev pub IsOfFound : List Pair → Reason → ℕ → Type 0
-IsOfFound pairs reason.NotClosed found = ⊥
-IsOfFound pairs reason.NoEnd found = ⊥
-IsOfFound pairs reason.TooDeep found = ⊥
-IsOfFound pairs (reason.Expected expected) found = Unit {0}
-IsOfFound pairs reason.ClosesNothing found = ClosesNothing pairs found
-IsOfFound pairs (reason.Advice advice) found = Unit {0}
+IsOfFound pairs why found = (why ≢ reason.NotClosed) × IsAtFound pairs why found
 
 -- the token to be printed: the innermost opening that is not closed before the token that was
 -- found; the opening of a directive before it; or that token itself
@@ -37,6 +41,11 @@ IsToken pairs reason.TooDeep token found = ⊥
 IsToken pairs (reason.Expected expected) token found = token ≡ found
 IsToken pairs reason.ClosesNothing token found = (token ≡ found) × ClosesNothing pairs found
 IsToken pairs (reason.Advice advice) token found = token ≡ found
+
+-- an explanation at this token that says of no opening that it is not closed
+abbrev pub IsOtherExplanation : List Pair → ℕ → Explanation → Type 0
+IsOtherExplanation pairs found e =
+    (e.found ≡ found) × (e.reason ≢ reason.NotClosed) × IsToken pairs e.reason e.token found
 
 -- an explanation of a syntax error at this token, or at the end of the text
 pub record IsSyntaxExplanation (t : TokenizedText) (number : ℕ) (e : Explanation) : Type 0 where

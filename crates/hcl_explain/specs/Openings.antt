@@ -1,12 +1,14 @@
 -- Which openings are not closed before a token.
 -- HCL native syntax specification, Lexical Elements, and Templates.
-use Rattle.std.specs.Prelude.{ℕ, zero, suc, Bool, true, false, if◌then◌else◌, List, [], ◌∷◌, drop, slice_get}
+use Rattle.std.specs.Prelude.{ℕ, zero, suc, Bool, true, false, if◌then◌else◌, List, [], ◌∷◌}
+use Rattle.std.specs.Prelude.{drop, slice_get}
 use Rattle.std.specs.Prelude.{Option, Some, None, ◌≡◌, ◌⊎◌}
 use Rattle.std.specs.Option.{option_and_then}
 use Rattle.hcl_token.specs.declared.kind.Kind.{Kind}
-use Rattle.hcl_token.specs.declared.kind.Kind.TheVariants.{OpenParen, OpenBracket, OpenBrace, InterpOpen}
-use Rattle.hcl_token.specs.declared.kind.Kind.TheVariants.{DirectiveOpen, QuoteOpen, HereOpen, CloseParen}
-use Rattle.hcl_token.specs.declared.kind.Kind.TheVariants.{CloseBracket, CloseBrace, SeqClose, QuoteClose}
+use Rattle.hcl_token.specs.declared.kind.Kind.TheVariants.{OpenParen, OpenBracket, OpenBrace}
+use Rattle.hcl_token.specs.declared.kind.Kind.TheVariants.{InterpOpen, DirectiveOpen, QuoteOpen}
+use Rattle.hcl_token.specs.declared.kind.Kind.TheVariants.{HereOpen, CloseParen, CloseBracket}
+use Rattle.hcl_token.specs.declared.kind.Kind.TheVariants.{CloseBrace, SeqClose, QuoteClose}
 use Rattle.hcl_token.specs.declared.kind.Kind.TheVariants.{HereClose}
 use Rattle.hcl_token.specs.Tokens.{Pair}
 use Rattle.hcl_token.specs.TokenizedText.{kind_of}

@@ -5,11 +5,12 @@ use Rattle.std.specs.List.{starts_with}
 use Rattle.hcl_scan.specs.declared.fault.ScanFault.{ScanFault}
 use Rattle.hcl_scan.specs.declared.fault.ScanFault.TheVariants as fault
 use Rattle.hcl_scan.specs.Fault.{IsFault}
-use Rattle.hcl_explain.specs.Sequences.{sequence_text, EndsInValue, between, IsCutShort}
+use Rattle.hcl_explain.specs.Sequences.{sequence_text, EndsInValue, between, IsBlamed}
 use Rattle.hcl_explain.specs.declared.scan_error.ScanExplanation.{ScanExplanation}
 use Rattle.hcl_explain.specs.declared.scan_error.ScanReason.{ScanReason}
 use Rattle.hcl_explain.specs.declared.scan_error.ScanReason.TheVariants as reason
 
+-- with this reason, at this byte
 abbrev pub of : ℕ → ScanReason → ScanExplanation
 of at reason = record { at = at; reason = reason }
 
@@ -18,19 +19,19 @@ abbrev pub IsOpenBefore : List ℕ → ℕ → ℕ → Type 0
 IsOpenBefore text at opened = IsFault (take at text) (fault.OpenTemplate opened)
 
 -- of a string that is not closed and begins at this byte: that byte; or the template sequence which
--- is not closed in the text before it, if that is cut short
+-- is not closed in the text before it, if that is blamed
 abbrev pub IsStringExplanation : List ℕ → ℕ → ScanExplanation → Type 0
 IsStringExplanation text at e =
     ((e ≡ of at reason.String)
-    × ((opened : ℕ) → IsOpenBefore text at opened → IsCutShort text opened at → ⊥))
+    × ((opened : ℕ) → IsOpenBefore text at opened → IsBlamed text opened at → ⊥))
     ⊎ ((opened : ℕ) × (e ≡ of opened reason.Sequence) × IsOpenBefore text at opened
-    × IsCutShort text opened at)
+    × IsBlamed text opened at)
 
 -- of one that begins in this template sequence
 abbrev pub IsExplanationIn : List ℕ → ℕ → ℕ → ScanExplanation → Type 0
 IsExplanationIn text at opened e =
-    ((e ≡ of at reason.String) × (IsCutShort text opened at → ⊥))
-    ⊎ ((e ≡ of opened reason.Sequence) × IsCutShort text opened at)
+    ((e ≡ of at reason.String) × (IsBlamed text opened at → ⊥))
+    ⊎ ((e ≡ of opened reason.Sequence) × IsBlamed text opened at)
 
 -- the template sequence that begins at `opened` ends in a value before byte `at`
 abbrev pub IsEnded : List ℕ → ℕ → ℕ → Type 0
@@ -46,6 +47,7 @@ IsNestedExplanation text at e =
     ⊎ ((opened : ℕ) × (e ≡ of opened reason.Sequence) × IsOpenBefore text at opened
     × IsEnded text opened at)
 
+-- the text begins with `${`
 abbrev pub is_interpolation : List ℕ → Bool
 is_interpolation text = starts_with (λ a b. a == b) text (codes "${")
 

@@ -91,8 +91,8 @@ has_value_last pairs =
 abbrev pub sequence_text : List ℕ → List ℕ
 sequence_text text = if slice_index text 2 == tilde then drop 3 text else drop 2 text
 
--- a value ends with this text of a template sequence: neither a string nor another template sequence
--- can follow
+-- a value ends with this text of a template sequence: neither a string nor another template
+-- sequence can follow
 abbrev pub EndsInValue : List ℕ → Type 0
 EndsInValue text = (pairs : List Pair) × (last : List ℕ) × IsTokenization text pairs last
     × (has_value_last pairs ≡ true)
@@ -106,11 +106,11 @@ abbrev pub is_line_end : List ℕ → Bool
 is_line_end [] = true
 is_line_end (b ∷ rest) = b == line_feed || b == carriage_return
 
--- The template sequence that begins at `opened` is not closed before the quote at `at`, and no string
--- begins there: the sequence begins in the same line; or the line ends after the quote; or a value
--- ends before it.
-abbrev pub IsCutShort : List ℕ → ℕ → ℕ → Type 0
-IsCutShort text opened at =
+-- The template sequence that begins at `opened` is not closed before the quote at `at`, and no
+-- string begins there: the sequence begins in the same line; or the line ends after the quote; or a
+-- value ends before it.
+abbrev pub IsBlamed : List ℕ → ℕ → ℕ → Type 0
+IsBlamed text opened at =
     (list_any (λ b. b == line_feed) (between text opened at) ≡ false)
     ⊎ (is_line_end (drop 1 (drop at text)) ≡ true)
     ⊎ EndsInValue (sequence_text (between text opened at))

@@ -1,13 +1,13 @@
 //! The explanation of an error of a text that has tokens.
 
-ghost use Rattle.std.specs.Prelude.{◌≡◌, ◌≢◌, ◌<◌, ◌≤◌, Some, None, IfSome, IfNone, true, length};
+ghost use Rattle.std.specs.Prelude.{◌≡◌, ◌<◌, ◌≤◌, Some, None, IfSome, IfNone, true, length};
 ghost use Rattle.std.specs.Option.{option_map};
 ghost use Rattle.hcl_token.specs.TokenizedText.{kind_of};
 ghost use Rattle.hcl_token.specs.declared.kind.Kind.{Kind};
 ghost use Rattle.hcl_text_laws.specs.Faults.{byte_offset};
 ghost use Rattle.hcl_explain.specs.Openings.{closes, innermost_open, ClosesOuter};
 ghost use Rattle.hcl_explain.specs.Explanations.{IsExplanation, IsSyntaxExplanation, IsAtNoToken};
-ghost use Rattle.hcl_explain.specs.Explanations.{IsToken, IsOfFound};
+ghost use Rattle.hcl_explain.specs.Explanations.{IsToken, IsOfFound, IsOtherExplanation};
 ghost use Rattle.hcl_explain.specs.declared.explanation.Reason.TheVariants.{NotClosed};
 
 use crate::advice::{Advice, advice_for, is_else_if};
@@ -116,9 +116,7 @@ fn explain_in(scanned: &Scanned<'_>, opening: usize, found: usize) -> Explanatio
 /// opening.
 fn explain_at(scanned: &Scanned<'_>, opening: Option<usize>, found: usize) -> Explanation
     requires { innermost_open scanned.now.pairs found ≡ opening }
-    ensures found { result.found ≡ found }
-    ensures other { result.reason ≢ NotClosed }
-    ensures token { IsToken scanned.now.pairs result.reason result.token found }
+    ensures { IsOtherExplanation scanned.now.pairs found result }
 {
     let context = context_of(scanned, opening);
     if matches!(context, Context::Template) {
@@ -143,8 +141,7 @@ fn reason_at(
     found: usize,
 ) -> Reason
     requires { innermost_open scanned.now.pairs found ≡ opening }
-    ensures of_found { IsOfFound scanned.now.pairs result found }
-    ensures other { result ≢ NotClosed }
+    ensures { IsOfFound scanned.now.pairs result found }
 {
     let from = first_in(opening);
     if matches!(context, Context::Label) {
@@ -165,8 +162,7 @@ fn reason_at(
 
 /// Returns why token `found` can't be the word of a directive, in which another one is open.
 fn at_directive_word(scanned: &Scanned<'_>, found: usize) -> Reason
-    ensures of_found { IsOfFound scanned.now.pairs result found }
-    ensures other { result ≢ NotClosed }
+    ensures { IsOfFound scanned.now.pairs result found }
 {
     if is_else_if(scanned, found) {
         Reason::Advice(Advice::ElseIf)
@@ -203,9 +199,7 @@ fn is_closing(scanned: &Scanned<'_>, i: usize) -> bool
 
 /// Explains an error in literal text and directives, whose tokens begin with number `from`.
 fn in_template(scanned: &Scanned<'_>, from: usize, found: usize) -> Explanation
-    ensures found { result.found ≡ found }
-    ensures other { result.reason ≢ NotClosed }
-    ensures token { IsToken scanned.now.pairs result.reason result.token found }
+    ensures { IsOtherExplanation scanned.now.pairs found result }
 {
     match open_directive(scanned, from, found) {
         Some(token) => Explanation {

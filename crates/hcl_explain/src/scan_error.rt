@@ -3,7 +3,7 @@
 ghost use Rattle.std.specs.Prelude.{◌≡◌, IfOk, take, drop};
 ghost use Rattle.std.specs.Bool.{Decides};
 ghost use Rattle.hcl_explain.specs.Sequences as spec;
-ghost use Rattle.hcl_explain.specs.Sequences.{IsCutShort};
+ghost use Rattle.hcl_explain.specs.Sequences.{IsBlamed};
 ghost use Rattle.hcl_explain.specs.ScanExplanations.{IsScanExplanation, IsStringExplanation};
 ghost use Rattle.hcl_explain.specs.ScanExplanations.{IsCharacterExplanation, IsNestedExplanation};
 ghost use Rattle.hcl_explain.specs.ScanExplanations.{IsExplanationIn, of};
@@ -87,7 +87,7 @@ fn in_sequence(
 ) -> Result<ScanExplanation, AllocError>
     ensures { IfOk result (IsExplanationIn text.now at opened) }
 {
-    if is_cut_short(alloc, text, opened, at)? {
+    if is_blamed(alloc, text, opened, at)? {
         Ok(explanation(opened, ScanReason::Sequence))
     } else {
         Ok(explanation(at, ScanReason::String))
@@ -96,8 +96,8 @@ fn in_sequence(
 
 /// Whether the template sequence that begins at byte `opened` is the mistake, and not the string
 /// that begins at byte `at`.
-fn is_cut_short(alloc: Global, text: &[u8], opened: usize, at: usize) -> Result<bool, AllocError>
-    ensures { IfOk result (λ b. Decides b (IsCutShort text.now opened at)) }
+fn is_blamed(alloc: Global, text: &[u8], opened: usize, at: usize) -> Result<bool, AllocError>
+    ensures { IfOk result (λ b. Decides b (IsBlamed text.now opened at)) }
 {
     let sequence = bytes_from(prefix(text, at), opened);
     if !sequence.contains(&b'\n') {

@@ -10,7 +10,8 @@ loop-i-preserved c =
     let follows : j ≡ suc i = omega arith in
     let other : opens c.kind-kind.result ≡ false = cc in
     let neither : closes c.kind-kind.result ≡ false = cc in
-    let same = at_other c.args.scanned.now.pairs j i c.kind-kind.result follows c.kind-kind.ensures other neither in
+    let same = at_other c.args.scanned.now.pairs j i c.kind-kind.result follows
+    c.kind-kind.ensures other neither in
     record {
       within = omega arith;
       opened = ap (λ o. slice_get o c.loop-i.closed) (sym same) ∙ c.loop-i.invariant.opened;

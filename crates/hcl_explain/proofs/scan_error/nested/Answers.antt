@@ -11,12 +11,14 @@ returns-then-branch c =
     let opened = c.in-Some.opened in
     let is : c.in_ok-opened.field-0 ≡ Some opened = cc in
     let holds : c.in_ok-ends_in_value-in-Some.field-0 ≡ true = cc in
-    let ended = ended_is text before c.bytes_from.result.now c.args.at opened _ c.prefix-before.ensures
+    let ended = ended_is text before c.bytes_from.result.now c.args.at opened _
+    c.prefix-before.ensures
     c.bytes_from.ensures c.in_ok-ends_in_value-in-Some.ensures in
     inr (inr (
       opened,
       c.explanation.ensures,
-      opened_is text before c.args.at opened _ c.prefix-before.ensures is c.in_ok-opened.ensures.some,
+      opened_is text before c.args.at opened _ c.prefix-before.ensures is
+          c.in_ok-opened.ensures.some,
       ended.0 holds,
     ))
 
@@ -27,12 +29,14 @@ returns-else-branch c =
     let opened = c.in-Some.opened in
     let is : c.in_ok-opened.field-0 ≡ Some opened = cc in
     let not : c.in_ok-ends_in_value-in-Some.field-0 ≡ false = cc in
-    let ended = ended_is text before c.bytes_from.result.now c.args.at opened _ c.prefix-before.ensures
+    let ended = ended_is text before c.bytes_from.result.now c.args.at opened _
+    c.prefix-before.ensures
     c.bytes_from.ensures c.in_ok-ends_in_value-in-Some.ensures in
     inr (inl (
       opened,
       c.explanation-else-branch.ensures,
-      opened_is text before c.args.at opened _ c.prefix-before.ensures is c.in_ok-opened.ensures.some,
+      opened_is text before c.args.at opened _ c.prefix-before.ensures is
+          c.in_ok-opened.ensures.some,
       λ h. false≢true (sym not ∙ ended.1 h),
     ))
 

@@ -15,4 +15,4 @@ returns-in-None c =
     let is : c.in_ok-opened.field-0 ≡ None = cc in
     let none = none_is c.args.text.now c.prefix.result.now c.args.at _ c.prefix.ensures is
     c.in_ok-opened.ensures.none in
-    inl (c.explanation.ensures, λ opened is_open cut. none opened is_open)
+    inl (c.explanation.ensures, λ opened is_open blamed. none opened is_open)

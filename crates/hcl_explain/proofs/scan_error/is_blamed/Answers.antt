@@ -5,7 +5,7 @@ use Rattle.std.specs.List.{list_any}
 use Rattle.hcl_token.specs.Bytes.{line_feed}
 use Rattle.hcl_explain.specs.Sequences.{between, is_line_end, sequence_text, EndsInValue}
 use Rattle.hcl_explain.proofs.SequenceLemmas.{only_third}
-use Rattle.hcl_explain.proofs.scan_error.is_cut_short.Goals as goal
+use Rattle.hcl_explain.proofs.scan_error.is_blamed.Goals as goal
 
 pub returns : goal.returns
 returns c =
