@@ -1,5 +1,7 @@
 pub mod Common
 pub mod Handles
+pub mod Paths
+pub mod Reading
 pub mod Snapshots
 pub mod FileEffects
 pub mod Ends

@@ -1,6 +1,7 @@
 //! Makes the system calls that save one of the two files, and returns the replies to them.
 
 ghost use Rattle.std.specs.Prelude.{◌≡◌, string_bytes};
+ghost use Rattle.tf_files.specs.Paths.{text_folder, journal_folder};
 
 use crate::adoption::can_adopt;
 use crate::cause::{Cause, Reason, Subject};
@@ -65,6 +66,7 @@ impl<'a> PartFile<'a> {
         new_file: NewFile,
         starts_early: bool,
     ) -> PartFile<'a>
+        ensures folder { result.folder.now ≡ text_folder paths.now }
         ensures own { result.own.now ≡ string_bytes paths.now.text }
         ensures new { result.new.now ≡ string_bytes paths.now.new_text }
         ensures paths { result.paths.now ≡ paths.now }
@@ -95,6 +97,7 @@ impl<'a> PartFile<'a> {
         new_file: NewFile,
         starts_early: bool,
     ) -> PartFile<'a>
+        ensures folder { result.folder.now ≡ journal_folder paths.now }
         ensures own { result.own.now ≡ string_bytes paths.now.journal }
         ensures new { result.new.now ≡ string_bytes paths.now.new_journal }
         ensures paths { result.paths.now ≡ paths.now }
@@ -136,12 +139,31 @@ impl PartFile<'_> {
 
     /// Notes that another program has changed a file. Nothing of what was written is then to be
     /// reported.
-    pub fn note_change(&mut self) {
-        self.sent = 0;
-        self.cause = Some(Cause {
-            subject: Subject::File,
+    pub fn note_change(&mut self, subject: Subject) {
+        self.note_unlike(Some(Cause {
+            subject,
             reason: Reason::Changed,
-        });
+        }));
+    }
+
+    /// Notes why a file is not known to be as it was. Nothing of what was written is then to be
+    /// reported.
+    pub fn note_unlike(&mut self, cause: Option<Cause>) {
+        self.sent = 0;
+        self.cause = cause;
+    }
+
+    /// Returns which file the part's own one is.
+    pub fn own_subject(&self) -> Subject {
+        self.subject
+    }
+
+    /// Returns which file the part's new one is.
+    fn new_subject(&self) -> Subject {
+        match self.subject {
+            Subject::File => Subject::NewText,
+            _ => Subject::NewJournal,
+        }
     }
 }
 
@@ -157,7 +179,7 @@ pub fn make<R: SystemFiles>(
         Syscall::FindNew(_) => find_new(rt, file),
         Syscall::CreateNew(_) => create_new(rt, file),
         Syscall::CopyAttributes(part) => copy_attributes(rt, part, file),
-        Syscall::Write(part) => write(rt, part, file),
+        Syscall::Write(part) => write(rt, alloc, part, file),
         Syscall::Sync(_) => sync(file),
         Syscall::SyncDirectory(_) => file.folder.sync(),
         Syscall::CompareNew(_) => compare_new(rt, file),
@@ -183,7 +205,7 @@ pub fn reply_to<T: Drop>(answer: io::Result<T>) -> Reply {
 /// of a regular file, nor of a journal.
 fn open<R: SystemFiles>(rt: &R, file: &mut PartFile<'_>) -> Reply {
     if file.has_to_be_regular() && is_irregular(rt, file.own) {
-        file.note_change();
+        file.note_change(file.own_subject());
         return Reply::Failed;
     }
     let mut options = OpenOptions::new();
@@ -199,7 +221,7 @@ fn open<R: SystemFiles>(rt: &R, file: &mut PartFile<'_>) -> Reply {
 }
 
 /// Writes the bytes of the part into its new file, and keeps in `sent` how many were written.
-fn write<R: SystemFiles>(rt: &R, part: SavedFile, file: &mut PartFile<'_>) -> Reply {
+fn write<R: SystemFiles>(rt: &R, alloc: Global, part: SavedFile, file: &mut PartFile<'_>) -> Reply {
     let NewFile::Open(created) = &mut file.new_file else {
         return Reply::Failed;
     };
@@ -210,7 +232,7 @@ fn write<R: SystemFiles>(rt: &R, part: SavedFile, file: &mut PartFile<'_>) -> Re
         Ok(()) => {
             file.sent = file.bytes.len();
             if file.starts_early {
-                start_writing(rt, file);
+                start_writing(rt, alloc, created);
             }
             Reply::Done
         }
@@ -243,8 +265,12 @@ fn noted_reply(file: &mut PartFile<'_>, answer: io::Result<()>) -> Reply {
 fn compare_new<R: SystemFiles>(rt: &R, file: &mut PartFile<'_>) -> Reply {
     match find_own_new(rt, file) {
         Reply::Done => Reply::Done,
+        Reply::NotFound => {
+            file.note_change(file.new_subject());
+            Reply::Failed
+        }
         _ => {
-            file.note_change();
+            file.note_unlike(None);
             Reply::Failed
         }
     }
@@ -252,12 +278,20 @@ fn compare_new<R: SystemFiles>(rt: &R, file: &mut PartFile<'_>) -> Reply {
 
 /// Looks whether the file and its journal are as they were read.
 fn compare<R: SystemFiles>(rt: &R, file: &mut PartFile<'_>) -> Reply {
-    let now = Snapshots::of(rt, file.paths);
-    if now.is_some() && now == file.read {
-        Reply::Done
-    } else {
-        file.note_change();
-        Reply::Failed
+    let changed = match (Snapshots::of(rt, file.paths), file.read) {
+        (Ok(now), Some(read)) => now.changed_since(&read),
+        (Ok(_), None) => Some(Subject::File),
+        (Err(trouble), _) => {
+            file.note_unlike(trouble.cause);
+            return Reply::Failed;
+        }
+    };
+    match changed {
+        Some(subject) => {
+            file.note_change(subject);
+            Reply::Failed
+        }
+        None => Reply::Done,
     }
 }
 

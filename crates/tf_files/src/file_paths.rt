@@ -2,6 +2,7 @@
 
 ghost use Rattle.std.specs.Prelude.{◌≡◌, true, IfOk, IfErr, string_bytes};
 ghost use Rattle.tf_files.specs.Opening.{is_file_fault};
+ghost use Rattle.tf_files.specs.Paths.{text_folder, journal_folder};
 
 use crate::cause::{Reason, Subject, Trouble};
 use crate::folder::{Folder, SystemFiles};
@@ -99,7 +100,9 @@ impl FilePaths {
     }
 
     /// Returns the folder of the text.
-    pub fn text_folder(&self) -> &Folder {
+    pub fn text_folder(&self) -> &Folder
+        ensures { result.now ≡ text_folder self.now }
+    {
         match &self.places.text {
             Some(text) => &text.folder,
             None => &self.places.given.folder,
@@ -107,7 +110,9 @@ impl FilePaths {
     }
 
     /// Returns the folder of the journal.
-    pub fn journal_folder(&self) -> &Folder {
+    pub fn journal_folder(&self) -> &Folder
+        ensures { result.now ≡ journal_folder self.now }
+    {
         match &self.places.journal {
             Some(journal) => &journal.folder,
             None => &self.places.given.folder,
@@ -118,11 +123,11 @@ impl FilePaths {
     /// system does not say.
     pub fn shared_access(&self) -> Option<Access> {
         let folder = self.text_folder();
-        if folder.id() == self.journal_folder().id() {
-            folder.access()
-        } else {
-            None
-        }
+        let is_shared = match (&self.places.text, &self.places.journal) {
+            (None, None) => true,
+            _ => folder.id() == self.journal_folder().id(),
+        };
+        if is_shared { folder.access() } else { None }
     }
 
     /// Returns what is found under the path of the text. A link is followed only if what it leads to
@@ -321,14 +326,6 @@ impl Place {
         let link = Access::of(link);
         self.name.as_str().ends_with(JOURNAL)
             && (link.is_of(caller(rt)) || link.has_owner_of(&Access::of(file)))
-    }
-}
-
-/// Returns true only if the system reports that no file has this path.
-pub fn is_absent<R: SystemFiles>(rt: &R, path: &str) -> bool {
-    match fs::symlink_metadata(rt, path) {
-        Ok(_) => false,
-        Err(error) => is_not_found(&error),
     }
 }
 

@@ -1,7 +1,7 @@
 //! Folders that stay open: what is in them is reached through their handles, whatever has their
 //! names by then.
 
-ghost use Rattle.std.specs.Prelude.{◌≡◌, IfOk, IfErr, true, if◌then◌else◌, string_bytes};
+ghost use Rattle.std.specs.Prelude.{◌≡◌, IfOk, IfErr, is_some, true, if◌then◌else◌, string_bytes};
 ghost use Rattle.tf_files.specs.Handles.{handle_path};
 ghost use Rattle.tf_files.specs.Opening.{is_file_fault};
 
@@ -62,11 +62,12 @@ impl Folder {
         handle: File,
         name: String,
     ) -> Result<Folder, AllocError> {
-        let shown = handle_path(alloc, handle.as_raw_fd().unsigned_abs())?;
-        let is_shown = match (handle.metadata(), fs::metadata(rt, &shown)) {
+        let path = handle_path(alloc, &handle)?;
+        let is_shown = match (handle.metadata(), fs::metadata(rt, &path)) {
             (Ok(opened), Ok(found)) => FileId::of(&opened) == FileId::of(&found),
             _ => false,
         };
+        let shown = format!(in alloc; "{path}/")?;
         Ok(Folder {
             handle: Some(handle),
             prefix: prefix_of(shown, name, is_shown),
@@ -91,7 +92,9 @@ impl Folder {
     }
 
     /// Returns whether it could be opened: else its name may lead to another folder at each call.
-    pub fn is_open(&self) -> bool {
+    pub fn is_open(&self) -> bool
+        ensures { result ≡ is_some self.now.handle }
+    {
         self.handle.is_some()
     }
 
@@ -126,9 +129,14 @@ fn prefix_of(shown: String, name: String, is_shown: bool) -> String
     if is_shown { shown } else { name }
 }
 
-/// Returns the path that the system shows for the open folder with this number.
-fn handle_path(alloc: Global, number: u32) -> Result<String, AllocError>
+/// Returns the path that the system shows for an open file or folder.
+pub fn handle_path(alloc: Global, handle: &File) -> Result<String, AllocError> {
+    numbered_path(alloc, handle.as_raw_fd().unsigned_abs())
+}
+
+/// Returns the path that the system shows for the open file or folder with this number.
+fn numbered_path(alloc: Global, number: u32) -> Result<String, AllocError>
     ensures { IfOk result (λ path. string_bytes path ≡ handle_path number) }
 {
-    format!(in alloc; "/proc/self/fd/{number}/")
+    format!(in alloc; "/proc/self/fd/{number}")
 }

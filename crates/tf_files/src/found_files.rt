@@ -1,11 +1,11 @@
 //! Whether two files, with their journals, have anything in common.
 
 ghost use Rattle.std.specs.Prelude.{◌≡◌, ◌↔◌, true};
-ghost use Rattle.tf_files.specs.Common.{IsFileOf, IsSomeFileOf, HaveCommon};
+ghost use Rattle.tf_files.specs.Common.{IsFileOf, IsSomeFileOf, HaveCommon, files_read};
 
-use crate::file_paths::{FilePaths, is_absent, is_not_found};
+use crate::file_paths::{FilePaths, is_not_found};
 use crate::folder::SystemFiles;
-use std::alloc::Global;
+use crate::snapshot::Snapshots;
 use std::fs::{self, Metadata, OpenFile};
 use std::os::unix::fs::MetadataExt;
 
@@ -45,20 +45,13 @@ pub struct FoundFiles {
 }
 
 impl FoundFiles {
-    /// Returns the files of a file with this name. None where the text, or a journal that is there,
-    /// is no regular file, or the system does not say, or memory runs out: then it may have
-    /// anything in common with others.
-    pub fn of_name<R: SystemFiles>(rt: &R, alloc: Global, name: &str) -> Option<FoundFiles> {
-        match FilePaths::of(rt, alloc, name) {
-            Ok(paths) => FoundFiles::of(rt, &paths),
-            Err(_) => None,
-        }
-    }
-
     /// Returns the files at these paths. None where the text, or a journal that is there, is no
-    /// regular file, or the system does not say.
+    /// regular file, or the system does not say: then it may have anything in common with others.
     pub fn of<R: SystemFiles>(rt: &R, paths: &FilePaths) -> Option<FoundFiles> {
-        let text = regular_file(rt, &paths.text)?;
+        let text = match paths.look_at_text(rt) {
+            Ok(found) => regular_file(&found)?,
+            Err(_) => return None,
+        };
         let journal = journal_file(rt, &paths.journal)?;
         let new_text = new_file(rt, &paths.new_text)?;
         let new_journal = new_file(rt, &paths.new_journal)?;
@@ -67,6 +60,25 @@ impl FoundFiles {
             journal,
             new_text,
             new_journal,
+        })
+    }
+
+    /// Returns the files of a text and a journal that were read, where there are no new files. None
+    /// as for [`FoundFiles::of`].
+    pub fn of_read(seen: Option<Snapshots>) -> Option<FoundFiles>
+        ensures { result ≡ files_read seen }
+    {
+        let Snapshots { text, journal } = seen?;
+        let text = text.regular_id()?;
+        let journal = match journal {
+            Some(journal) => Some(journal.regular_id()?),
+            None => None,
+        };
+        Some(FoundFiles {
+            text,
+            journal,
+            new_text: None,
+            new_journal: None,
         })
     }
 
@@ -101,21 +113,18 @@ impl FoundFiles {
     }
 }
 
-/// Returns the id of the file that this name leads to, if it is a regular one.
-fn regular_file<R: SystemFiles>(rt: &R, name: &str) -> Option<FileId> {
-    match fs::metadata(rt, name) {
-        Ok(found) if found.is_file() => Some(FileId::of(&found)),
-        _ => None,
-    }
+/// Returns the id of a file of which this was found, if it is a regular one.
+fn regular_file(found: &Metadata) -> Option<FileId> {
+    found.is_file().then_some(FileId::of(found))
 }
 
 /// Returns the id of a journal, or `Some(None)` if nothing has its name; none where something else
-/// has, such as a link to nothing, or the system does not say.
+/// has, such as a link, or the system does not say.
 fn journal_file<R: SystemFiles>(rt: &R, name: &str) -> Option<Option<FileId>> {
-    if is_absent(rt, name) {
-        Some(None)
-    } else {
-        regular_file(rt, name).map(Some)
+    match fs::symlink_metadata(rt, name) {
+        Ok(found) => regular_file(&found).map(Some),
+        Err(error) if is_not_found(&error) => Some(None),
+        Err(_) => None,
     }
 }
 

@@ -44,17 +44,20 @@ pub struct FileFault {
 }
 
 impl JournaledFile {
-    /// Recovers from a command that was interrupted, then reads both.
+    /// Recovers from a command that was interrupted, then reads both files at these paths.
     ///
     /// # Errors
     ///
     /// Those of [`recover`] and of `load` of tf_session, for a file that can't be opened as for one
     /// that can't be read: `Read`. `Memory`.
-    pub fn open<R: SystemFiles>(rt: &R, alloc: Global, name: &str) -> Result<JournaledFile, Trouble>
-        ensures name { IfOk result (λ file. string_bytes file.paths.name ≡ name.now) }
+    pub fn open<R: SystemFiles>(
+        rt: &R,
+        alloc: Global,
+        paths: FilePaths,
+    ) -> Result<JournaledFile, Trouble>
+        ensures paths { IfOk result (λ file. file.paths ≡ paths) }
         ensures fault { IfErr result (λ trouble. is_file_fault trouble.fault ≡ true) }
     {
-        let paths = FilePaths::of(rt, alloc, name)?;
         recover_left(rt, alloc, &paths)?;
         let contents = read(rt, alloc, &paths)?;
         Ok(JournaledFile { paths, contents })
@@ -66,12 +69,7 @@ impl JournaledFile {
     /// # Errors
     ///
     /// As those of [`tf_session::invoke`]: nothing is to be saved.
-    pub fn change<R: SystemFiles>(
-        self,
-        rt: &R,
-        alloc: Global,
-        command: Command,
-    ) -> Result<FileEffect, FileFault>
+    pub fn change(self, alloc: Global, command: Command) -> Result<FileEffect, FileFault>
         ensures effect { IfOk result (HasEffectOnFile command self) }
         ensures fault { IfErr result (λ refused. HasNoEffectOnFile command self refused.fault) }
         ensures text { IfErr result (λ refused. is_limit refused.fault ≡ false
@@ -87,7 +85,7 @@ impl JournaledFile {
             Ok(Effect { done, saved, lines }) => Ok(FileEffect {
                 done,
                 lines,
-                file: to_save(rt, paths, seen, saved),
+                file: to_save(paths, seen, saved),
             }),
             Err(fault) => Err(FileFault { fault, text }),
         }
@@ -95,8 +93,7 @@ impl JournaledFile {
 }
 
 /// Returns the file with the texts that are to be saved, if there are any.
-fn to_save<R: SystemFiles>(
-    rt: &R,
+fn to_save(
     paths: FilePaths,
     read: Option<Snapshots>,
     saved: Option<SavedTexts>,
@@ -105,7 +102,7 @@ fn to_save<R: SystemFiles>(
 {
     let SavedTexts { text, journal } = saved?;
     let found = if paths.text_folder().can_open_more() {
-        FoundFiles::of(rt, &paths)
+        FoundFiles::of_read(read)
     } else {
         None
     };

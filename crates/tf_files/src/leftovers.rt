@@ -1,9 +1,11 @@
 //! What an interrupted command has left beside a file, and which files there are taken for a
 //! journal or a new file.
 
-ghost use Rattle.std.specs.Prelude.{◌≡◌, true, is_none, IfErr};
-ghost use Rattle.std.specs.Fs.{file_type, IsFile};
+ghost use Rattle.std.specs.Prelude.{◌≡◌, ◌↔◌, ℕ, Option, true, is_none, IfErr};
+ghost use Rattle.std.specs.Fs.{file_type, metadata_mode, IsFile};
 ghost use Rattle.tf_files.specs.Opening.{is_file_fault};
+ghost use Rattle.tf_files.specs.Trust.{is_trusted};
+ghost use Rattle.tf_files.specs.declared.trust.Access.{Access};
 
 use crate::cause::{Reason, Subject, Trouble};
 use crate::file_paths::{FilePaths, is_not_found};
@@ -152,20 +154,36 @@ fn is_of_journal_owner<R: SystemFiles>(
     }
 }
 
-/// Returns why what was found may not be taken for a journal or a new file; none if it may: it is a
-/// regular file, and nobody can have written it who may not write the text.
+/// Returns why what was found may not be taken for a journal or a new file; none if it may.
 pub fn refusal<R: SystemFiles>(
     rt: &R,
     paths: &FilePaths,
     found: &Metadata,
     text: &Access,
 ) -> Option<Reason>
-    ensures { is_none result ≡ true → IsFile (file_type found.now) }
+    ensures { (file : Access) × (file.mode ≡ metadata_mode found.now) × (folder : Option Access)
+        × (caller : Option ℕ) × (is_none result ≡ true
+        ↔ IsFile (file_type found.now) × (is_trusted file text.now folder caller ≡ true)) }
+{
+    refusal_by(found, text, paths.shared_access(), caller(rt))
+}
+
+/// Returns why what was found may not be taken for a journal or a new file, in a folder of which
+/// this is known, if the caller is this user; none if it may: it is a regular file, and nobody can
+/// have written it who may not write the text.
+fn refusal_by(
+    found: &Metadata,
+    text: &Access,
+    folder: Option<Access>,
+    caller: Option<u32>,
+) -> Option<Reason>
+    ensures { (file : Access) × (file.mode ≡ metadata_mode found.now) × (is_none result ≡ true
+        ↔ IsFile (file_type found.now) × (is_trusted file text.now folder caller ≡ true)) }
 {
     if !found.is_file() {
         return Some(Reason::NotRegular);
     }
-    if is_trusted(&Access::of(found), text, paths.shared_access(), caller(rt)) {
+    if is_trusted(&Access::of(found), text, folder, caller) {
         None
     } else {
         Some(Reason::OfAnotherUser)

@@ -21,6 +21,7 @@ mod trust;
 
 pub use cause::{Cause, Reason, Subject, Trouble};
 pub use changed_file::{ChangedFile, save_together};
+pub use file_paths::FilePaths;
 pub use folder::SystemFiles;
 pub use found_files::FoundFiles;
 pub use journaled_file::{FileEffect, FileFault, JournaledFile, load_read_only};

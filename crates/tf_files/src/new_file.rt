@@ -5,10 +5,11 @@ ghost use Rattle.tf_files.specs.Modes.{first_journal_mode};
 
 use crate::calls::{NewFile, PartFile, reply_to};
 use crate::file_paths::{FilePaths, is_not_found};
-use crate::folder::SystemFiles;
+use crate::folder::{SystemFiles, handle_path};
 use crate::found_files::FileId;
 use crate::leftovers::Found;
 use crate::snapshot::Snapshot;
+use std::alloc::Global;
 use std::fs::{self, File, Metadata, OpenFile, OpenOptions, Permissions};
 use std::io::{self, ErrorKind, Seek, Write};
 use std::os::unix::fs::{MetadataExt, OpenOptionsExt, PermissionsExt, fchown};
@@ -93,22 +94,30 @@ fn is_ruled_out(error: &io::Error) -> bool {
 /// new file is to have here, such as root's.
 pub fn copy_attributes<R: SystemFiles>(rt: &R, part: SavedFile, file: &mut PartFile<'_>) -> Reply {
     match copy_found_attributes(rt, part, file) {
-        Some(reply) => reply,
-        None => {
-            file.note_change();
+        Ok(Some(reply)) => reply,
+        Ok(None) => {
+            file.note_change(file.own_subject());
+            Reply::Failed
+        }
+        Err(error) => {
+            file.note(&error);
             Reply::Failed
         }
     }
 }
 
 /// Copies the attributes of the old file; none if that is not the one that was read.
+///
+/// # Errors
+///
+/// That of the look at the old file.
 fn copy_found_attributes<R: SystemFiles>(
     rt: &R,
     part: SavedFile,
     file: &PartFile<'_>,
-) -> Option<Reply> {
+) -> io::Result<Option<Reply>> {
     let (Some(read), NewFile::Open(created)) = (file.read, &file.new_file) else {
-        return Some(Reply::Failed);
+        return Ok(Some(Reply::Failed));
     };
     match (part, read.journal) {
         (SavedFile::Text, _) => make_like(rt, file.own, read.text, created),
@@ -119,16 +128,27 @@ fn copy_found_attributes<R: SystemFiles>(
 
 /// Gives the new file the owner, group and mode of a file that was read; none if that is another one
 /// now. The owner comes first, since a change of it takes bits of the mode away.
-fn make_like<R: SystemFiles>(rt: &R, path: &str, seen: Snapshot, created: &File) -> Option<Reply> {
-    match fs::symlink_metadata(rt, path) {
-        Ok(old) if Snapshot::of_found(&old) == seen => match copy_owner(&old, created) {
-            Reply::Done => Some(set_permissions(created, old.permissions())),
-            reply => Some(reply),
-        },
-        // another command has renamed the new file to the part: its bytes have to follow
-        Ok(old) if is_created(&old, created) => Some(Reply::Done),
-        _ => None,
+///
+/// # Errors
+///
+/// That of the look at the file.
+fn make_like<R: SystemFiles>(
+    rt: &R,
+    path: &str,
+    seen: Snapshot,
+    created: &File,
+) -> io::Result<Option<Reply>> {
+    let Some(old) = unless_gone(fs::symlink_metadata(rt, path))? else {
+        return Ok(None);
+    };
+    if Snapshot::of_found(&old) == seen {
+        return Ok(Some(match copy_owner(&old, created) {
+            Reply::Done => set_permissions(created, old.permissions()),
+            reply => reply,
+        }));
     }
+    // another command has renamed the new file to the part: its bytes have to follow
+    Ok(is_created(&old, created).then_some(Reply::Done))
 }
 
 /// Returns whether what was found is the new file itself.
@@ -161,19 +181,39 @@ fn reply_to_owner(answer: io::Result<()>) -> Reply {
 
 /// Gives a first journal the owner and group of the text's file, and of its mode what a journal
 /// needs; none if that file is another one now.
+///
+/// # Errors
+///
+/// That of the look at the text's file.
 fn make_first_journal<R: SystemFiles>(
     rt: &R,
     paths: &FilePaths,
     seen: Snapshot,
     created: &File,
-) -> Option<Reply> {
-    let text = find_seen_text(rt, paths, seen)?;
-    match copy_owner(&text, created) {
+) -> io::Result<Option<Reply>> {
+    let text = match unless_gone(paths.look_at_text(rt))? {
+        Some(text) if Snapshot::of_found(&text) == seen => text,
+        _ => return Ok(None),
+    };
+    Ok(Some(match copy_owner(&text, created) {
         Reply::Done => {
             let mode = first_journal_mode(text.permissions().mode(), true, true);
-            Some(set_permissions(created, Permissions::from_mode(mode)))
+            set_permissions(created, Permissions::from_mode(mode))
         }
-        reply => Some(reply),
+        reply => reply,
+    }))
+}
+
+/// Returns what a look has found; none if the file is gone.
+///
+/// # Errors
+///
+/// Any other one of the look.
+fn unless_gone(look: io::Result<Metadata>) -> io::Result<Option<Metadata>> {
+    match look {
+        Ok(found) => Ok(Some(found)),
+        Err(error) if is_not_found(&error) => Ok(None),
+        Err(error) => Err(error),
     }
 }
 
@@ -185,19 +225,14 @@ pub fn adapt_first_journal<R: SystemFiles>(
     seen: Snapshot,
     created: &File,
 ) {
-    if let Some(text) = find_seen_text(rt, paths, seen) {
+    let Ok(text) = paths.look_at_text(rt) else {
+        return;
+    };
+    if Snapshot::of_found(&text) == seen {
         let has_owner = matches!(copy_owner(&text, created), Reply::Done);
         let has_group = has_owner || fchown(created, None, Some(text.gid())).is_ok();
         let mode = first_journal_mode(text.permissions().mode(), has_owner, has_group);
         let _ = set_permissions(created, Permissions::from_mode(mode));
-    }
-}
-
-/// Returns what is found of the text, if it is the file that was seen.
-fn find_seen_text<R: SystemFiles>(rt: &R, paths: &FilePaths, seen: Snapshot) -> Option<Metadata> {
-    match paths.look_at_text(rt) {
-        Ok(text) if Snapshot::of_found(&text) == seen => Some(text),
-        _ => None,
     }
 }
 
@@ -238,11 +273,11 @@ pub fn truncate<F: Write + Seek + OpenFile>(file: &mut F) -> io::Result<()> {
 }
 
 /// Has the system start to write out the new file, which was emptied before it was written, by
-/// closing a handle to it. A sync then finds less to wait for, or nothing. Where it fails, that
-/// sync only takes longer.
-pub fn start_writing<R: SystemFiles>(rt: &R, file: &PartFile<'_>) {
-    if matches!(find_own_new(rt, file), Reply::Done) {
-        let _ = fs::open(rt, file.new);
+/// closing a second handle to it. A sync then finds less to wait for, or nothing. Where it fails,
+/// that sync only takes longer.
+pub fn start_writing<R: SystemFiles>(rt: &R, alloc: Global, created: &File) {
+    if let Ok(path) = handle_path(alloc, created) {
+        let _ = fs::open(rt, &path);
     }
 }
 

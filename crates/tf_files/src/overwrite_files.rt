@@ -1,6 +1,6 @@
 //! Writes a text and its journal in place, where no new files can replace them.
 
-use crate::cause::{Cause, Reason, Subject, Trouble};
+use crate::cause::{Cause, Reason, Trouble};
 use crate::file_part::{Unwritten, subject_of, unwritten_part, write_fault, write_part};
 use crate::file_paths::FilePaths;
 use crate::folder::SystemFiles;
@@ -143,7 +143,7 @@ fn put_part(part: SessionPart, bytes: &[u8], file: &mut File) -> Result<(), Trou
 /// Returns the error that another program has changed a file, of which nothing was written.
 fn changed(part: SessionPart) -> Trouble {
     let cause = Cause {
-        subject: Subject::File,
+        subject: subject_of(part),
         reason: Reason::Changed,
     };
     unwritten_part(part, 0, Some(cause))

@@ -1,7 +1,8 @@
 //! Reads a file and its journal.
 
-ghost use Rattle.std.specs.Prelude.{◌≡◌, true, IfErr};
+ghost use Rattle.std.specs.Prelude.{◌≡◌, ◌⊎◌, true, IfOk, IfErr};
 ghost use Rattle.tf_files.specs.Opening.{is_file_fault};
+ghost use Rattle.tf_files.specs.Reading.{IsAllOf, IsTextFault, IsJournalFault};
 
 use crate::cause::{Reason, Subject, Trouble};
 use crate::file_paths::FilePaths;
@@ -76,6 +77,7 @@ pub fn read_with<R: SystemFiles>(
     let text = open_to_read(rt, &paths.text)?;
     read_both(alloc, text, journal, None)
 }
+
 /// Opens a file to be read.
 ///
 /// # Errors
@@ -136,7 +138,12 @@ fn read_both<T: Read + Drop, J: Read + Drop>(
     journal: J,
     seen: Option<Snapshots>,
 ) -> Result<ReadContents, Trouble>
-    ensures { IfErr result (λ trouble. is_file_fault trouble.fault ≡ true) }
+    ensures text { IfOk result (λ read. IsAllOf (T.remaining text) read.text.items) }
+    ensures journal { IfOk result (λ read. IsAllOf (J.remaining journal) read.journal.items) }
+    ensures seen { IfOk result (λ read. read.seen ≡ seen) }
+    ensures why { IfErr result (λ trouble. IsTextFault (T.remaining text) trouble.fault
+        ⊎ IsJournalFault (J.remaining journal) trouble.fault) }
+    ensures fault { IfErr result (λ trouble. is_file_fault trouble.fault ≡ true) }
 {
     let text = take_text(alloc, &mut Told::new(text))?;
     let journal = take_journal(alloc, &mut Told::new(journal))?;

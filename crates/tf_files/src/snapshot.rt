@@ -1,7 +1,9 @@
 //! Whether a file or its journal has changed.
-ghost use Rattle.std.specs.Prelude.{◌≡◌, is_some};
+ghost use Rattle.std.specs.Prelude.{◌≡◌, is_some, is_none};
+ghost use Rattle.tf_files.specs.Common.{regular_id};
 ghost use Rattle.tf_files.specs.Snapshots.{snapshots_of, snapshots_of_text};
 
+use crate::cause::{Reason, Subject, Trouble};
 use crate::file_paths::{FilePaths, is_not_found};
 use crate::folder::SystemFiles;
 use crate::found_files::FileId;
@@ -56,6 +58,13 @@ impl Snapshot {
     {
         self.regular.is_some()
     }
+
+    /// Returns the id of the file, if it is a regular one.
+    pub fn regular_id(&self) -> Option<FileId>
+        ensures { result ≡ regular_id self.now }
+    {
+        self.is_regular().then_some(self.id)
+    }
 }
 
 /// A file and its journal at a moment. Both are compared: the text may be another command's and the
@@ -94,20 +103,40 @@ impl Snapshots {
         }
     }
 
-    /// Returns the snapshots of what has both names now; none if the system does not say. The text
-    /// comes last, since it is renamed right after it was compared.
-    pub fn of<R: SystemFiles>(rt: &R, paths: &FilePaths) -> Option<Snapshots> {
+    /// Returns the snapshots of what has both names now. The text comes last, since it is renamed
+    /// right after it was compared.
+    ///
+    /// # Errors
+    ///
+    /// `Read` if the system does not say, or the text is gone.
+    pub fn of<R: SystemFiles>(rt: &R, paths: &FilePaths) -> Result<Snapshots, Trouble> {
         let journal = match fs::symlink_metadata(rt, &paths.journal) {
             Ok(found) => Some(Snapshot::of_found(&found)),
             Err(error) if is_not_found(&error) => None,
-            Err(_) => return None,
+            Err(error) => return Err(Trouble::unread_after(Subject::Journal, &error)),
         };
         match paths.look_at_text(rt) {
-            Ok(found) => Some(Snapshots {
+            Ok(found) => Ok(Snapshots {
                 text: Snapshot::of_found(&found),
                 journal,
             }),
-            Err(_) => None,
+            Err(error) if is_not_found(&error) => {
+                Err(Trouble::unread(Subject::File, Reason::Changed))
+            }
+            Err(error) => Err(Trouble::unread_after(Subject::File, &error)),
+        }
+    }
+
+    /// Returns which of the two has changed since these snapshots, if one has.
+    pub fn changed_since(&self, read: &Snapshots) -> Option<Subject>
+        ensures { is_none result ≡ ⟦<Snapshots as PartialEq>⟧.eq self.now read.now }
+    {
+        if self == read {
+            None
+        } else if self.journal == read.journal {
+            Some(Subject::File)
+        } else {
+            Some(Subject::Journal)
         }
     }
 }

@@ -1,6 +1,6 @@
 -- What an action does to each file that it is given, and to standard input.
 use Rattle.std.specs.Prelude.{◌≡◌, ◌≤◌, ◌⊎◌, ℕ, Bool, true, false, List, [], ◌++◌, codes, Option, Some, None}
-use Rattle.std.specs.Prelude.{if◌then◌else◌, string_bytes, IfSome}
+use Rattle.std.specs.Prelude.{if◌then◌else◌, string_bytes, IfSome, Result, IfOk, IfErr}
 use Rattle.tf_cli.specs.Arguments.{is_dash}
 use Rattle.tf_cli.specs.declared.exits.Exit.{Exit}
 use Rattle.tf_cli.specs.declared.options.Action.{Action}
@@ -15,6 +15,8 @@ use Rattle.tf_session.specs.Streaming.{StepStreamFault, CheckStreamFault}
 use Rattle.tf_session.specs.Streams.{IsReadStreamFault, IsWriteFault}
 use Rattle.tf_files.specs.FileEffects.{HasEffectOnFile, HasNoEffectOnFile}
 use Rattle.tf_files.specs.Opening.{is_file_fault}
+use Rattle.tf_files.specs.declared.cause.Trouble.{Trouble}
+use Rattle.tf_files.specs.declared.file_paths.FilePaths.{FilePaths}
 use Rattle.tf_files.specs.declared.journaled_file.FileEffect.{FileEffect}
 use Rattle.tf_files.specs.declared.journaled_file.JournaledFile.{JournaledFile}
 use Rattle.tf_program.specs.Inputs.{IsOutcomeOf, FormatsInput, ChecksInput, LintsInput, FixesInput}
@@ -51,6 +53,12 @@ IsMadeOf command file made =
     (effect : FileEffect) × HasEffectOnFile command file effect
     × IsOutcomeOf made.outcome effect.done.left
     × (made.lines ≡ effect.lines) × (made.file ≡ effect.file)
+
+-- the paths of the file of this name, or an error of files
+abbrev pub IsFound : List ℕ → Result FilePaths Trouble → Type 0
+IsFound name found =
+    IfOk found (λ paths. string_bytes paths.name ≡ name)
+    × IfErr found (λ trouble. is_file_fault trouble.fault ≡ true)
 
 -- what a command made of a file with this name
 abbrev pub IsMadeOfName : Command → List ℕ → Made → Type 0

@@ -1,7 +1,8 @@
 //! Files that a command changes: many are saved at once, and all are reported in the order in which
 //! they were given.
 
-ghost use Rattle.std.specs.Prelude.{◌≡◌, ◌+◌, ◌<◌, ◌≤◌, ◌↔◌, true, [], ◌∷◌, length, vec_len};
+ghost use Rattle.std.specs.Prelude.{◌≡◌, ◌+◌, ◌<◌, ◌≤◌, ◌↔◌, true, [], ◌∷◌, IfSome, length, vec_len};
+ghost use Rattle.tf_program.specs.Work.{IsFound};
 ghost use Rattle.tf_program.specs.Batches.{IsNoted, IsFaultNoted, IsEntryNoted, AreNoted};
 ghost use Rattle.tf_program.specs.Batches.{HasNext, ReportsRest};
 ghost use Rattle.tf_program.specs.Batches.{Notes, IsEntryOf, PutsIn, IsStart};
@@ -13,7 +14,7 @@ use std::alloc::{AllocError, Global};
 use std::io::Write;
 use std::mem;
 use tf_cli::{FileOutcome, RunOutcome, Task};
-use tf_files::{Attempt, ChangedFile, FoundFiles, SystemFiles, save_together};
+use tf_files::{Attempt, ChangedFile, FilePaths, FoundFiles, SystemFiles, Trouble, save_together};
 use tf_session::{Command, RunFault};
 
 /// How many files are held at most. More would hardly save any wait; and while a file is saved, two
@@ -73,12 +74,13 @@ impl<'a> Batch<'a> {
         ensures entries { PutsIn command name.now self.old self.new }
         ensures locate { self.new.locate ≡ self.old.locate }
     {
-        self.admit(rt, name, output, faults);
-        let entry = self.make(rt, command, name, output, faults);
+        let paths = self.admit(rt, name, output, faults);
+        let entry = self.make(rt, command, name, paths, output, faults);
         self.add(rt, entry, output, faults);
     }
 
-    /// Saves what is held, unless a file of this name may be read before that.
+    /// Opens the folders of a file of this name, and saves what is held, unless the file may be read
+    /// before that.
     #[tactic(auto, using(crate::proofs::Holding::none_noted))]
     fn admit<R: SystemFiles, O: Write, F: Write>(
         &mut self,
@@ -86,27 +88,43 @@ impl<'a> Batch<'a> {
         name: &str,
         output: &mut O,
         faults: &mut F,
-    )
+    ) -> Result<FilePaths, Trouble>
         requires { vec_len self.old.entries ≤ self.old.outcome.left }
+        ensures found { IsFound name.now result }
         ensures reported { ReportsRest 0 self.old self.new }
         ensures notes { Notes [] self.old self.new }
         ensures locate { self.new.locate ≡ self.old.locate }
         ensures apart { Admits self.new }
     {
-        if self.admits(rt, name) {
-            return;
+        if let Some(paths) = self.admitted(rt, name) {
+            return paths;
         }
         self.finish(rt, output, faults);
+        // a link may lead elsewhere by now
+        FilePaths::of(rt, self.alloc, name)
     }
 
-    /// Returns whether a file of this name may be read before those that are held are saved.
-    fn admits<R: SystemFiles>(&self, rt: &R, name: &str) -> bool
+    /// Returns the paths of a file of this name, if it may be read before those that are held are
+    /// saved.
+    fn admitted<R: SystemFiles>(&self, rt: &R, name: &str) -> Option<Result<FilePaths, Trouble>>
+        ensures found { IfSome result (IsFound name.now) }
+        ensures apart { IfSome result (λ paths. Admits self.now) }
+    {
+        let paths = FilePaths::of(rt, self.alloc, name);
+        self.admits(rt, &paths).then_some(paths)
+    }
+
+    /// Returns whether the file at these paths may be read before those that are held are saved.
+    fn admits<R: SystemFiles>(&self, rt: &R, paths: &Result<FilePaths, Trouble>) -> bool
         ensures { result ≡ true → Admits self.now }
     {
         if self.entries.is_empty() {
             return true;
         }
-        match FoundFiles::of_name(rt, self.alloc, name) {
+        let Ok(paths) = paths else {
+            return false;
+        };
+        match FoundFiles::of(rt, paths) {
             Some(found) => none_may_share(&self.entries, &found),
             None => false,
         }
@@ -120,9 +138,11 @@ impl<'a> Batch<'a> {
         rt: &R,
         command: Command,
         name: &'a str,
+        paths: Result<FilePaths, Trouble>,
         output: &mut O,
         faults: &mut F,
     ) -> Entry<'a>
+        requires found { IsFound name.now paths }
         requires within { vec_len self.old.entries ≤ self.old.outcome.left }
         requires apart { Admits self.old }
         ensures made { IsEntryOf command name.now self.old.locate result }
@@ -131,7 +151,7 @@ impl<'a> Batch<'a> {
         ensures locate { self.new.locate ≡ self.old.locate }
     {
         let locate = self.locate;
-        let made = change_file(rt, self.alloc, command, name, locate);
+        let made = change_file(rt, self.alloc, command, name, paths, locate);
         if self.entries.is_empty() {
             return Entry { name, made };
         }
@@ -140,7 +160,8 @@ impl<'a> Batch<'a> {
         }
         // once those are saved there is more memory, and more files can be opened
         self.finish(rt, output, faults);
-        let made = change_file(rt, self.alloc, command, name, locate);
+        let paths = FilePaths::of(rt, self.alloc, name);
+        let made = change_file(rt, self.alloc, command, name, paths, locate);
         Entry { name, made }
     }
 
@@ -341,7 +362,7 @@ impl<'a> Batch<'a> {
     {
         match &entry.made {
             Ok(made) => {
-                let met = made.save_and_report(rt, self.alloc, attempt, output);
+                let met = made.finish(rt, self.alloc, attempt, output);
                 self.note(entry.name, met, faults);
             }
             Err(error) => self.note_error(entry.name, error, faults),

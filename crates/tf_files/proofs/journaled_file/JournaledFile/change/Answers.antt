@@ -5,11 +5,11 @@ use Rattle.tf_session.specs.Invocations.{HasEffect}
 use Rattle.tf_files.proofs.journaled_file.JournaledFile.change.Goals as goal
 
 pub returns-in-Ok-clause-effect : goal.returns-in-Ok-clause-effect
-returns-in-Ok-clause-effect g c =
+returns-in-Ok-clause-effect c =
     let effect = c.in-Ok.field-0 in
     let name : c.deref.result.now ≡ string_bytes c.args.self.paths.name = search rules in
     let has = subst (λ (s : List ℕ). HasEffect c.args.command s c.args.self.contents.text.items c.args.self.contents.journal.items effect) name c.in-Ok.ensures.effect in
     (effect, has, refl, refl, c.to_save.ensures)
 
 pub returns-in-Err-clause-text : goal.returns-in-Err-clause-text
-returns-in-Err-clause-text g c = c.in-Err.ensures.text
+returns-in-Err-clause-text c = c.in-Err.ensures.text

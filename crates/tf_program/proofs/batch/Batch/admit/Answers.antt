@@ -2,8 +2,5 @@
 use Rattle.std.proofs.Common.{inl}
 use Rattle.tf_program.proofs.batch.Batch.admit.Goals as goal
 
-pub returns-then-admits-clause-apart : goal.returns-then-admits-clause-apart
-returns-then-admits-clause-apart g c = c.admits.ensures c.if-admits.true
-
 pub returns-clause-apart : goal.returns-clause-apart
 returns-clause-apart g c = inl c.finish.ensures.none

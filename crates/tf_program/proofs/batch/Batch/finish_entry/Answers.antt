@@ -4,4 +4,4 @@ use Rattle.tf_program.proofs.batch.Batch.finish_entry.Goals as goal
 
 pub returns-in-Ok-clause-noted : goal.returns-in-Ok-clause-noted
 returns-in-Ok-clause-noted g c =
-    rw c.in-Ok.is (noted_of c.in-Ok.made c.save_and_report-met.result _ _ c.save_and_report-met.ensures c.note.ensures.noted)
+    rw c.in-Ok.is (noted_of c.in-Ok.made c.finish-met.result _ _ c.finish-met.ensures c.note.ensures.noted)
