@@ -1,10 +1,10 @@
 //! Why the work on a file failed, and the lines that say so.
 
-ghost use Rattle.std.specs.Prelude.{◌≡◌, IfSome};
+ghost use Rattle.std.specs.Prelude.{◌≡◌, IfSome, None};
 ghost use Rattle.tf_program.specs.Location.{byte_of, IsLocation, IsLocationOf, IsSaidAt};
 ghost use Rattle.tf_program.specs.Work.{IsLocatedIn};
 
-use crate::hint::{Hint, hint_of};
+use crate::hint::{Hint, hint_of, hint_of_unread};
 use crate::location::{Location, byte_of, location_of};
 use hcl_explain::{Said, say_parse_fault, say_scan_fault};
 use std::alloc::{AllocError, Global};
@@ -54,7 +54,13 @@ impl From<Trouble> for FileError {
     ghost use Rattle.std.specs.Prelude.{None};
 
     ghost from_gives = { λ given error.
-        error ≡ record { fault = given.fault; location = None; explained = None; cause = given.cause; hint = None } };
+        error ≡ record {
+          fault = given.fault;
+          location = None;
+          explained = None;
+          cause = given.cause;
+          hint = None;
+        } };
 
     fn from(trouble: Trouble) -> FileError {
         FileError {
@@ -102,6 +108,25 @@ impl FileError {
             FileError::located(alloc, refused.fault, &refused.text, hint)
         } else {
             FileError::from(refused.fault)
+        }
+    }
+
+    /// Returns the error of a file that was not read with its journal, with what it means if
+    /// `locate` says so.
+    pub fn of_unread(trouble: Trouble, locate: bool) -> FileError
+        ensures fault { result.fault ≡ trouble.fault }
+        ensures location { result.location ≡ None }
+    {
+        FileError {
+            fault: trouble.fault,
+            location: None,
+            explained: None,
+            cause: trouble.cause,
+            hint: if locate {
+                hint_of_unread(&trouble.fault)
+            } else {
+                None
+            },
         }
     }
 

@@ -28,6 +28,13 @@ pub fn hint_of(command: Command, fault: &RunFault, len: usize) -> Option<Hint> {
         RunFault::Refused(refused) => hint_of_refused(command, refused, len),
         RunFault::NoRecord => Some(Hint::NoCommand),
         RunFault::Blocked { number } => Some(Hint::Blocked { number: *number }),
+        _ => hint_of_unread(fault),
+    }
+}
+
+/// Returns what is said of an error that is met before any command is done.
+pub fn hint_of_unread(fault: &RunFault) -> Option<Hint> {
+    match fault {
         RunFault::BadJournal(_) => Some(Hint::NotDecoded),
         _ => None,
     }
