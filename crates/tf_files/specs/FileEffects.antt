@@ -14,7 +14,7 @@ use Rattle.tf_files.specs.declared.snapshot.Snapshots.{Snapshots}
 
 -- the file that is to be saved, if one is: it has the names of the file that was read and what both
 -- files were then, and the texts that the command made; which files it may have in common with
--- others is told by what was read, or it may have any
+-- others is known from what was read, or it may have any
 abbrev pub IsToSave : FilePaths → Option Snapshots → Option SavedTexts → Option ChangedFile → Type 0
 IsToSave paths seen None None = Unit {0}
 IsToSave paths seen None (Some file) = ⊥

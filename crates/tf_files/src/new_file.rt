@@ -138,7 +138,7 @@ fn make_like<R: SystemFiles>(
     seen: Snapshot,
     created: &File,
 ) -> io::Result<Option<Reply>> {
-    let Some(old) = unless_gone(fs::symlink_metadata(rt, path))? else {
+    let Some(old) = unless_absent(fs::symlink_metadata(rt, path))? else {
         return Ok(None);
     };
     if Snapshot::of_found(&old) == seen {
@@ -191,7 +191,7 @@ fn make_first_journal<R: SystemFiles>(
     seen: Snapshot,
     created: &File,
 ) -> io::Result<Option<Reply>> {
-    let text = match unless_gone(paths.look_at_text(rt))? {
+    let text = match unless_absent(paths.look_at_text(rt))? {
         Some(text) if Snapshot::of_found(&text) == seen => text,
         _ => return Ok(None),
     };
@@ -204,12 +204,12 @@ fn make_first_journal<R: SystemFiles>(
     }))
 }
 
-/// Returns what a look has found; none if the file is gone.
+/// Returns what a look has found; none if there is none.
 ///
 /// # Errors
 ///
 /// Any other one of the look.
-fn unless_gone(look: io::Result<Metadata>) -> io::Result<Option<Metadata>> {
+fn unless_absent(look: io::Result<Metadata>) -> io::Result<Option<Metadata>> {
     match look {
         Ok(found) => Ok(Some(found)),
         Err(error) if is_not_found(&error) => Ok(None),

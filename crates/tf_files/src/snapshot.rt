@@ -108,7 +108,7 @@ impl Snapshots {
     ///
     /// # Errors
     ///
-    /// `Read` if the system does not say, or the text is gone.
+    /// `Read` if the system does not say, or there is no text.
     pub fn of<R: SystemFiles>(rt: &R, paths: &FilePaths) -> Result<Snapshots, Trouble> {
         let journal = match fs::symlink_metadata(rt, &paths.journal) {
             Ok(found) => Some(Snapshot::of_found(&found)),
