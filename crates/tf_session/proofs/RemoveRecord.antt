@@ -99,6 +99,6 @@ short n rs a (Blocked k) le h =
 short n rs a TooLong le h = omega (arith, le)
 short n rs a Memory le h = omega (arith, le)
 
--- memory runs out only where it is allocated
+-- memory runs out only if it is allocated
 pub may_allocate : (n : ℕ) (contents : SessionContents) → RefusesTake n contents Fault.Memory → TakeMayAllocate n contents
 may_allocate n contents (memory may) = may
