@@ -1,3 +1,4 @@
+pub mod LineLemmas
 pub mod OpeningsLemmas
 pub mod SaidLemmas
 pub mod SequenceLemmas

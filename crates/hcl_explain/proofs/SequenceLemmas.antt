@@ -1,6 +1,6 @@
 -- The template sequence in which a text ends: a text has one error, or one list of tokens.
 use Rattle.std.proofs.Common.{◌≡◌, ℕ, List, Option, Some, None, Result, Ok, Err, inl, inr, Bool}
-use Rattle.std.proofs.Common.{true, false, sym, subst, ◌∙◌, ◌⊎◌, take, drop}
+use Rattle.std.proofs.Common.{true, false, sym, subst, ◌∙◌, ◌⊎◌, take}
 use Rattle.std.proofs.lemmas.Bool.{false≢true}
 use Rattle.std.specs.Prelude.{IfOk, IfSome, IfNone, IsErr}
 use Rattle.std.specs.Bool.{Decides}
@@ -10,10 +10,8 @@ use Rattle.hcl_scan.specs.Fault.{IsFault}
 use Rattle.hcl_scan.specs.ScanResult.{IsScanFault}
 use Rattle.hcl_scan.specs.declared.fault.ScanFault.{ScanFault}
 use Rattle.hcl_scan.specs.declared.fault.ScanFault.TheVariants.{Memory, OpenTemplate}
-use Rattle.hcl_explain.specs.Sequences.{has_value_last, sequence_text, EndsInValue, IsBlamed}
-use Rattle.hcl_explain.specs.ScanExplanations.{IsOpenBefore, IsEnded, IsStringExplanation}
-use Rattle.hcl_explain.specs.ScanExplanations.{IsExplanationIn}
-use Rattle.hcl_explain.specs.declared.scan_error.ScanExplanation.{ScanExplanation}
+use Rattle.hcl_explain.specs.Sequences.{HasTokens}
+use Rattle.hcl_explain.specs.ScanExplanations.{IsOpenBefore}
 use Rattle.hcl_explain.proofs.SaidLemmas.{OneTokenization, NoTokenizationWithFault}
 
 abbrev pub OneFault : Type 0
@@ -37,30 +35,39 @@ none_open one text fault (Ok None) (inl out) none memory = absurd (false≢true 
 none_open one text fault (Ok None) (inr is) none memory =
     λ at opened. none at (one text fault (OpenTemplate at) is opened)
 
--- whether a value ends with a text that has these tokens
-pub decided : OneTokenization → (given text : List ℕ) (pairs : List Pair) (last : List ℕ) (b : Bool)
-    → given ≡ text → IsTokenization given pairs last → b ≡ has_value_last pairs
-    → Decides b (EndsInValue text)
-decided one given text pairs last b same tokens is =
+-- whether the tokens of a text have a property, if these are its tokens
+pub decided : OneTokenization → (holds : List Pair → Bool) → (given text : List ℕ)
+    (pairs : List Pair) (last : List ℕ) (b : Bool)
+    → given ≡ text → IsTokenization given pairs last → b ≡ holds pairs
+    → Decides b (HasTokens holds text)
+decided one holds given text pairs last b same tokens is =
     let of_text = subst (λ (x : List ℕ). IsTokenization x pairs last) same tokens in (
-      (λ holds. (pairs, last, of_text, sym is ∙ holds)),
-      (λ h. is ∙ subst (λ (x : List Pair). has_value_last x ≡ true)
+      (λ yes. (pairs, last, of_text, sym is ∙ yes)),
+      (λ h. is ∙ subst (λ (x : List Pair). holds x ≡ true)
           (sym (one text pairs h.0 last h.1 of_text h.2).0) h.3),
     )
 
--- no value ends with a text that has an error
-pub not_ended : {E : Type 0} → NoTokenizationWithFault → (given text : List ℕ) (fault : ScanFault)
+-- a text that has an error has no tokens
+pub not_tokens : {E : Type 0} → NoTokenizationWithFault → (holds : List Pair → Bool)
+    → (given text : List ℕ) (fault : ScanFault)
     (result : Result Bool E) → given ≡ text → IsScanFault given fault
     → IfOk result (λ b. b ≡ false) → (fault ≡ Memory → IsErr result)
-    → IfOk result (λ b. Decides b (EndsInValue text))
-not_ended never given text fault (Err e) same why not memory = tt
-not_ended never given text fault (Ok b) same (inl out) not memory =
+    → IfOk result (λ b. Decides b (HasTokens holds text))
+not_tokens never holds given text fault (Err e) same why not memory = tt
+not_tokens never holds given text fault (Ok b) same (inl out) not memory =
     absurd (false≢true (memory out.0))
-not_ended never given text fault (Ok b) same (inr is) not memory = (
-  (λ holds. absurd (false≢true (sym not ∙ holds))),
+not_tokens never holds given text fault (Ok b) same (inr is) not memory = (
+  (λ yes. absurd (false≢true (sym not ∙ yes))),
   (λ h. absurd (never given fault h.0 h.1 is
       (subst (λ (x : List ℕ). IsTokenization x h.0 h.1) (sym same) h.2))),
 )
+
+-- what is decided of a text is decided of one that is equal to it
+pub decided_of : {E : Type 0} → (Holds : List ℕ → Type 0) (given text : List ℕ)
+    (result : Result Bool E) → given ≡ text → IfOk result (λ b. Decides b (Holds given))
+    → IfOk result (λ b. Decides b (Holds text))
+decided_of Holds given text result same h =
+    subst (λ (x : List ℕ). IfOk result (λ b. Decides b (Holds x))) same h
 
 third_of : {Ended : Type 0} → (feeds ends : Bool) → feeds ≡ true → ends ≡ false
     → (feeds ≡ false) ⊎ (ends ≡ true) ⊎ Ended → Ended
@@ -94,27 +101,8 @@ none_is text before at o same is h =
     subst (λ (x : List ℕ). (i : ℕ) → IsFault x (OpenTemplate i) → ⊥) same
     (subst (λ (x : Option ℕ). IfNone x ((i : ℕ) → IsFault before (OpenTemplate i) → ⊥)) is h)
 
-pub ended_is : (text before sequence : List ℕ) (at opened : ℕ) (b : Bool) → before ≡ take at text
-    → sequence ≡ drop opened before → Decides b (EndsInValue (sequence_text sequence))
-    → Decides b (IsEnded text opened at)
-ended_is text before sequence at opened b same is h =
-    subst (λ (x : List ℕ). Decides b (EndsInValue (sequence_text (drop opened x)))) same
-    (subst (λ (x : List ℕ). Decides b (EndsInValue (sequence_text x))) is h)
-
-string_of : OneFault → (text : List ℕ) (at opened : ℕ) (e : ScanExplanation)
-    → IsOpenBefore text at opened → IsExplanationIn text at opened e → IsStringExplanation text at e
-string_of one text at opened e before (inl h) = inl (
-  h.0,
-  λ other is blamed.
-      let equal = one (take at text) (OpenTemplate other) (OpenTemplate opened) is before in
-      let same : other ≡ opened = cc in
-      h.1 (subst (λ (x : ℕ). IsBlamed text x at) same blamed),
-)
-string_of one text at opened e before (inr h) = inr (opened, h.0, before, h.1)
-
--- the explanation in the sequence that is open there is one of the text
-pub string_in : {E : Type 0} → OneFault → (text : List ℕ) (at opened : ℕ)
-    (result : Result ScanExplanation E) → IsOpenBefore text at opened
-    → IfOk result (IsExplanationIn text at opened) → IfOk result (IsStringExplanation text at)
-string_in one text at opened (Err e) before h = tt
-string_in one text at opened (Ok e) before h = string_of one text at opened e before h
+-- what holds of an explanation is the first of two cases
+pub in_first : {E X Is : Type 0} → (Holds Other : X → Type 0) → (result : Result X E) → Is
+    → IfOk result Holds → IfOk result (λ e. (Is × Holds e) ⊎ Other e)
+in_first Holds Other (Err e) is h = tt
+in_first Holds Other (Ok e) is h = inl (is, h)

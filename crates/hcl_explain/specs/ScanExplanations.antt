@@ -5,7 +5,9 @@ use Rattle.std.specs.List.{starts_with}
 use Rattle.hcl_scan.specs.declared.fault.ScanFault.{ScanFault}
 use Rattle.hcl_scan.specs.declared.fault.ScanFault.TheVariants as fault
 use Rattle.hcl_scan.specs.Fault.{IsFault}
-use Rattle.hcl_explain.specs.Sequences.{sequence_text, EndsInValue, between, IsBlamed}
+use Rattle.hcl_explain.specs.Lines.{line_end, closing_place}
+use Rattle.hcl_explain.specs.Sequences.{sequence_text, EndsInValue, IsClosedInComment, between}
+use Rattle.hcl_explain.specs.Sequences.{IsBlamed}
 use Rattle.hcl_explain.specs.declared.scan_error.ScanExplanation.{ScanExplanation}
 use Rattle.hcl_explain.specs.declared.scan_error.ScanReason.{ScanReason}
 use Rattle.hcl_explain.specs.declared.scan_error.ScanReason.TheVariants as reason
@@ -18,57 +20,94 @@ of at reason = record { at = at; reason = reason }
 abbrev pub IsOpenBefore : List ℕ → ℕ → ℕ → Type 0
 IsOpenBefore text at opened = IsFault (take at text) (fault.OpenTemplate opened)
 
--- of a string that is not closed and begins at this byte: that byte; or the template sequence which
--- is not closed in the text before it, if that is blamed
-abbrev pub IsStringExplanation : List ℕ → ℕ → ScanExplanation → Type 0
-IsStringExplanation text at e =
-    ((e ≡ of at reason.String)
-    × ((opened : ℕ) → IsOpenBefore text at opened → IsBlamed text opened at → ⊥))
-    ⊎ ((opened : ℕ) × (e ≡ of opened reason.Sequence) × IsOpenBefore text at opened
-    × IsBlamed text opened at)
+-- the first of these if no template sequence is open before byte `at`, else the second of that which
+-- is open there
+abbrev pub ByOpen : List ℕ → ℕ → Type 0 → (ℕ → Type 0) → Type 0
+ByOpen text at Without In =
+    (((opened : ℕ) → IsOpenBefore text at opened → ⊥) × Without)
+    ⊎ ((opened : ℕ) × IsOpenBefore text at opened × In opened)
 
--- of one that begins in this template sequence
-abbrev pub IsExplanationIn : List ℕ → ℕ → ℕ → ScanExplanation → Type 0
-IsExplanationIn text at opened e =
-    ((e ≡ of at reason.String) × (IsBlamed text opened at → ⊥))
-    ⊎ ((e ≡ of opened reason.Sequence) × IsBlamed text opened at)
+-- the template sequence that begins at `opened` is named if its `}` is in a comment; else this is so
+abbrev pub HiddenOr : List ℕ → ℕ → ScanExplanation → Type 0 → Type 0
+HiddenOr text opened e Else =
+    (IsClosedInComment (drop opened text) × (e ≡ of opened reason.Foreign))
+    ⊎ ((IsClosedInComment (drop opened text) → ⊥) × Else)
 
 -- the template sequence that begins at `opened` ends in a value before byte `at`
 abbrev pub IsEnded : List ℕ → ℕ → ℕ → Type 0
 IsEnded text opened at = EndsInValue (sequence_text (between text opened at))
 
--- of a `${` with which no token begins, at this byte: it is in no template sequence; or in one that
--- is not closed before it, which is the error if a value ends there
-abbrev pub IsNestedExplanation : List ℕ → ℕ → ScanExplanation → Type 0
-IsNestedExplanation text at e =
-    ((e ≡ of at reason.Character) × ((opened : ℕ) → IsOpenBefore text at opened → ⊥))
-    ⊎ ((opened : ℕ) × (e ≡ of at reason.Nested) × IsOpenBefore text at opened
-    × (IsEnded text opened at → ⊥))
-    ⊎ ((opened : ℕ) × (e ≡ of opened reason.Sequence) × IsOpenBefore text at opened
-    × IsEnded text opened at)
+-- of a template sequence that is not closed
+abbrev pub IsSequenceExplanation : List ℕ → ℕ → ScanExplanation → Type 0
+IsSequenceExplanation text opened e = HiddenOr text opened e (e ≡ of opened reason.Sequence)
+
+-- of a string that is not closed and begins at this byte, by the template sequence before it
+abbrev pub IsStringIn : List ℕ → ℕ → ℕ → ScanExplanation → Type 0
+IsStringIn text opened at e =
+    (IsBlamed text opened at × (e ≡ of opened reason.Sequence))
+    ⊎ ((IsBlamed text opened at → ⊥) × (e ≡ of at reason.String))
+
+abbrev pub IsStringAfter : List ℕ → ℕ → ScanExplanation → Type 0
+IsStringAfter text at e = ByOpen text at (e ≡ of at reason.String)
+    (λ opened. HiddenOr text opened e (IsStringIn text opened at e))
+
+-- of a string that is not closed: by the template sequence that is open at the end of its line, or
+-- by what is before the string
+abbrev pub IsStringExplanation : List ℕ → ℕ → ScanExplanation → Type 0
+IsStringExplanation text at e = ByOpen text (line_end text at) (IsStringAfter text at e)
+    (λ opened. HiddenOr text opened e (IsStringAfter text at e))
+
+-- of a heredoc that is not closed: the template sequence that is open before the first line that is
+-- its marker alone
+abbrev pub IsHeredocExplanation : List ℕ → ℕ → ScanExplanation → Type 0
+IsHeredocExplanation text at e =
+    ByOpen text (closing_place text at) (e ≡ of at reason.Heredoc) (λ opened. e ≡ of opened reason.Foreign)
+
+-- of a comment that is not closed: the template sequence before it, if it does not end in a value
+abbrev pub IsCommentIn : List ℕ → ℕ → ℕ → ScanExplanation → Type 0
+IsCommentIn text opened at e =
+    (IsEnded text opened at × (e ≡ of at reason.Comment))
+    ⊎ ((IsEnded text opened at → ⊥) × (e ≡ of opened reason.Foreign))
+
+abbrev pub IsCommentExplanation : List ℕ → ℕ → ScanExplanation → Type 0
+IsCommentExplanation text at e =
+    ByOpen text at (e ≡ of at reason.Comment) (λ opened. IsCommentIn text opened at e)
 
 -- the text begins with `${`
 abbrev pub is_interpolation : List ℕ → Bool
 is_interpolation text = starts_with (λ a b. a == b) text (codes "${")
 
--- of a character with which no token begins
+-- of a `${` in a template sequence: that, if it ends in a value before the `${`
+abbrev pub IsNestedIn : List ℕ → ℕ → ℕ → ScanExplanation → Type 0
+IsNestedIn text opened at e =
+    (IsEnded text opened at × (e ≡ of opened reason.Sequence))
+    ⊎ ((IsEnded text opened at → ⊥) × (e ≡ of at (reason.InSequence opened)))
+
+-- of a character with which no token begins, in a template sequence
+abbrev pub IsCharacterIn : List ℕ → ℕ → ℕ → ScanExplanation → Type 0
+IsCharacterIn text opened at e =
+    ((is_interpolation (drop at text) ≡ false) × (e ≡ of at (reason.InSequence opened)))
+    ⊎ ((is_interpolation (drop at text) ≡ true) × IsNestedIn text opened at e)
+
 abbrev pub IsCharacterExplanation : List ℕ → ℕ → ScanExplanation → Type 0
-IsCharacterExplanation text at e =
-    ((is_interpolation (drop at text) ≡ false) × (e ≡ of at reason.Character))
-    ⊎ ((is_interpolation (drop at text) ≡ true) × IsNestedExplanation text at e)
+IsCharacterExplanation text at e = ByOpen text at (e ≡ of at reason.Character)
+    (λ opened. HiddenOr text opened e (IsCharacterIn text opened at e))
 
 -- of any other error: its byte, if it is at one
 abbrev pub explanation_of : ScanFault → Option ScanExplanation
 explanation_of (fault.NotUtf8 at) = Some (of at reason.NotUtf8)
 explanation_of (fault.BadEscape at) = Some (of at reason.Escape)
-explanation_of (fault.OpenTemplate at) = Some (of at reason.Sequence)
-explanation_of (fault.OpenHeredoc at) = Some (of at reason.Heredoc)
-explanation_of (fault.OpenComment at) = Some (of at reason.Comment)
 explanation_of _ = None
 
+-- there is an explanation, and it has this property
+abbrev pub IsSomeOf : (ScanExplanation → Type 0) → Option ScanExplanation → Type 0
+IsSomeOf is None = ⊥
+IsSomeOf is (Some e) = is e
+
 abbrev pub IsScanExplanation : List ℕ → ScanFault → Option ScanExplanation → Type 0
-IsScanExplanation text (fault.OpenString at) None = ⊥
-IsScanExplanation text (fault.OpenString at) (Some e) = IsStringExplanation text at e
-IsScanExplanation text (fault.BadCharacter at) None = ⊥
-IsScanExplanation text (fault.BadCharacter at) (Some e) = IsCharacterExplanation text at e
+IsScanExplanation text (fault.OpenString at) o = IsSomeOf (IsStringExplanation text at) o
+IsScanExplanation text (fault.OpenTemplate at) o = IsSomeOf (IsSequenceExplanation text at) o
+IsScanExplanation text (fault.OpenHeredoc at) o = IsSomeOf (IsHeredocExplanation text at) o
+IsScanExplanation text (fault.OpenComment at) o = IsSomeOf (IsCommentExplanation text at) o
+IsScanExplanation text (fault.BadCharacter at) o = IsSomeOf (IsCharacterExplanation text at) o
 IsScanExplanation text error o = o ≡ explanation_of error

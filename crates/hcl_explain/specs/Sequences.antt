@@ -1,9 +1,9 @@
 -- When a template sequence that is not closed is the mistake, and not what follows it.
-use Rattle.std.specs.Prelude.{◌≡◌, ℕ, zero, suc, ◌==◌, ◌||◌, ◌&&◌, Bool, true, false, not}
+use Rattle.std.specs.Prelude.{◌≡◌, ℕ, zero, suc, ◌-◌, ◌==◌, ◌||◌, ◌&&◌, Bool, true, false, not}
 use Rattle.std.specs.Prelude.{List, [], ◌∷◌, length, take, drop, slice_index, ◌⊎◌}
 use Rattle.std.specs.Prelude.{Option, Some, None, if◌then◌else◌}
 use Rattle.std.specs.List.{list_any}
-use Rattle.std.specs.Str.{bytes_eq}
+use Rattle.std.specs.Str.{bytes_eq, byte}
 use Rattle.hcl_token.specs.Bytes.{line_feed, carriage_return, tilde}
 use Rattle.hcl_token.specs.declared.kind.Kind.{Kind}
 use Rattle.hcl_token.specs.declared.kind.Kind.TheVariants as k
@@ -12,6 +12,7 @@ use Rattle.hcl_token.specs.TokenizedText.{kind_of, spelling_of}
 use Rattle.hcl_scan.specs.Tokenization.{IsTokenization}
 use Rattle.hcl_grammar.specs.Tokens.{for_word, in_word, if_word}
 use Rattle.hcl_explain.specs.Openings.{innermost_open}
+use Rattle.hcl_explain.specs.Lines.{first_line}
 
 -- ---- the tokens of a template sequence
 
@@ -85,17 +86,35 @@ abbrev pub has_value_last : List Pair → Bool
 has_value_last pairs =
     is_last_of_value pairs (last_before pairs (drops_lines_at_end pairs) (length pairs))
 
+-- this kind is that of a comment up to the end of its line, and the spelling has a `}`
+abbrev pub has_brace : Option Kind → Option (List ℕ) → Bool
+has_brace (Some k.LineComment) (Some spelling) = list_any (λ b. b == byte "}") spelling
+has_brace _ _ = false
+
+-- the last of the tokens is such a comment
+abbrev pub has_brace_in_comment : List Pair → Bool
+has_brace_in_comment pairs =
+    let last : ℕ = length pairs - 1 in has_brace (kind_of pairs last) (spelling_of pairs last)
+
 -- ---- the text of a template sequence
 
 -- what follows `${`, `%{`, `${~` or `%{~`
 abbrev pub sequence_text : List ℕ → List ℕ
 sequence_text text = if slice_index text 2 == tilde then drop 3 text else drop 2 text
 
+-- the text has tokens, and these have this property
+abbrev pub HasTokens : (List Pair → Bool) → List ℕ → Type 0
+HasTokens holds text = (pairs : List Pair) × (last : List ℕ) × IsTokenization text pairs last
+    × (holds pairs ≡ true)
+
 -- a value ends with this text of a template sequence: neither a string nor another template
 -- sequence can follow
 abbrev pub EndsInValue : List ℕ → Type 0
-EndsInValue text = (pairs : List Pair) × (last : List ℕ) × IsTokenization text pairs last
-    × (has_value_last pairs ≡ true)
+EndsInValue text = HasTokens has_value_last text
+
+-- the line in which this template sequence begins ends in a comment that has a `}`
+abbrev pub IsClosedInComment : List ℕ → Type 0
+IsClosedInComment sequence = HasTokens has_brace_in_comment (sequence_text (first_line sequence))
 
 -- the bytes from the first number up to the second
 abbrev pub between : List ℕ → ℕ → ℕ → List ℕ

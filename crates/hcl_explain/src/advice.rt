@@ -43,9 +43,23 @@ pub enum Advice {
     ElseIf,
     /// `${` and a name with `:` after it, as in a shell.
     OtherLanguage,
-    /// The marker of a heredoc in quotes, or after a space.
+    /// The marker of a heredoc in quotes, after a space, or after `<<~`.
     HeredocQuotes,
     HeredocSpace,
+    HeredocTilde,
+    /// A `${` where a key of an object begins.
+    ComputedKey,
+    /// A quote with a backslash outside of a string.
+    EscapedQuote,
+    /// Text without quotes, as a path.
+    BareText,
+    /// A number that begins with its `.`.
+    NumberDot,
+    /// `=`, `<>`, `=!`, `=<` and `=>` for the operators that compare.
+    Equal,
+    NotEqual,
+    AtMost,
+    AtLeast,
     /// `if` before the `:` of a `for`.
     ForIf,
     /// A quote in a string.
@@ -76,11 +90,20 @@ impl Advice {
             Advice::LabelTemplate => "the label of a block can't have `${` or `%{`",
             Advice::DirectiveAlone => "no `%{ if }` or `%{ for }` is open here",
             Advice::DirectiveWord =>
-                "a `%{` is followed by `if`, `for`, `else`, `endif` or `endfor`",
+                "a `%{` is followed by `if`, `for`, `else`, `endif` or `endfor`; as text it is written `%%{`",
             Advice::ElseIf => "there is no `else if`: write `%{ if }` after `%{ else }`",
             Advice::OtherLanguage => "a `${` that is not for Terraform is written `$${`",
             Advice::HeredocQuotes => "the marker of a heredoc has no quotes",
             Advice::HeredocSpace => "the marker of a heredoc is right after `<<` or `<<-`",
+            Advice::HeredocTilde => "an indented heredoc begins with `<<-`",
+            Advice::ComputedKey => "a computed key is in parentheses, `(x)`",
+            Advice::EscapedQuote => "the quotes of a string have no backslash",
+            Advice::BareText => "text is in double quotes, `\"`",
+            Advice::NumberDot => "a number begins with a digit, as in `0.5`",
+            Advice::Equal => "equal is written `==`",
+            Advice::NotEqual => "not equal is written `!=`",
+            Advice::AtMost => "less or equal is written `<=`",
+            Advice::AtLeast => "greater or equal is written `>=`",
             Advice::ForIf => "the `if` of a `for` is after its value",
             Advice::QuoteInString => "a quote in a string is written `\\\"`",
             Advice::CommentEnd => "no `/*` is open here",
@@ -99,13 +122,17 @@ pub fn advice_for(
     match kind_at(scanned, found) {
         Some(kind) if is_marker(scanned, kind, found) => Some(Advice::ConflictMarker),
         Some(kind) if is_comment_end(scanned, kind, found) => Some(Advice::CommentEnd),
+        Some(kind)
+            if matches!(context, Context::Interpolation) && is_of_shell(scanned, kind, found) => {
+            Some(Advice::OtherLanguage)
+        }
         Some(kind) => match expected {
             Expected::Member | Expected::MemberOrBrace => at_line_start(scanned, kind, found),
             Expected::EqualOrBlock | Expected::LabelOrBrace => in_head(scanned, kind, found),
             Expected::OneLineEqual => None,
             Expected::ForColon if is_word(scanned, found, b"if") => Some(Advice::ForIf),
             Expected::SequenceEnd => at_sequence_end(scanned, kind, found, context),
-            _ => in_value(scanned, kind, found, context),
+            _ => in_value(scanned, kind, found, context, expected),
         },
         None => None,
     }
@@ -115,10 +142,16 @@ fn at_line_start(scanned: &Scanned<'_>, kind: Kind, found: usize) -> Option<Advi
     match kind {
         Kind::Number => Some(Advice::NameDigit),
         Kind::QuoteOpen => Some(Advice::NameQuoted),
-        Kind::OpenBrace if found == 0 => Some(Advice::Json),
+        Kind::OpenBrace if found == 0 && is_json(scanned) => Some(Advice::Json),
         _ if is_operator(kind) && follows_attribute(scanned, found) => Some(Advice::OperatorFirst),
         _ => None,
     }
+}
+
+/// Whether a name in quotes or `}` follows the first token.
+fn is_json(scanned: &Scanned<'_>) -> bool {
+    let next = first_from(scanned, 1, true);
+    is_kind(scanned, next, Kind::QuoteOpen) || is_kind(scanned, next, Kind::CloseBrace)
 }
 
 /// Whether the kind is an operator between values.
@@ -185,9 +218,35 @@ fn at_sequence_end(
     context: Context,
 ) -> Option<Advice> {
     match kind {
-        Kind::Colon if is_only_name(scanned, found) => Some(Advice::OtherLanguage),
         Kind::Identifier if is_else_if(scanned, found) => Some(Advice::ElseIf),
-        _ => in_value(scanned, kind, found, context),
+        _ => in_value(scanned, kind, found, context, Expected::SequenceEnd),
+    }
+}
+
+/// Whether this token of a template sequence is where only a shell has it: `${*`, `${?`, or after a
+/// name `:`, `,,` or `%`.
+fn is_of_shell(scanned: &Scanned<'_>, kind: Kind, found: usize) -> bool {
+    match kind {
+        Kind::Star | Kind::Question => {
+            found > 0 && is_kind(scanned, found - 1, Kind::InterpOpen)
+        }
+        Kind::Colon => is_only_name(scanned, found),
+        Kind::Comma => is_only_name(scanned, found) && is_next(scanned, kind, found),
+        Kind::Dot | Kind::Percent | Kind::SeqClose => is_after_percent(scanned, kind, found),
+        _ => false,
+    }
+}
+
+/// Whether `${`, a name and `%` are before token `found`: right before it, or before a comment if
+/// it is the `}`.
+fn is_after_percent(scanned: &Scanned<'_>, kind: Kind, found: usize) -> bool {
+    match last_before(scanned, found, false) {
+        Some(last) => {
+            is_kind(scanned, last, Kind::Percent)
+                && is_only_name(scanned, last)
+                && (kind != Kind::SeqClose || found > last.saturating_add(1))
+        }
+        None => false,
     }
 }
 
@@ -205,16 +264,111 @@ pub fn is_else_if(scanned: &Scanned<'_>, found: usize) -> bool {
         || (found > 0 && is_word(scanned, found, b"if") && is_word(scanned, found - 1, b"else"))
 }
 
-fn in_value(scanned: &Scanned<'_>, kind: Kind, found: usize, context: Context) -> Option<Advice> {
+fn in_value(
+    scanned: &Scanned<'_>,
+    kind: Kind,
+    found: usize,
+    context: Context,
+    expected: Expected,
+) -> Option<Advice> {
     match last_before(scanned, found, false) {
         Some(last) => match kind {
             Kind::Less if is_next(scanned, kind, found) => heredoc(scanned, found),
             Kind::Identifier if !has_keywords(context) => after_word(scanned, last, found),
             _ if is_word(scanned, last, b"not") => Some(Advice::Not),
-            _ => None,
+            _ if is_value(expected) => at_value(scanned, kind, found, last),
+            _ => after_value(scanned, kind, found, last, expected),
         },
         None => None,
     }
+}
+
+/// Whether a value was expected.
+fn is_value(expected: Expected) -> bool {
+    matches!(
+        expected,
+        Expected::Value | Expected::ItemOrBracket | Expected::ArgumentOrParen
+    )
+}
+
+/// Returns the advice for a token where a value should begin.
+fn at_value(scanned: &Scanned<'_>, kind: Kind, found: usize, last: usize) -> Option<Advice> {
+    match kind {
+        Kind::DotIndex => Some(Advice::NumberDot),
+        Kind::Dot if is_path(scanned, found) => Some(Advice::BareText),
+        Kind::Slash if is_next(scanned, Kind::Identifier, found) => Some(Advice::BareText),
+        Kind::Greater if is_after(scanned, Kind::Less, last, found) => Some(Advice::NotEqual),
+        Kind::Equal if is_after(scanned, Kind::DoubleEqual, last, found) => Some(Advice::Equal),
+        _ => None,
+    }
+}
+
+/// Whether a path begins with this `.`: `./` or `..`.
+fn is_path(scanned: &Scanned<'_>, found: usize) -> bool {
+    is_next(scanned, Kind::Slash, found) || is_next(scanned, Kind::Dot, found)
+}
+
+/// Whether token `found` follows token `last`, of this kind, with no gap.
+fn is_after(scanned: &Scanned<'_>, kind: Kind, last: usize, found: usize) -> bool {
+    is_kind(scanned, last, kind) && is_adjacent(scanned, found)
+}
+
+/// Returns the advice for a token after a value.
+fn after_value(
+    scanned: &Scanned<'_>,
+    kind: Kind,
+    found: usize,
+    last: usize,
+    expected: Expected,
+) -> Option<Advice> {
+    match kind {
+        Kind::Colon if is_text(expected) && is_in_text(scanned, last, found) => {
+            Some(Advice::BareText)
+        }
+        Kind::Equal if is_next(scanned, Kind::Bang, found) => Some(Advice::NotEqual),
+        Kind::Equal if is_next(scanned, Kind::Less, found) => Some(Advice::AtMost),
+        Kind::Equal if is_condition(scanned, found, expected) => Some(Advice::Equal),
+        Kind::FatArrow if is_condition(scanned, found, expected) => Some(Advice::AtLeast),
+        _ => None,
+    }
+}
+
+/// Whether a value that ends here may be text without quotes: no `:` can follow it.
+fn is_text(expected: Expected) -> bool {
+    matches!(
+        expected,
+        Expected::ValueEnd
+            | Expected::ElementEnd
+            | Expected::CommaOrBracket
+            | Expected::FunctionCall
+    )
+}
+
+/// Whether this `:` is in text without quotes, as an address: with a name before it, and no gap.
+fn is_in_text(scanned: &Scanned<'_>, last: usize, found: usize) -> bool {
+    is_after(scanned, Kind::Identifier, last, found)
+        && is_adjacent(scanned, found.saturating_add(1))
+}
+
+/// Whether the value before token `found` is a condition: one in brackets, of an `if` or a template
+/// sequence, or with a `?` after it in the line.
+fn is_condition(scanned: &Scanned<'_>, found: usize, expected: Expected) -> bool {
+    match expected {
+        Expected::Paren | Expected::Bracket | Expected::Brace | Expected::SequenceEnd => true,
+        _ => has_question(scanned, found),
+    }
+}
+
+/// Whether a `?` follows token `i` in its line.
+fn has_question(scanned: &Scanned<'_>, i: usize) -> bool {
+    for k in i..scanned.len() {
+        match scanned.kind(k) {
+            Kind::Question => return true,
+            Kind::LineEnd | Kind::LineComment => return false,
+            _ => {}
+        }
+    }
+    false
 }
 
 /// Returns the advice for the operator `<` with another one after it.

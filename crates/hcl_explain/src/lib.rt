@@ -6,11 +6,14 @@
 #![tactic(auto)]
 
 mod advice;
+mod character;
 mod context;
 mod directives;
+mod escape;
 mod expected;
 mod explanation;
 mod found;
+mod lines;
 mod near;
 mod openings;
 mod said;

@@ -1,14 +1,18 @@
 //! The explanation of an error of a text that has no tokens.
 
-ghost use Rattle.std.specs.Prelude.{◌≡◌, IfOk, take, drop};
+ghost use Rattle.std.specs.Prelude.{◌≡◌, IfOk, drop};
 ghost use Rattle.std.specs.Bool.{Decides};
 ghost use Rattle.hcl_explain.specs.Sequences as spec;
-ghost use Rattle.hcl_explain.specs.Sequences.{IsBlamed};
+ghost use Rattle.hcl_explain.specs.Sequences.{IsBlamed, IsClosedInComment};
 ghost use Rattle.hcl_explain.specs.ScanExplanations.{IsScanExplanation, IsStringExplanation};
-ghost use Rattle.hcl_explain.specs.ScanExplanations.{IsCharacterExplanation, IsNestedExplanation};
-ghost use Rattle.hcl_explain.specs.ScanExplanations.{IsExplanationIn, of};
+ghost use Rattle.hcl_explain.specs.ScanExplanations.{IsStringAfter, IsStringIn, HiddenOr, IsEnded};
+ghost use Rattle.hcl_explain.specs.ScanExplanations.{IsSequenceExplanation, IsHeredocExplanation};
+ghost use Rattle.hcl_explain.specs.ScanExplanations.{IsCommentExplanation, IsCommentIn};
+ghost use Rattle.hcl_explain.specs.ScanExplanations.{IsCharacterExplanation, IsCharacterIn};
+ghost use Rattle.hcl_explain.specs.ScanExplanations.{IsNestedIn, of};
 
-use crate::sequence::{ends_in_value, open_sequence};
+use crate::lines::{bytes_from, closing_place, line_end, prefix};
+use crate::sequence::{ends_in_value, is_closed_in_comment, open_sequence};
 use hcl_scan::ScanFault;
 use std::alloc::{AllocError, Global};
 
@@ -18,13 +22,16 @@ pub enum ScanReason {
     NotUtf8,
     /// A character with which no token begins.
     Character,
-    /// A `${` in a template sequence.
-    Nested,
+    /// One in the template sequence that begins at this byte.
+    InSequence(usize),
     Escape,
     /// A string that is not closed in its line.
     String,
     /// A template sequence that is not closed.
     Sequence,
+    /// One that may not be meant as one: its `}` is in a comment, or the heredoc or the comment in
+    /// which the text ends begins in it.
+    Foreign,
     Heredoc,
     Comment,
 }
@@ -38,10 +45,9 @@ pub struct ScanExplanation {
 
 /// Explains the error of a text that `scan` refuses, if the error is at a byte.
 ///
-/// Where a `${` is not closed, the quote that should close its string opens another one, and that
-/// is the error of the text. So the `${` that is the error of the text before that quote is blamed,
-/// if it is in the same line, if nothing follows the quote in its line, or if a value ends before
-/// the quote, where no string can begin.
+/// Where a `${` is not closed, what follows it is read as a value, and the error may be after it: at
+/// the quote that should close its string, which opens another one, or at the heredoc that it is in.
+/// So the `${` that is the error of the text before that place is blamed, as the definitions say.
 ///
 /// # Errors
 ///
@@ -55,37 +61,138 @@ pub fn explain_scan(
 {
     let (at, reason) = match fault {
         ScanFault::OpenString { at } => return Ok(Some(open_string(alloc, text, at)?)),
+        ScanFault::OpenTemplate { at } => return Ok(Some(open_template(alloc, text, at)?)),
+        ScanFault::OpenHeredoc { at } => return Ok(Some(open_heredoc(alloc, text, at)?)),
+        ScanFault::OpenComment { at } => return Ok(Some(open_comment(alloc, text, at)?)),
         ScanFault::BadCharacter { at } => return Ok(Some(character(alloc, text, at)?)),
         ScanFault::NotUtf8 { at } => (at, ScanReason::NotUtf8),
         ScanFault::BadEscape { at } => (at, ScanReason::Escape),
-        ScanFault::OpenTemplate { at } => (at, ScanReason::Sequence),
-        ScanFault::OpenHeredoc { at } => (at, ScanReason::Heredoc),
-        ScanFault::OpenComment { at } => (at, ScanReason::Comment),
         ScanFault::TooLong | ScanFault::Memory => return Ok(None),
     };
     Ok(Some(ScanExplanation { at, reason }))
+}
+
+/// Whether the `}` of the template sequence that begins at a byte is in a comment.
+fn is_hidden(alloc: Global, text: &[u8], opened: usize) -> Result<bool, AllocError>
+    ensures { IfOk result (λ b. Decides b (IsClosedInComment (drop opened text.now))) }
+{
+    is_closed_in_comment(alloc, bytes_from(text, opened))
+}
+
+/// Explains that the template sequence which begins at a byte is not closed.
+fn open_template(alloc: Global, text: &[u8], opened: usize) -> Result<ScanExplanation, AllocError>
+    ensures { IfOk result (IsSequenceExplanation text.now opened) }
+{
+    if is_hidden(alloc, text, opened)? {
+        Ok(explanation(opened, ScanReason::Foreign))
+    } else {
+        Ok(explanation(opened, ScanReason::Sequence))
+    }
+}
+
+/// Explains that the heredoc which begins at a byte is not closed.
+fn open_heredoc(alloc: Global, text: &[u8], at: usize) -> Result<ScanExplanation, AllocError>
+    ensures { IfOk result (IsHeredocExplanation text.now at) }
+{
+    match open_sequence(alloc, prefix(text, closing_place(text, at)))? {
+        Some(opened) => Ok(explanation(opened, ScanReason::Foreign)),
+        None => Ok(explanation(at, ScanReason::Heredoc)),
+    }
+}
+
+/// Explains that the comment which begins at a byte is not closed.
+fn open_comment(alloc: Global, text: &[u8], at: usize) -> Result<ScanExplanation, AllocError>
+    ensures { IfOk result (IsCommentExplanation text.now at) }
+{
+    match open_sequence(alloc, prefix(text, at))? {
+        Some(opened) => comment_in(alloc, text, opened, at),
+        None => Ok(explanation(at, ScanReason::Comment)),
+    }
+}
+
+/// Explains it in this template sequence.
+fn comment_in(
+    alloc: Global,
+    text: &[u8],
+    opened: usize,
+    at: usize,
+) -> Result<ScanExplanation, AllocError>
+    ensures { IfOk result (IsCommentIn text.now opened at) }
+{
+    if is_ended(alloc, text, opened, at)? {
+        Ok(explanation(at, ScanReason::Comment))
+    } else {
+        Ok(explanation(opened, ScanReason::Foreign))
+    }
+}
+
+/// Whether the template sequence that begins at byte `opened` ends in a value before byte `at`.
+fn is_ended(alloc: Global, text: &[u8], opened: usize, at: usize) -> Result<bool, AllocError>
+    ensures { IfOk result (λ b. Decides b (IsEnded text.now opened at)) }
+{
+    ends_in_value(alloc, bytes_from(prefix(text, at), opened))
 }
 
 /// Explains that the string which begins at a byte is not closed.
 fn open_string(alloc: Global, text: &[u8], at: usize) -> Result<ScanExplanation, AllocError>
     ensures { IfOk result (IsStringExplanation text.now at) }
 {
-    hcl_scan::laws::one_fault();
+    match open_sequence(alloc, prefix(text, line_end(text, at)))? {
+        Some(opened) => string_around(alloc, text, opened, at),
+        None => string_after(alloc, text, at),
+    }
+}
+
+/// Explains that a string is not closed, at the end of whose line this template sequence is open.
+fn string_around(
+    alloc: Global,
+    text: &[u8],
+    opened: usize,
+    at: usize,
+) -> Result<ScanExplanation, AllocError>
+    ensures { IfOk result (λ e. HiddenOr text.now opened e (IsStringAfter text.now at e)) }
+{
+    if is_hidden(alloc, text, opened)? {
+        Ok(explanation(opened, ScanReason::Foreign))
+    } else {
+        string_after(alloc, text, at)
+    }
+}
+
+/// Explains that a string is not closed, by what is before it.
+fn string_after(alloc: Global, text: &[u8], at: usize) -> Result<ScanExplanation, AllocError>
+    ensures { IfOk result (IsStringAfter text.now at) }
+{
     match open_sequence(alloc, prefix(text, at))? {
-        Some(opened) => in_sequence(alloc, text, at, opened),
+        Some(opened) => string_in(alloc, text, opened, at),
         None => Ok(explanation(at, ScanReason::String)),
     }
 }
 
-/// Explains that the string which begins at a byte is not closed, if it begins in this template
-/// sequence.
-fn in_sequence(
+/// Explains that a string is not closed, which begins in this template sequence.
+fn string_in(
     alloc: Global,
     text: &[u8],
-    at: usize,
     opened: usize,
+    at: usize,
 ) -> Result<ScanExplanation, AllocError>
-    ensures { IfOk result (IsExplanationIn text.now at opened) }
+    ensures { IfOk result (λ e. HiddenOr text.now opened e (IsStringIn text.now opened at e)) }
+{
+    if is_hidden(alloc, text, opened)? {
+        Ok(explanation(opened, ScanReason::Foreign))
+    } else {
+        other_string_in(alloc, text, opened, at)
+    }
+}
+
+/// Explains it in one whose `}` is in no comment.
+fn other_string_in(
+    alloc: Global,
+    text: &[u8],
+    opened: usize,
+    at: usize,
+) -> Result<ScanExplanation, AllocError>
+    ensures { IfOk result (IsStringIn text.now opened at) }
 {
     if is_blamed(alloc, text, opened, at)? {
         Ok(explanation(opened, ScanReason::Sequence))
@@ -113,27 +220,57 @@ fn is_blamed(alloc: Global, text: &[u8], opened: usize, at: usize) -> Result<boo
 fn character(alloc: Global, text: &[u8], at: usize) -> Result<ScanExplanation, AllocError>
     ensures { IfOk result (IsCharacterExplanation text.now at) }
 {
-    if bytes_from(text, at).starts_with(b"${") {
-        nested(alloc, text, at)
-    } else {
-        Ok(explanation(at, ScanReason::Character))
+    match open_sequence(alloc, prefix(text, at))? {
+        Some(opened) => character_in(alloc, text, opened, at),
+        None => Ok(explanation(at, ScanReason::Character)),
     }
 }
 
-/// Explains that no token begins with the `${` at a byte.
-fn nested(alloc: Global, text: &[u8], at: usize) -> Result<ScanExplanation, AllocError>
-    ensures { IfOk result (IsNestedExplanation text.now at) }
+/// Explains that no token begins at a byte in this template sequence.
+fn character_in(
+    alloc: Global,
+    text: &[u8],
+    opened: usize,
+    at: usize,
+) -> Result<ScanExplanation, AllocError>
+    ensures { IfOk result (λ e. HiddenOr text.now opened e (IsCharacterIn text.now opened at e)) }
 {
-    let before = prefix(text, at);
-    match open_sequence(alloc, before)? {
-        Some(opened) => {
-            if ends_in_value(alloc, bytes_from(before, opened))? {
-                Ok(explanation(opened, ScanReason::Sequence))
-            } else {
-                Ok(explanation(at, ScanReason::Nested))
-            }
-        }
-        None => Ok(explanation(at, ScanReason::Character)),
+    if is_hidden(alloc, text, opened)? {
+        Ok(explanation(opened, ScanReason::Foreign))
+    } else {
+        other_character_in(alloc, text, opened, at)
+    }
+}
+
+/// Explains it in one whose `}` is in no comment.
+fn other_character_in(
+    alloc: Global,
+    text: &[u8],
+    opened: usize,
+    at: usize,
+) -> Result<ScanExplanation, AllocError>
+    ensures { IfOk result (IsCharacterIn text.now opened at) }
+{
+    if bytes_from(text, at).starts_with(b"${") {
+        nested(alloc, text, opened, at)
+    } else {
+        Ok(explanation(at, ScanReason::InSequence(opened)))
+    }
+}
+
+/// Explains that no token begins with the `${` at a byte, in this template sequence.
+fn nested(
+    alloc: Global,
+    text: &[u8],
+    opened: usize,
+    at: usize,
+) -> Result<ScanExplanation, AllocError>
+    ensures { IfOk result (IsNestedIn text.now opened at) }
+{
+    if is_ended(alloc, text, opened, at)? {
+        Ok(explanation(opened, ScanReason::Sequence))
+    } else {
+        Ok(explanation(at, ScanReason::InSequence(opened)))
     }
 }
 
@@ -141,20 +278,6 @@ fn explanation(at: usize, reason: ScanReason) -> ScanExplanation
     ensures { result ≡ of at reason }
 {
     ScanExplanation { at, reason }
-}
-
-/// Returns the first `at` bytes of a text, or all of it if it has fewer.
-fn prefix(text: &[u8], at: usize) -> &[u8]
-    ensures { result.now ≡ take at text.now }
-{
-    if at < text.len() { &text[..at] } else { text }
-}
-
-/// Returns the bytes of a text from one on, or none if it has fewer.
-pub fn bytes_from(text: &[u8], at: usize) -> &[u8]
-    ensures { result.now ≡ drop at text.now }
-{
-    if at < text.len() { &text[at..] } else { &[] }
 }
 
 /// Whether nothing follows in the line.

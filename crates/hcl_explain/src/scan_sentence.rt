@@ -1,6 +1,12 @@
 //! The sentence of an error of a text that has no tokens, in one line.
 
-use crate::scan_error::{ScanExplanation, ScanReason, bytes_from};
+use crate::character::push_character;
+use crate::escape::push_escape;
+use crate::found::byte_of;
+use crate::lines::{bytes_from, closing_place, marker_of, prefix};
+use crate::near::{ends_value, is_kind};
+use crate::scan_error::{ScanExplanation, ScanReason};
+use hcl_scan::{Kind, ScanFault, Scanned, scan};
 use std::alloc::{AllocError, Global};
 use std::fmt::Write;
 use std::str::from_utf8;
@@ -8,12 +14,8 @@ use std::str::from_utf8;
 /// A marker of more bytes is not quoted.
 const MAX_MARKER: usize = 40;
 
-/// What is said of a `${` in a template sequence.
-const NESTED: &str = "unexpected `${`: in `${ }` and `%{ }` write the value alone";
-
-/// What is said of a `${` outside of a template.
-const TEMPLATE_OUTSIDE: &str =
-    "unexpected `${`: a template is in quotes; outside of them write the value alone";
+/// What is said of a string that is not closed.
+const OPEN_STRING: &str = "this string is not closed on its line";
 
 impl ScanExplanation {
     /// Returns the sentence. It has no line end.
@@ -26,12 +28,15 @@ impl ScanExplanation {
         let rest = bytes_from(text, self.at);
         match self.reason {
             ScanReason::NotUtf8 => out.push_str(encoding_sentence(rest))?,
-            ScanReason::Character => push_character(&mut out, rest)?,
-            ScanReason::Nested => out.push_str(NESTED)?,
+            ScanReason::Character => push_character(&mut out, alloc, text, self.at, None)?,
+            ScanReason::InSequence(opened) => {
+                push_character(&mut out, alloc, text, self.at, Some(opened))?
+            }
             ScanReason::Escape => push_escape(&mut out, rest)?,
-            ScanReason::String => out.push_str("this string is not closed on its line")?,
+            ScanReason::String => push_string(&mut out, alloc, text, self.at)?,
             ScanReason::Sequence => out.push_str(sequence_sentence(rest))?,
-            ScanReason::Heredoc => push_heredoc(&mut out, rest)?,
+            ScanReason::Foreign => out.push_str(foreign_sentence(rest))?,
+            ScanReason::Heredoc => push_heredoc(&mut out, text, self.at)?,
             ScanReason::Comment => out.push_str("this `/*` is not closed")?,
         }
         Ok(out)
@@ -54,103 +59,59 @@ fn sequence_sentence(rest: &[u8]) -> &'static str {
     }
 }
 
-fn push_character(out: &mut String, rest: &[u8]) -> Result<(), AllocError> {
-    match from_utf8(rest) {
-        Ok(rest) => match rest.chars().next() {
-            Some('$') if rest.starts_with("${") => out.push_str(TEMPLATE_OUTSIDE),
-            Some(c) => push_unexpected(out, c),
-            None => out.push_str("unexpected character"),
-        },
-        Err(_) => out.push_str("unexpected character"),
-    }
-}
-
-/// Adds that a character is unexpected, and what is written in its place.
-fn push_unexpected(out: &mut String, c: char) -> Result<(), AllocError> {
-    out.push_str("unexpected ")?;
-    push_shown(out, c)?;
-    out.push_str(character_advice(c))
-}
-
-/// Adds a character in backquotes; its number, if it can't be seen.
-fn push_shown(out: &mut String, c: char) -> Result<(), AllocError> {
-    if is_invisible(c) {
-        let code = c as u32;
-        write!(out, "character U+{code:04X}")
+/// Returns what is said of a template sequence that may not be meant as one.
+fn foreign_sentence(rest: &[u8]) -> &'static str {
+    if rest.starts_with(b"%") {
+        "this `%{` is not closed; one that is not for Terraform is written `%%{`"
     } else {
-        write!(out, "`{c}`")
+        "this `${` is not closed; one that is not for Terraform is written `$${`"
     }
 }
 
-/// Whether a character is a control character or looks like a space or like nothing.
-fn is_invisible(c: char) -> bool {
-    matches!(
-        c,
-        '\0'..=' '
-            | '\u{7f}'..='\u{a0}'
-            | '\u{ad}'
-            | '\u{1680}'
-            | '\u{2000}'..='\u{200f}'
-            | '\u{2028}'..='\u{202f}'
-            | '\u{205f}'..='\u{206f}'
-            | '\u{3000}'
-            | '\u{feff}'
-    )
-}
-
-/// Returns what is to be written in place of a character.
-fn character_advice(c: char) -> &'static str {
-    match c {
-        '\u{2018}'..='\u{201f}' | '\u{ab}' | '\u{bb}' | '\'' | '`' => {
-            ": a string is in plain double quotes, `\"`"
-        }
-        ';' => ": a newline ends an attribute, a `,` an element",
-        '\u{2010}'..='\u{2015}' | '\u{2212}' => ": a minus is written `-`",
-        '\u{2026}' => ": write three dots, `...`",
-        '$' => ": a variable is written `var.NAME`",
-        '&' => ": `and` is written `&&`",
-        '|' => ": `or` is written `||`",
-        '\u{feff}' => ", a byte order mark: it can only begin a file",
-        '\r' => ": a line ends with LF, or CR LF",
-        '\u{a0}' | '\u{1680}' | '\u{2000}'..='\u{200b}' | '\u{202f}' | '\u{205f}' | '\u{3000}' => {
-            ", which is no space: write a plain one"
-        }
-        _ => "",
+/// Adds that the string at a byte is not closed, and what to write if the tokens before it show it.
+fn push_string(out: &mut String, alloc: Global, text: &[u8], at: usize) -> Result<(), AllocError> {
+    match scan(alloc, prefix(text, at)) {
+        Ok(scanned) => out.push_str(string_sentence(&scanned)),
+        Err(ScanFault::Memory) => Err(AllocError),
+        Err(_) => out.push_str(OPEN_STRING),
     }
 }
 
-/// Adds that an escape is unknown, with its character if that can be seen.
-fn push_escape(out: &mut String, rest: &[u8]) -> Result<(), AllocError> {
-    out.push_str("unknown escape")?;
-    if let Some(byte) = rest.get(1) {
-        let c = char::from(*byte);
-        if c.is_ascii_graphic() {
-            write!(out, " `\\{c}`")?;
-        }
+/// Returns what is said of a string that is not closed after these tokens.
+fn string_sentence(before: &Scanned<'_>) -> &'static str {
+    let last = before.len().saturating_sub(1);
+    if !ends_at_token(before, last) || !ends_value(before, last) {
+        OPEN_STRING
+    } else if is_empty_string(before, last) {
+        "this string is not closed on its line: text of several lines is a heredoc, `<<-EOT`"
+    } else {
+        "this `\"` has no partner on its line"
     }
-    out.push_str(": a backslash is written `\\\\`")
 }
 
-/// Adds that a heredoc is not closed, with its marker if that is short.
-fn push_heredoc(out: &mut String, rest: &[u8]) -> Result<(), AllocError> {
+/// Whether the text of these tokens ends with token `last`.
+fn ends_at_token(scanned: &Scanned<'_>, last: usize) -> bool {
+    last < scanned.len()
+        && byte_of(scanned, last).saturating_add(scanned.spelling(last).len())
+            == scanned.text().len()
+}
+
+/// Whether token `last` ends a string without text.
+fn is_empty_string(scanned: &Scanned<'_>, last: usize) -> bool {
+    is_kind(scanned, last, Kind::QuoteClose)
+        && is_kind(scanned, last.saturating_sub(1), Kind::QuoteOpen)
+}
+
+/// Adds that the heredoc at a byte is not closed, and why: with its marker, if that is short.
+fn push_heredoc(out: &mut String, text: &[u8], at: usize) -> Result<(), AllocError> {
     out.push_str("this heredoc is not closed")?;
-    match from_utf8(marker_of(rest)) {
+    if closing_place(text, at) < text.len() {
+        return Ok(());
+    }
+    match from_utf8(marker_of(bytes_from(text, at))) {
         Ok(marker) if marker.len() <= MAX_MARKER => {
             write!(out, ": no line after it is `{marker}` alone")
         }
         _ => Ok(()),
     }
-}
-
-/// Returns the marker of the heredoc with which a text begins: what follows `<<` or `<<-` in its
-/// line.
-fn marker_of(rest: &[u8]) -> &[u8] {
-    let from = if rest.starts_with(b"<<-") { 3 } else { 2 };
-    let marker = bytes_from(rest, from);
-    for (i, byte) in marker.iter().enumerate() {
-        if *byte == b'\n' || *byte == b'\r' {
-            return &marker[..i];
-        }
-    }
-    marker
 }

@@ -5,8 +5,9 @@ ghost use Rattle.std.specs.Bool.{Decides};
 ghost use Rattle.hcl_scan.specs.Fault.{IsFault};
 ghost use Rattle.hcl_scan.specs.declared.fault.ScanFault.TheVariants.{OpenTemplate, Memory};
 ghost use Rattle.hcl_explain.specs.Sequences as spec;
-ghost use Rattle.hcl_explain.specs.Sequences.{EndsInValue, sequence_text};
+ghost use Rattle.hcl_explain.specs.Sequences.{EndsInValue, IsClosedInComment, sequence_text};
 
+use crate::lines::first_line;
 use crate::near::{ends_value, is_keyword, kind_at, last_before};
 use crate::openings::innermost_open;
 use hcl_scan::{Kind, ScanFault, Scanned, scan};
@@ -40,7 +41,7 @@ fn opened_at(fault: ScanFault) -> Result<Option<usize>, AllocError>
 }
 
 /// Returns what follows `${`, `%{`, `${~` or `%{~` with which a text begins.
-fn sequence_text(sequence: &[u8]) -> &[u8]
+pub fn sequence_text(sequence: &[u8]) -> &[u8]
     ensures { result.now ≡ sequence_text sequence.now }
 {
     match sequence {
@@ -60,6 +61,29 @@ pub fn ends_in_value(alloc: Global, sequence: &[u8]) -> Result<bool, AllocError>
     match scan(alloc, sequence_text(sequence)) {
         Ok(scanned) => Ok(has_value_last(&scanned)),
         Err(fault) => no_unless_memory(fault),
+    }
+}
+
+/// Whether the first line of the template sequence that begins here ends in a comment with a `}`.
+pub fn is_closed_in_comment(alloc: Global, sequence: &[u8]) -> Result<bool, AllocError>
+    ensures { IfOk result (λ b. Decides b (IsClosedInComment sequence.now)) }
+{
+    hcl_scan::laws::one_tokenization();
+    hcl_scan::laws::no_tokenization_with_fault();
+    match scan(alloc, sequence_text(first_line(sequence))) {
+        Ok(scanned) => Ok(has_brace_in_comment(&scanned)),
+        Err(fault) => no_unless_memory(fault),
+    }
+}
+
+/// Whether the last token is a comment up to the end of its line, and has a `}`.
+fn has_brace_in_comment(scanned: &Scanned<'_>) -> bool
+    ensures { result ≡ spec.has_brace_in_comment scanned.now.pairs }
+{
+    let last = scanned.len().saturating_sub(1);
+    match kind_at(scanned, last) {
+        Some(Kind::LineComment) => scanned.spelling(last).contains(&b'}'),
+        _ => false,
     }
 }
 

@@ -1,0 +1,266 @@
+//! The sentence of a character with which no token begins.
+
+use crate::advice::Advice;
+use crate::context::{Context, context_of};
+use crate::expected::{Expected, expected_after};
+use crate::lines::{bytes_from, from_line_start, prefix};
+use crate::near::{is_adjacent, is_kind};
+use crate::openings::innermost_open;
+use crate::sequence::sequence_text;
+use hcl_scan::{Kind, ScanFault, Scanned, scan};
+use std::alloc::{AllocError, Global};
+use std::fmt::Write;
+use std::str::from_utf8;
+
+/// How many characters a conflict marker of a merge has.
+const MARKER_LEN: usize = 7;
+
+/// What is said of a `${` in a template sequence.
+const NESTED: &str = "unexpected `${`: in `${ }` and `%{ }` write the value alone";
+
+/// What is said of a `${` outside of a template.
+const TEMPLATE_OUTSIDE: &str =
+    "unexpected `${`: a template is in quotes; outside of them write the value alone";
+
+/// Adds what is said of the character at byte `at`, with which no token begins, in the template
+/// sequence that begins at byte `opened`, or in none.
+pub fn push_character(
+    out: &mut String,
+    alloc: Global,
+    text: &[u8],
+    at: usize,
+    opened: Option<usize>,
+) -> Result<(), AllocError> {
+    if is_conflict_marker(from_line_start(text, at)) {
+        return out.push_str(Advice::ConflictMarker.sentence());
+    }
+    let before = match opened {
+        Some(opened) => sequence_text(bytes_from(prefix(text, at), opened)),
+        None => prefix(text, at),
+    };
+    let found = Found {
+        rest: bytes_from(text, at),
+        is_in_sequence: opened.is_some(),
+        is_in_interpolation: match opened {
+            Some(opened) => bytes_from(text, opened).starts_with(b"${"),
+            None => false,
+        },
+    };
+    match scan(alloc, before) {
+        Ok(scanned) => push_found(out, found, advice_after(&scanned, found)),
+        Err(ScanFault::Memory) => Err(AllocError),
+        Err(_) => push_found(out, found, None),
+    }
+}
+
+/// The text from a character on with which no token begins, and where that is.
+#[derive(Clone, Copy)]
+struct Found<'t> {
+    rest: &'t [u8],
+    is_in_sequence: bool,
+    /// In a `${`, and not in a `%{`.
+    is_in_interpolation: bool,
+}
+
+/// Adds that a character is unexpected, and this advice, or its own.
+fn push_found(
+    out: &mut String,
+    found: Found<'_>,
+    advice: Option<Advice>,
+) -> Result<(), AllocError> {
+    match first_character(found.rest) {
+        Some(c) => match advice {
+            Some(advice) => push_with(out, c, found.rest, advice),
+            None if !found.rest.starts_with(b"${") => push_unexpected(out, c),
+            None if found.is_in_sequence => out.push_str(NESTED),
+            None => out.push_str(TEMPLATE_OUTSIDE),
+        },
+        None => out.push_str("unexpected character"),
+    }
+}
+
+/// Adds that a character is unexpected, and this advice.
+fn push_with(out: &mut String, c: char, rest: &[u8], advice: Advice) -> Result<(), AllocError> {
+    out.push_str("unexpected ")?;
+    if rest.starts_with(b"${") {
+        out.push_str("`${`")?;
+    } else {
+        push_shown(out, c)?;
+    }
+    out.push_str(": ")?;
+    out.push_str(advice.sentence())
+}
+
+fn first_character(rest: &[u8]) -> Option<char> {
+    match from_utf8(rest) {
+        Ok(rest) => rest.chars().next(),
+        Err(_) => None,
+    }
+}
+
+/// Whether the line with which a text begins is one that git writes where a merge has a conflict.
+fn is_conflict_marker(line: &[u8]) -> bool {
+    match line.first() {
+        Some(b'<' | b'=' | b'>' | b'|') => repeated(line) == MARKER_LEN,
+        _ => false,
+    }
+}
+
+/// Returns how often a text repeats its first byte at its start.
+fn repeated(text: &[u8]) -> usize {
+    for (i, byte) in text.iter().enumerate() {
+        if Some(byte) != text.first() {
+            return i;
+        }
+    }
+    text.len()
+}
+
+/// Returns the advice that these tokens show, of the template sequence or of the text in which this
+/// character is the next.
+fn advice_after(scanned: &Scanned<'_>, found: Found<'_>) -> Option<Advice> {
+    if found.is_in_interpolation && is_other_language(scanned, found.rest) {
+        return Some(Advice::OtherLanguage);
+    }
+    match found.rest {
+        [b'$', b'{', ..] if is_key_next(scanned) => Some(Advice::ComputedKey),
+        [b'\\', b'"', ..] => Some(Advice::EscapedQuote),
+        [b'\'', ..] if is_heredoc_next(scanned) => Some(Advice::HeredocQuotes),
+        [b'~', ..] if is_heredoc_next(scanned) => Some(Advice::HeredocTilde),
+        _ => None,
+    }
+}
+
+/// Whether a key of an object begins after the tokens.
+fn is_key_next(scanned: &Scanned<'_>) -> bool {
+    let count = scanned.len();
+    match innermost_open(scanned, count) {
+        Some(open) => match context_of(scanned, Some(open)) {
+            Context::Object => matches!(
+                expected_after(scanned, Context::Object, open.saturating_add(1), count),
+                Expected::KeyOrBrace
+            ),
+            _ => false,
+        },
+        None => false,
+    }
+}
+
+/// Whether the last tokens are `<<` or `<<-`.
+fn is_heredoc_next(scanned: &Scanned<'_>) -> bool {
+    let last = scanned.len().saturating_sub(1);
+    if is_kind(scanned, last, Kind::Minus) {
+        is_adjacent(scanned, last) && is_double(scanned, last.saturating_sub(1))
+    } else {
+        is_double(scanned, last)
+    }
+}
+
+/// Whether token `i` is the second `<` of `<<`.
+fn is_double(scanned: &Scanned<'_>, i: usize) -> bool {
+    i > 0
+        && is_kind(scanned, i, Kind::Less)
+        && is_adjacent(scanned, i)
+        && is_kind(scanned, i - 1, Kind::Less)
+}
+
+/// Whether these tokens of a template sequence, with what follows them, are of a shell: a name with
+/// a `:` after it, or an `@`, `^` or `$` where a shell has it.
+fn is_other_language(scanned: &Scanned<'_>, rest: &[u8]) -> bool {
+    let last = scanned.len().saturating_sub(1);
+    if is_kind(scanned, 0, Kind::Identifier) && is_kind(scanned, 1, Kind::Colon) {
+        return true;
+    }
+    match rest {
+        [b'@', ..] if scanned.is_empty() || is_kind(scanned, last, Kind::OpenBracket) => true,
+        [b'@' | b'^', ..] => last == 0 && is_kind(scanned, 0, Kind::Identifier),
+        [b'$', next, ..] => scanned.is_empty() && !is_name_start(*next) && *next != b'{',
+        _ => false,
+    }
+}
+
+fn is_name_start(byte: u8) -> bool {
+    byte.is_ascii_alphabetic() || byte == b'_'
+}
+
+/// Adds that a character is unexpected, and what is written in its place.
+fn push_unexpected(out: &mut String, c: char) -> Result<(), AllocError> {
+    out.push_str("unexpected ")?;
+    push_shown(out, c)?;
+    match plain_form(c) {
+        Some(plain) => write!(out, ": write a plain `{plain}`"),
+        None => out.push_str(character_advice(c)),
+    }
+}
+
+/// Returns the character of ASCII that has a fullwidth form.
+fn plain_form(c: char) -> Option<char> {
+    match c {
+        '\u{ff01}'..='\u{ff5e}' => char::from_u32((c as u32).saturating_sub(0xfee0)),
+        _ => None,
+    }
+}
+
+/// Adds a character in backquotes; its number, if it can't be seen.
+fn push_shown(out: &mut String, c: char) -> Result<(), AllocError> {
+    if is_invisible(c) {
+        let code = c as u32;
+        write!(out, "character U+{code:04X}")
+    } else {
+        write!(out, "`{c}`")
+    }
+}
+
+/// Whether a character is a control character or looks like a space or like nothing.
+fn is_invisible(c: char) -> bool {
+    matches!(
+        c,
+        '\0'..=' '
+            | '\u{7f}'..='\u{a0}'
+            | '\u{ad}'
+            | '\u{1680}'
+            | '\u{2000}'..='\u{200f}'
+            | '\u{2028}'..='\u{202f}'
+            | '\u{205f}'..='\u{206f}'
+            | '\u{3000}'
+            | '\u{feff}'
+    )
+}
+
+/// Returns what is to be written in place of a character.
+fn character_advice(c: char) -> &'static str {
+    match c {
+        '\u{2018}'..='\u{201f}' | '\u{ab}' | '\u{bb}' | '\'' | '`' => {
+            ": a string is in plain double quotes, `\"`"
+        }
+        ';' => ": a newline ends an attribute, a `,` an element",
+        '~' => ": text is in double quotes, `\"`",
+        '$' => ": a variable is written `var.NAME`",
+        '&' => ": `and` is written `&&`",
+        '|' => ": `or` is written `||`",
+        '\u{feff}' => ", a byte order mark: it can only begin a file",
+        '\r' | '\u{b}' | '\u{c}' | '\u{85}' | '\u{2028}' | '\u{2029}' => {
+            ": a line ends with LF, or CR LF"
+        }
+        '\0' => ": delete it",
+        '\u{a0}' | '\u{1680}' | '\u{2000}'..='\u{200b}' | '\u{202f}' | '\u{205f}' | '\u{3000}' => {
+            ", which is no space: write a plain one"
+        }
+        _ => symbol_advice(c),
+    }
+}
+
+/// Returns what is written in place of a symbol that looks like an operator.
+fn symbol_advice(c: char) -> &'static str {
+    match c {
+        '\u{2010}'..='\u{2015}' | '\u{2212}' => ": a minus is written `-`",
+        '\u{2026}' => ": write three dots, `...`",
+        '\u{d7}' | '\u{22c5}' => ": times is written `*`",
+        '\u{f7}' => ": a division is written `/`",
+        '\u{2260}' => ": not equal is written `!=`",
+        '\u{2264}' => ": less or equal is written `<=`",
+        '\u{2265}' => ": greater or equal is written `>=`",
+        '\u{2192}' | '\u{21d2}' => ": an arrow is written `=>`",
+        _ => "",
+    }
+}

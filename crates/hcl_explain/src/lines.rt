@@ -1,0 +1,175 @@
+//! Lines of a text: where one ends, and the one that should close a heredoc.
+
+ghost use Rattle.std.specs.Prelude.{◌≡◌, drop, take};
+ghost use Rattle.std.specs.List.{prefix_len};
+ghost use Rattle.hcl_scan.specs.Characters as scanner;
+ghost use Rattle.hcl_scan.specs.Closing as closing;
+ghost use Rattle.hcl_scan.specs.Modes as modes;
+ghost use Rattle.hcl_explain.specs.Lines as spec;
+
+/// Returns the first `at` bytes of a text, or all of it if it has fewer.
+pub fn prefix(text: &[u8], at: usize) -> &[u8]
+    ensures { result.now ≡ take at text.now }
+{
+    if at < text.len() { &text[..at] } else { text }
+}
+
+/// Returns the bytes of a text from one on, or none if it has fewer.
+pub fn bytes_from(text: &[u8], at: usize) -> &[u8]
+    ensures { result.now ≡ drop at text.now }
+{
+    if at < text.len() { &text[at..] } else { &[] }
+}
+
+fn is_not_line_feed(b: u8) -> bool
+    ensures { result ≡ spec.is_not_line_feed b }
+{
+    !(b == b'\n')
+}
+
+/// Returns how many bytes are before the first LF of a text, or how many it has.
+fn line_len(text: &[u8]) -> usize
+    ensures { result ≡ prefix_len spec.is_not_line_feed text.now }
+{
+    let mut at = 0usize;
+    while at < text.len() && is_not_line_feed(text[at]) {
+        at += 1;
+    }
+    at
+}
+
+/// Returns the first line of a text, without its LF.
+pub fn first_line(text: &[u8]) -> &[u8]
+    ensures { result.now ≡ spec.first_line text.now }
+{
+    prefix(text, line_len(text))
+}
+
+/// Returns where the line of a byte ends.
+pub fn line_end(text: &[u8], at: usize) -> usize
+    ensures { result ≡ spec.line_end text.now at }
+{
+    let rest = bytes_from(text, at);
+    let after = bytes_from(rest, line_len(rest));
+    text.len().saturating_sub(after.len())
+}
+
+/// Returns the line of a byte from its start on, with all that follows it.
+pub fn from_line_start(text: &[u8], at: usize) -> &[u8] {
+    for i in (0..at.min(text.len())).rev() {
+        if matches!(text.get(i), Some(b'\n')) {
+            return bytes_from(text, i.saturating_add(1));
+        }
+    }
+    text
+}
+
+fn is_whitespace(b: u8) -> bool
+    ensures { result ≡ scanner.is_whitespace b }
+{
+    (b == b' ') | (b == b'\t')
+}
+
+/// Returns how many spaces and tabs a text begins with.
+fn whitespace_len(text: &[u8]) -> usize
+    ensures { result ≡ prefix_len scanner.is_whitespace text.now }
+{
+    let mut at = 0usize;
+    while at < text.len() && is_whitespace(text[at]) {
+        at += 1;
+    }
+    at
+}
+
+/// Whether a text begins with a line end, or is empty.
+fn is_at_line_end_or_eof(text: &[u8]) -> bool
+    ensures { result ≡ closing.is_at_line_end_or_eof text.now }
+{
+    match text {
+        [] => true,
+        [b'\n', ..] => true,
+        [b'\r', b'\n', ..] => true,
+        _ => false,
+    }
+}
+
+/// Whether a text begins with this marker.
+fn has_marker(text: &[u8], marker: &[u8]) -> bool
+    ensures { result ≡ scanner.is_prefix_of marker.now text.now }
+{
+    text.starts_with(marker)
+}
+
+/// Whether the first line of a text is this marker alone.
+fn is_closing_line(text: &[u8], marker: &[u8]) -> bool
+    ensures { result ≡ closing.is_closing_line marker.now text.now }
+{
+    let name = bytes_from(text, whitespace_len(text));
+    if !has_marker(name, marker) {
+        return false;
+    }
+    let after = bytes_from(name, marker.len());
+    is_at_line_end_or_eof(bytes_from(after, whitespace_len(after)))
+}
+
+/// Returns the text from the first line on, but for its own first, that is this marker alone.
+fn from_closing<'t>(text: &'t [u8], marker: &[u8]) -> &'t [u8]
+    ensures { result.now ≡ spec.from_closing marker.now text.now }
+{
+    let mut at = 0usize;
+    while at < text.len() {
+        let is_line_feed = text[at] == b'\n';
+        at += 1;
+        if is_line_feed && is_closing_line(bytes_from(text, at), marker) {
+            return bytes_from(text, at);
+        }
+    }
+    &[]
+}
+
+fn is_not_line_break(b: u8) -> bool
+    ensures { result ≡ spec.is_not_line_break b }
+{
+    !((b == b'\n') | (b == b'\r'))
+}
+
+/// Returns how many bytes are before the first LF or CR of a text, or how many it has.
+fn marker_len(text: &[u8]) -> usize
+    ensures { result ≡ prefix_len spec.is_not_line_break text.now }
+{
+    let mut at = 0usize;
+    while at < text.len() && is_not_line_break(text[at]) {
+        at += 1;
+    }
+    at
+}
+
+/// Returns what follows the `<<` or `<<-` with which a text begins.
+fn after_opening(text: &[u8]) -> &[u8]
+    ensures { result.now ≡ spec.after_opening text.now }
+{
+    match text {
+        [_, _, b'-', rest @ ..] => rest,
+        [_, _, rest @ ..] => rest,
+        _ => &[],
+    }
+}
+
+/// Returns the marker of the heredoc with which a text begins: what follows `<<` or `<<-` in its
+/// line.
+pub fn marker_of(text: &[u8]) -> &[u8]
+    ensures { result.now ≡ modes.marker_of text.now }
+{
+    let marker = after_opening(text);
+    prefix(marker, marker_len(marker))
+}
+
+/// Returns where the first line begins that is the marker alone of the heredoc of a byte; the end
+/// of the text, if there is none.
+pub fn closing_place(text: &[u8], at: usize) -> usize
+    ensures { result ≡ spec.closing_place text.now at }
+{
+    let rest = bytes_from(text, at);
+    let line = from_closing(rest, marker_of(rest));
+    text.len().saturating_sub(line.len())
+}
