@@ -32,7 +32,8 @@ AreNames choices names = ⊥
 abbrev pub IsUnknownRule : List ℕ → Exit → Type 0
 IsUnknownRule name (UsageError text) =
     ((choice : Choice) → ¬ (IsName choice name))
-    × (string_bytes text ≡ codes "tfk: unknown rule " ++ (name ++ codes "\n"))
+    × (string_bytes text ≡ codes "tfk: unknown rule "
+    ++ (name ++ codes ": tfk lint --help lists them; one for each option\n"))
 IsUnknownRule name Memory = ⊤
 IsUnknownRule name (Help text) = ⊥
 

@@ -1,6 +1,8 @@
-//! What is said before clap's text on arguments that it refuses: clap's tip for an unknown option is
-//! to take it for a FILE.
+//! What is said before clap's text on arguments that it refuses. clap's tip is to take an unknown
+//! option for a FILE, and a FILE in a command's place for another command.
 
+use crate::counterparts::{COUNTERPARTS, Place};
+use crate::options::Subcommand;
 use clap::error::ErrorKind;
 
 /// What clap's text on an unknown argument begins with; the argument follows, as clap reads it, so
@@ -12,81 +14,136 @@ const NUMBER: &str = "--take N: N is the number of a command, as tfk revert --li
 const SEVERAL: &str =
     "revert takes one FILE; for several: for f in *.tf; do tfk revert -- \"$f\"; done";
 
-/// Returns the line for an error of this kind that clap has said this text of; none if that says
+const SEVERAL_LISTS: &str =
+    "revert takes one FILE; for several: for f in *.tf; do tfk revert --list -- \"$f\"; done";
+
+const NO_COMMAND: &str =
+    "name a command first: tfk fmt -- FILE formats, tfk lint -- FILE lints; see tfk --help";
+
+/// What is said of arguments that clap refuses.
+pub enum Advice<'a> {
+    /// There is no such word; what there is in its place.
+    Unknown { word: &'a str, line: &'static str },
+    Line(&'static str),
+}
+
+/// Returns what is said of an error of this kind that clap has said this text of; none if that says
 /// enough.
-pub fn advice(kind: ErrorKind, text: &str, args: &[&str]) -> Option<&'static str> {
+pub fn advice_for<'a>(kind: ErrorKind, text: &str, args: &[&'a str]) -> Option<Advice<'a>> {
     match kind {
         // the number is the only value that clap looks into
-        ErrorKind::ValueValidation => Some(NUMBER),
-        ErrorKind::UnknownArgument => advice_on_unknown(text, args),
+        ErrorKind::ValueValidation => Some(Advice::Line(NUMBER)),
+        ErrorKind::MissingRequiredArgument => advice_on_missing(args),
+        ErrorKind::InvalidSubcommand => advice_on_command(args),
+        ErrorKind::UnknownArgument | ErrorKind::TooManyValues => advice_on_unknown(text, args),
         _ => None,
     }
 }
 
-/// Returns the line for an argument that is unknown, after the name of the program.
-fn advice_on_unknown(text: &str, args: &[&str]) -> Option<&'static str> {
+/// Returns the command that the arguments begin with, after the name of the program.
+fn command(args: &[&str]) -> Option<Subcommand> {
     match args.get(1) {
-        Some(command) if *command == "revert" => advice_on_revert(text),
-        _ => advice_on_options(args),
+        Some(word) => Subcommand::by_name(word),
+        None => None,
+    }
+}
+
+/// Returns what is said of a command with no FILE; it writes no file if the arguments write none.
+fn advice_on_missing<'a>(args: &[&str]) -> Option<Advice<'a>> {
+    let line = match command(args)? {
+        Subcommand::Fmt if args.contains(&"--check") => {
+            "name the files: tfk fmt --check -- *.tf; see tfk fmt --help"
+        }
+        Subcommand::Fmt => "name the files: tfk fmt -- *.tf; see tfk fmt --help",
+        Subcommand::Lint => "name the files: tfk lint -- *.tf; see tfk lint --help",
+        Subcommand::Fix => "name the files: tfk fix -- *.tf; see tfk fix --help",
+        Subcommand::Revert => {
+            "name the file: tfk revert --list FILE lists its commands; see tfk revert --help"
+        }
+    };
+    Some(Advice::Line(line))
+}
+
+/// Returns what is said of a word that is no command: one of another program, or a FILE.
+fn advice_on_command<'a>(args: &[&'a str]) -> Option<Advice<'a>> {
+    let word = *args.get(1)?;
+    match advice_on_word(Place::Command, word, word) {
+        Some(advice) => Some(advice),
+        None if word == "-" || word.contains('.') || word.contains('/') => {
+            Some(Advice::Line(NO_COMMAND))
+        }
+        None => None,
+    }
+}
+
+/// Returns what is said of an unknown argument, or of an option with a value that takes none.
+fn advice_on_unknown<'a>(text: &str, args: &[&'a str]) -> Option<Advice<'a>> {
+    match command(args) {
+        // clap refuses the first option that is before a command
+        None => advice_on_option(Place::Start, *args.get(1)?),
+        Some(Subcommand::Fmt) => advice_on_options(Place::Fmt, args),
+        Some(Subcommand::Lint) => advice_on_options(Place::Lint, args),
+        Some(Subcommand::Fix) => advice_on_options(Place::Fix, args),
+        Some(Subcommand::Revert) => match advice_on_revert(text, args) {
+            Some(line) => Some(Advice::Line(line)),
+            None => advice_on_options(Place::Revert, args),
+        },
     }
 }
 
 /// Returns the line for an argument that `revert` doesn't take: a FILE more, or a number below 0.
-fn advice_on_revert(text: &str) -> Option<&'static str> {
+fn advice_on_revert(text: &str, args: &[&str]) -> Option<&'static str> {
     let argument = text.strip_prefix(UNKNOWN_ARGUMENT)?;
     match argument.as_bytes() {
         [b'-', b'0'..=b'9', ..] => Some(NUMBER),
         [b'-', ..] => None,
+        _ if args.contains(&"--list") => Some(SEVERAL_LISTS),
         _ => Some(SEVERAL),
     }
 }
 
-/// Returns the line for the first of these that is an option of terraform or TFLint.
-fn advice_on_options(args: &[&str]) -> Option<&'static str> {
+/// Returns what is said of the first of these that is an option of another program.
+fn advice_on_options<'a>(place: Place, args: &[&'a str]) -> Option<Advice<'a>> {
     for arg in args {
         if *arg == "--" {
             return None;
         }
-        if let Some(line) = advice_on_option(option_name(arg)) {
-            return Some(line);
+        if let Some(advice) = advice_on_option(place, *arg) {
+            return Some(advice);
         }
     }
     None
 }
 
-/// Returns the name of an option that begins with one dash or two, without its value; empty if it is
-/// none.
-fn option_name(arg: &str) -> &str {
-    let name = match arg.strip_prefix("--") {
-        Some(name) => name,
-        None => arg.strip_prefix('-').unwrap_or(""),
-    };
-    match name.split_once('=') {
-        Some((name, _)) => name,
-        None => name,
+/// Returns what is said of an option, with its value or without.
+fn advice_on_option<'a>(place: Place, arg: &'a str) -> Option<Advice<'a>> {
+    let name = option_name(arg)?;
+    match advice_on_word(place, arg, name) {
+        Some(advice) => Some(advice),
+        None => {
+            let (option, _) = arg.split_once('=')?;
+            advice_on_word(place, option, option_name(option)?)
+        }
     }
 }
 
-/// Returns what there is in place of the option of this name, which terraform or TFLint has.
-fn advice_on_option(name: &str) -> Option<&'static str> {
-    match name {
-        "recursive" => Some(
-            "no -recursive: folders are not searched; see tfk fmt --help or tfk lint --help",
-        ),
-        "diff" => Some(
-            "no -diff: tfk fmt - < FILE | diff -u FILE - shows the changes; see tfk fmt --help",
-        ),
-        "write" => Some("no -write: tfk fmt --check writes nothing; see tfk fmt --help"),
-        "list" => Some("no -list: for no list of files add > /dev/null; see tfk fmt --help"),
-        "color" | "no-color" => Some("no -no-color: nothing is in color; see tfk --help"),
-        "chdir" => Some("no -chdir: run cd first; see tfk --help"),
-        "fix" => Some("no --fix: tfk fix FILE fixes what it can; see tfk fix --help"),
-        "only" => Some(
-            "no --only: --disable-rule all --enable-rule RULE enables one; see tfk lint --help",
-        ),
-        "format" => Some("no --format: there is one format of issues; see tfk lint --help"),
-        "filter" => Some("no --filter: name the files; see tfk lint --help"),
-        "config" => Some("no --config: there is no configuration file; see tfk lint --help"),
-        _ => None,
+/// Returns an option without the dash or two that it begins with; none if it begins with none.
+fn option_name(arg: &str) -> Option<&str> {
+    match arg.strip_prefix("--") {
+        Some(name) => Some(name),
+        None => arg.strip_prefix('-'),
     }
+}
+
+/// Returns what is said of a word with this name.
+fn advice_on_word<'a>(place: Place, word: &'a str, name: &str) -> Option<Advice<'a>> {
+    for row in COUNTERPARTS {
+        if row.is_of(place, name) {
+            return Some(Advice::Unknown {
+                word,
+                line: row.line,
+            });
+        }
+    }
+    None
 }

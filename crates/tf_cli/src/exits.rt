@@ -5,7 +5,7 @@ ghost use Rattle.clap.specs.Words.{kind_of};
 ghost use Rattle.tf_cli.specs.Reading.{IsExitOfKind};
 ghost use Rattle.tf_cli.specs.Tasks.{SaysUsage};
 
-use crate::advice::advice;
+use crate::advice::{Advice, advice_for};
 use clap::Error;
 use clap::error::ErrorKind;
 use std::alloc::{AllocError, AllocFailed, Global};
@@ -91,8 +91,11 @@ fn exit_with_text(error: &Error, text: String) -> Exit
 /// Returns what is printed of an error of clap's in these arguments, which may be the help.
 fn error_text(alloc: Global, error: &Error, args: &[&str]) -> Result<String, AllocError> {
     let text = error.to_string(alloc)?;
-    match advice(error.kind(), text.as_str(), args) {
-        Some(line) => format!(in alloc; "tfk: {line}\n{text}"),
+    match advice_for(error.kind(), text.as_str(), args) {
+        Some(Advice::Unknown { word, line }) => {
+            format!(in alloc; "tfk: no {word}: {line}\n{text}")
+        }
+        Some(Advice::Line(line)) => format!(in alloc; "tfk: {line}\n{text}"),
         None => Ok(text),
     }
 }

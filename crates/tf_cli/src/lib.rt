@@ -5,6 +5,7 @@
 mod advice;
 mod clap_commands;
 mod command_line;
+mod counterparts;
 mod exits;
 mod help;
 mod options;

@@ -92,7 +92,9 @@ fn parse_choice(alloc: Global, name: &str) -> Result<Choice, Exit>
 {
     match Choice::by_name(name) {
         Some(choice) => Ok(choice),
-        None => Err(Exit::UsageError(format!(in alloc; "tfk: unknown rule {name}\n")?)),
+        None => Err(Exit::UsageError(format!(in alloc;
+            "tfk: unknown rule {name}: tfk lint --help lists them; one for each option\n"
+        )?)),
     }
 }
 
