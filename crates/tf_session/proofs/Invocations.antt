@@ -1,5 +1,5 @@
 -- Commands on a file, one after another, are one run: by induction on the commands.
-use Rattle.std.proofs.Common.{◌≡◌, ◌∙◌, ◌⊎◌, ℕ, List, [], ◌∷◌, map, true, false, Option, Some, None, Result, Ok, Err, ap, sym, subst, refl, inl, inr}
+use Rattle.std.proofs.Common.{◌≡◌, ◌∙◌, ◌⊎◌, ℕ, List, [], ◌∷◌, map, true, false, Option, Some, None, Result, Ok, Err, ap, sym, subst, refl, inl, inr, arith}
 use Rattle.std.specs.List.{AllByRecursion}
 use Rattle.edit_record.specs.Decoding.{IsDecodeResult}
 use Rattle.edit_record.specs.Lists.ChangeResults.{ChangeResultIsUnique}
@@ -15,7 +15,7 @@ use Rattle.tf_session.specs.declared.fault.RunFault.{RunFault}
 use Rattle.tf_session.specs.declared.saver.SavedTexts.{SavedTexts}
 use Rattle.tf_session.specs.Faults.{run_fault_of, run_fault_of_record}
 use Rattle.tf_session.specs.Invocations.{FileContents, without_journal, AreSaved, HasNoEffect, Invokes, InvokesAll, AreOneRun, HasStackRecords, HasHistoryRecords, InvocationsAreStackRun, InvocationsAreHistoryRun, is_limit_result, contents_after, results_within, result_of}
-use Rattle.tf_session.specs.Journals.{JournalTextFault}
+use Rattle.tf_session.specs.Journals.{IsSavedText, JournalTextFault}
 use Rattle.tf_session.specs.Layers.{History, initial_history, top_text, records_in, HistoryStep, HistoryMayAllocate, HistoryStepOrMemory}
 use Rattle.tf_session.specs.Machine.{initial_stack, StackStep, StackMayAllocate, IsNotTake}
 use Rattle.tf_session.specs.Records.{DoesStep, RefusesStep}
@@ -31,10 +31,14 @@ abbrev pub Unambiguous : Type 0
 Unambiguous = (text : List ℕ) (rs ss : List JournalEntry) → IsJournalText text rs → IsJournalText text ss → rs ≡ ss
 
 -- what is saved, or else the file as it was, has the new text and records
-after : (old : FileContents) (saved : Option SavedTexts) (js : List JournalEntry) (new : SessionContents) → IsJournalText old.journal js → AreSaved (with_records old.text js) new saved
-    → ((contents_after old saved).text ≡ new.text) × IsJournalText (contents_after old saved).journal new.records
-after old None js new is same = (sym same.0, subst (IsJournalText old.journal) (sym same.1) is)
-after old (Some saved) js new is are = (are.1, inl are.2.0)
+after : (old : FileContents) (saved : Option SavedTexts) (js : List JournalEntry) (new : SessionContents) → IsSavedText js old.journal → AreSaved (with_records old.text js) new saved
+    → ((contents_after old saved).text ≡ new.text) × IsSavedText new.records (contents_after old saved).journal
+after old None js new is same = (sym same.0, subst (λ (rs : List JournalEntry). IsSavedText rs old.journal) (sym same.1) is)
+after old (Some saved) js new is are = (are.1, are.2)
+
+-- what is saved is the text of a journal
+journal_text_of : (records : List JournalEntry) (bytes : List ℕ) → IsSavedText records bytes → IsJournalText bytes records
+journal_text_of records bytes is = inl is.0
 
 -- a text of a journal is decoded, unless memory runs out
 decoded : (text : List ℕ) (js : List JournalEntry) (reading : RecordFault) → IsJournalText text js → IsDecodeResult text (Err reading) → is_limit_result (Err (run_fault_of_record reading)) ≡ true
@@ -68,7 +72,7 @@ module _ {State : Type 0} (MayAllocate : Command → State → Type 0) (Step : C
   record Represents (file : FileContents) (s : State) : Type 0 where
     text : file.text ≡ top s
     records : List JournalEntry
-    journal : IsJournalText file.journal records
+    journal : IsSavedText records file.journal
     records_are : HasRecords s records
 
   -- the command ended at a limit and changed nothing, or it has its reply and leaves another state
@@ -87,12 +91,13 @@ module _ {State : Type 0} (MayAllocate : Command → State → Type 0) (Step : C
 
   done : (command : Command) → Does command → (s : State) (old new : FileContents) (d : Done) → Represents old s → Invokes command old (Ok d) new → StepsOrStops command s (Ok d) old new
   done command does s old new d rep (name, effect, has, is_done, is_new) =
-      let same : has.records ≡ rep.records = one old.journal has.records rep.records has.is_journal rep.journal in
+      let same : has.records ≡ rep.records = one old.journal has.records rep.records has.is_journal (journal_text_of rep.records old.journal rep.journal) in
+      let read : IsSavedText has.records old.journal = subst (λ (rs : List JournalEntry). IsSavedText rs old.journal) (sym same) rep.journal in
       let here : DoesStep command (with_records (top s) rep.records) d has.new =
       subst (λ (x : Done). DoesStep command (with_records (top s) rep.records) x has.new) (sym is_done)
       (with_same (λ (x : SessionContents). DoesStep command x effect.done has.new) old.text (top s) has.records rep.records rep.text same has.does) in
       let step = does s rep.records d has.new.text has.new.records here rep.records_are in
-      let saved = after old effect.saved has.records has.new has.is_journal has.saved in
+      let saved = after old effect.saved has.records has.new read has.saved in
       inr (
         Ok d,
         refl,
@@ -120,13 +125,13 @@ module _ {State : Type 0} (MayAllocate : Command → State → Type 0) (Step : C
 
   refused_step : (command : Command) → Refuses command → (s : State) (old new : FileContents) (js : List JournalEntry) (fault : Fault) → new ≡ old → Represents old s → IsJournalText old.journal js → RefusesStep command (with_records old.text js) fault → StepsOrStops command s (Err (run_fault_of fault)) old new
   refused_step command refuses s old new js fault same rep is why =
-      let records : js ≡ rep.records = one old.journal js rep.records is rep.journal in
+      let records : js ≡ rep.records = one old.journal js rep.records is (journal_text_of rep.records old.journal rep.journal) in
       let here = with_same (λ (x : SessionContents). RefusesStep command x fault) old.text (top s) js rep.records rep.text records why in
       refusal command s old new fault same rep (refuses s rep.records fault here rep.records_are)
 
   stopped : (command : Command) → Refuses command → (s : State) (old new : FileContents) (fault : RunFault) → Represents old s → HasNoEffect command old.text old.journal fault → new ≡ old → StepsOrStops command s (Err fault) old new
   stopped command refuses s old new fault rep (inl (reading, is, why)) same =
-      inl (ap (λ (f : RunFault). is_limit_result (Err f)) is ∙ decoded old.journal rep.records reading rep.journal why, same)
+      inl (ap (λ (f : RunFault). is_limit_result (Err f)) is ∙ decoded old.journal rep.records reading (journal_text_of rep.records old.journal rep.journal) why, same)
   stopped command refuses s old new fault rep (inr (inl (js, is, inl (refusing, is_fault, why)))) same =
       subst (λ (f : RunFault). StepsOrStops command s (Err f) old new) (sym is_fault) (refused_step command refuses s old new js refusing same rep is why)
   stopped command refuses s old new fault rep (inr (inl (js, is, inr (memory, _, _, _, _)))) same =
@@ -182,7 +187,7 @@ module _ {State : Type 0} (MayAllocate : Command → State → Type 0) (Step : C
       run = refl;
       text = ap (λ (file : FileContents). file.text) same ∙ rep.text;
       records = rep.records;
-      journal = subst (λ (file : FileContents). IsJournalText file.journal rep.records) (sym same) rep.journal;
+      journal = subst (λ (file : FileContents). IsSavedText rep.records file.journal) (sym same) rep.journal;
       records_are = rep.records_are;
     }
     invoked_in_order s old end [] (result ∷ results) allowed rep h = absurd h
@@ -200,7 +205,7 @@ module _ {State : Type 0} (MayAllocate : Command → State → Type 0) (Step : C
     pub invoked_on_text : (text : List ℕ) (s : State) (commands : List Command) (results : List (Result Done RunFault)) (end : FileContents) → text ≡ top s → HasRecords s [] → AllByRecursion Allowed commands → InvokesAll (without_journal text) commands results end → Are s commands results end
     invoked_on_text text s commands results end is none allowed h =
         invoked_in_order s (without_journal text) end commands results allowed
-        (record { text = is; records = []; journal = inl (record { made = tt; is = refl }); records_are = none }) h
+        (record { text = is; records = []; journal = (record { made = tt; is = refl }, omega arith); records_are = none }) h
 
 -- ---- the two machines
 

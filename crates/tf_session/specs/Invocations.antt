@@ -144,7 +144,8 @@ result_of (Ok d) = Ok d
 result_of (Err fault) = Err (run_fault_of fault)
 
 -- The commands that did not end at a limit are a run of a machine, of which this is the step: it has
--- their replies, its text is the file's, and the text of the file's journal is that of its records.
+-- their replies, its text is the file's, and the text of the file's journal is that of its records,
+-- of the current version and within the limit, so that the next command can read it.
 pub record AreOneRun {State : Type 0} (Step : Command → State → Result Done Fault → State → Type 0)
     (top : State → List ℕ) (HasRecords : State → List JournalEntry → Type 0) (first : State)
     (commands : List Command) (results : List (Result Done RunFault)) (end : FileContents)
@@ -155,7 +156,7 @@ pub record AreOneRun {State : Type 0} (Step : Command → State → Result Done 
   pub run : RunBy Step first (commands_within commands results) replies state
   pub text : end.text ≡ top state
   pub records : List JournalEntry
-  pub journal : IsJournalText end.journal records
+  pub journal : IsSavedText records end.journal
   pub records_are : HasRecords state records
 
 -- the records of the file's journal are those of the stack

@@ -26,8 +26,9 @@ pub fn revert_fails_only_from_outside()
 }
 
 /// Fmt, fix and revert on a file that has no journal, each on what the one before it saved, are one
-/// run of the stack of whole texts: text and results are those of `run`. A command that ran out of
-/// memory, or whose journal would be too long, might as well not have been given.
+/// run of the stack of whole texts: text and results are those of `run`, and the journal is one that
+/// the next command can read. A command that ran out of memory, or whose journal would be too long,
+/// might as well not have been given.
 pub fn invocations_are_stack_run()
     ensures { InvocationsAreStackRun }
 {
