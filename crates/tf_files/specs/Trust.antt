@@ -37,20 +37,12 @@ is_written_alike file text =
     not (may_others_write file)
     && (not (may_group_write file) || ((file.group == text.group) && may_group_write text))
 
--- only the caller or the text's owner may create files in the folder, of which this is known
-abbrev pub is_closed : Access → Option Access → Option ℕ → Bool
-is_closed text (Some folder) caller =
-    (not (may_others_write folder) && not (may_group_write folder))
-    && (is_of folder caller || (folder.owner == text.owner))
-is_closed text None caller = false
-
--- it belongs to the caller or to the text's owner, and nobody else can have written it here
-abbrev pub is_of_owner : Access → Access → Option Access → Option ℕ → Bool
-is_of_owner file text folder caller =
-    (is_of file caller || (file.owner == text.owner))
-    && (is_written_alike file text || is_closed text folder caller)
+-- it belongs to the caller or to the text's owner, and nobody else can have written it
+abbrev pub is_of_owner : Access → Access → Option ℕ → Bool
+is_of_owner file text caller =
+    (is_of file caller || (file.owner == text.owner)) && is_written_alike file text
 
 -- everybody may write the text, or it is the team's, or the owner's
 abbrev pub is_trusted : Access → Access → Option Access → Option ℕ → Bool
 is_trusted file text folder caller =
-    may_others_write text || (is_of_team_in file text folder || is_of_owner file text folder caller)
+    may_others_write text || (is_of_team_in file text folder || is_of_owner file text caller)

@@ -6,9 +6,10 @@ ghost use Rattle.tf_files.specs.Paths.{text_folder, journal_folder};
 use crate::adoption::can_adopt;
 use crate::cause::{Cause, Reason, Subject};
 use crate::file_part::{session_part, write_part};
-use crate::file_paths::{FilePaths, is_not_found};
+use crate::file_paths::FilePaths;
 use crate::folder::{Folder, SystemFiles};
 use crate::leftovers::{Found, open_found};
+use crate::look::is_not_found;
 use crate::new_file::{
     copy_attributes, create_new, find_new, find_own_new, start_writing, truncate,
 };
@@ -178,7 +179,7 @@ pub fn make<R: SystemFiles>(
         Syscall::Open(_) => open(rt, file),
         Syscall::FindNew(_) => find_new(rt, file),
         Syscall::CreateNew(_) => create_new(rt, file),
-        Syscall::CopyAttributes(part) => copy_attributes(rt, part, file),
+        Syscall::CopyAttributes(part) => copy_attributes(part, file),
         Syscall::Write(part) => write(rt, alloc, part, file),
         Syscall::Sync(_) => sync(file),
         Syscall::SyncDirectory(_) => file.folder.sync(),

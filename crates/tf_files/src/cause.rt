@@ -3,15 +3,18 @@
 ghost use Rattle.std.specs.Prelude.{◌≡◌, true};
 ghost use Rattle.tf_files.specs.Opening.{is_file_fault};
 
+use hcl_scan::MAX_TEXT;
 use std::alloc::AllocError;
 use std::{fmt, io};
-use tf_session::RunFault;
+use tf_session::{MAX_JOURNAL, RunFault};
 
 /// Which file a cause is about.
 #[derive(Clone, Copy)]
 pub enum Subject {
     File,
     Journal,
+    /// A journal that is not there yet.
+    FirstJournal,
     NewText,
     NewJournal,
 }
@@ -31,6 +34,10 @@ pub enum Reason {
     Link,
     /// It would be longer than the limit of a file's size.
     OverSizeLimit,
+    /// It has more bytes than this.
+    Over(usize),
+    /// It is in a folder that can't be read, so that no name in it can be made durable.
+    InUnreadFolder,
 }
 
 /// Why a file, its journal or a new file can't be read or written.
@@ -66,6 +73,37 @@ impl Trouble {
             fault: RunFault::Read,
             cause: Cause::after(subject, error),
         }
+    }
+}
+
+impl Trouble {
+    /// Returns the error of a text that was not read whole.
+    pub fn of_text(fault: RunFault) -> Trouble
+        ensures { result.fault ≡ fault }
+    {
+        Trouble::unless_within(fault, Subject::File, MAX_TEXT)
+    }
+
+    /// Returns the error of a journal that was not read whole.
+    pub fn of_journal(fault: RunFault) -> Trouble
+        ensures { result.fault ≡ fault }
+    {
+        Trouble::unless_within(fault, Subject::Journal, MAX_JOURNAL)
+    }
+
+    /// Returns the error of a file that was not read whole, which is `Endless` if it has more bytes
+    /// than this.
+    fn unless_within(fault: RunFault, subject: Subject, limit: usize) -> Trouble
+        ensures { result.fault ≡ fault }
+    {
+        let cause = match fault {
+            RunFault::Endless => Some(Cause {
+                subject,
+                reason: Reason::Over(limit),
+            }),
+            _ => None,
+        };
+        Trouble { fault, cause }
     }
 }
 
@@ -137,16 +175,21 @@ impl fmt::Display for Cause {
         match self.subject {
             Subject::File => {}
             Subject::Journal => f.write_str("its journal: ")?,
+            Subject::FirstJournal => f.write_str("its journal can't be created: ")?,
             Subject::NewText => f.write_str("its .tfnew: ")?,
             Subject::NewJournal => f.write_str("its .tfundo.new: ")?,
         }
         match self.reason {
             Reason::System(number) => { write!(f, "{}", io::Error::from_raw_os_error(number)) }
             Reason::Changed => f.write_str("changed by another program"),
-            Reason::OfAnotherUser => f.write_str("another user may have written it"),
+            Reason::OfAnotherUser => f.write_str(
+                "another user may have written it: look whose it is, and delete it",
+            ),
             Reason::NotRegular => f.write_str("no regular file"),
             Reason::Link => f.write_str("a link that is not followed"),
             Reason::OverSizeLimit => f.write_str("over the limit of a file's size"),
+            Reason::Over(limit) => write!(f, "over {limit} bytes"),
+            Reason::InUnreadFolder => f.write_str("its folder can't be read"),
         }
     }
 }

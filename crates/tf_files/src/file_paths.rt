@@ -6,6 +6,7 @@ ghost use Rattle.tf_files.specs.Paths.{text_folder, journal_folder};
 
 use crate::cause::{Reason, Subject, Trouble};
 use crate::folder::{Folder, SystemFiles};
+use crate::look::{Look, look_for};
 use crate::trust::{Access, caller};
 use std::alloc::{AllocError, Global};
 use std::fs::{self, Metadata};
@@ -45,6 +46,17 @@ struct Places {
     journal: Option<Place>,
     /// Whether the file is a link to what has no name, as `/dev/stdin` may be.
     is_text_link: bool,
+    found_text: Look,
+    found_journal: Look,
+}
+
+/// What a name leads to.
+#[derive(Drop)]
+struct Target {
+    /// None if the name is no link, or a link to what has no name.
+    place: Option<Place>,
+    /// What is there.
+    found: Look,
 }
 
 /// The paths of a file, of its journal, and of the new files that are to replace them. If a file is
@@ -59,6 +71,10 @@ pub struct FilePaths {
     pub new_text: String,
     pub journal: String,
     pub new_journal: String,
+    /// The new text that was there when the folders were opened.
+    pub found_new_text: Option<Metadata>,
+    /// The new journal that was there then.
+    pub found_new_journal: Option<Metadata>,
 }
 
 /// The four paths.
@@ -71,12 +87,12 @@ struct FourPaths {
 }
 
 impl FilePaths {
-    /// Opens the folders of a file with this name, and returns the paths.
+    /// Opens the folders of a file with this name, looks at what is there, and returns the paths.
     ///
     /// # Errors
     ///
-    /// `Memory`; `Read` if a folder can't be opened, or the journal is a link that may not be
-    /// followed.
+    /// `Memory`; `Read` if a folder can't be opened, the journal is a link that may not be followed,
+    /// or the system does not say whether there are new files.
     pub fn of<R: SystemFiles>(rt: &R, alloc: Global, name: &str) -> Result<FilePaths, Trouble>
         ensures name { IfOk result (λ paths. string_bytes paths.name ≡ name.now) }
         ensures fault { IfErr result (λ trouble. is_file_fault trouble.fault ≡ true) }
@@ -88,6 +104,8 @@ impl FilePaths {
         let given = Place::open(rt, alloc, "", name)?;
         let places = Places::of(rt, alloc, given)?;
         let paths = places.paths(alloc)?;
+        let found_new_text = look_for(rt, &paths.new_text)?;
+        let found_new_journal = look_for(rt, &paths.new_journal)?;
         let name = String::from_str(alloc, name)?;
         Ok(FilePaths {
             name,
@@ -96,6 +114,8 @@ impl FilePaths {
             new_text: paths.new_text,
             journal: paths.journal,
             new_journal: paths.new_journal,
+            found_new_text,
+            found_new_journal,
         })
     }
 
@@ -117,6 +137,16 @@ impl FilePaths {
             Some(journal) => &journal.folder,
             None => &self.places.given.folder,
         }
+    }
+
+    /// Returns what had the path of the text when its folder was opened.
+    pub fn found_text(&self) -> &Look {
+        &self.places.found_text
+    }
+
+    /// Returns what had the path of the journal when its folder was opened.
+    pub fn found_journal(&self) -> &Look {
+        &self.places.found_journal
     }
 
     /// Returns who may create files beside the text; none if the journal is in another folder, or the
@@ -151,19 +181,22 @@ impl Places {
     fn of<R: SystemFiles>(rt: &R, alloc: Global, given: Place) -> Result<Places, Trouble>
         ensures { IfErr result (λ trouble. is_file_fault trouble.fault ≡ true) }
     {
-        let is_link = given.is_link(rt, alloc, "")?;
+        let found = given.look(rt, alloc, "")?;
+        let is_link = found.is_link();
         let text = if is_link {
             given.end_of_links(rt, alloc)?
         } else {
-            None
+            Target { place: None, found }
         };
-        let journal = given.linked_journal(rt, alloc)?;
-        let is_text_link = is_link && text.is_none();
+        let journal = given.journal_target(rt, alloc)?;
+        let is_text_link = is_link && text.place.is_none();
         Ok(Places {
             given,
-            text,
-            journal,
+            text: text.place,
+            journal: journal.place,
             is_text_link,
+            found_text: text.found,
+            found_journal: journal.found,
         })
     }
 
@@ -184,6 +217,24 @@ impl Places {
             journal,
             new_journal,
         })
+    }
+}
+
+impl Target {
+    /// Returns the target of links that lead to nothing that has a name.
+    fn nameless() -> Target {
+        Target {
+            place: None,
+            found: Look::Unknown,
+        }
+    }
+
+    /// Returns the target of links that lead to this place, where this was found.
+    fn named(place: Place, found: Metadata) -> Target {
+        Target {
+            place: Some(place),
+            found: Look::Found(found),
+        }
     }
 }
 
@@ -210,49 +261,39 @@ impl Place {
         format!(in alloc; "{prefix}{name}{suffix}{second}")
     }
 
-    /// Returns what has this name with the suffix; none if nothing has, or the system doesn't say.
+    /// Returns what has this name with the suffix.
     fn look<R: SystemFiles>(
         &self,
         rt: &R,
         alloc: Global,
         suffix: &str,
-    ) -> Result<Option<Metadata>, AllocError> {
+    ) -> Result<Look, AllocError> {
         let path = self.path(alloc, suffix, "")?;
-        Ok(fs::symlink_metadata(rt, &path).ok())
+        Ok(Look::at(rt, &path))
     }
 
-    /// Returns whether this name with the suffix is that of a link.
-    fn is_link<R: SystemFiles>(
-        &self,
-        rt: &R,
-        alloc: Global,
-        suffix: &str,
-    ) -> Result<bool, AllocError> {
-        match self.look(rt, alloc, suffix)? {
-            Some(found) => Ok(found.is_symlink()),
-            None => Ok(false),
-        }
-    }
-
-    /// Returns what this name leads to: of links that lead one to the next, what the last one leads
-    /// to. None where it leads to nothing that has a name.
-    fn end_of_links<R: SystemFiles>(&self, rt: &R, alloc: Global) -> Result<Option<Place>, Trouble>
+    /// Returns what the link of this name leads to: of links that lead one to the next, what the
+    /// last one leads to. None where it leads to nothing that has a name.
+    fn end_of_links<R: SystemFiles>(&self, rt: &R, alloc: Global) -> Result<Target, Trouble>
         ensures { IfErr result (λ trouble. is_file_fault trouble.fault ≡ true) }
     {
         let Some(mut place) = self.follow(rt, alloc, "")? else {
-            return Ok(None);
+            return Ok(Target::nameless());
         };
         for _ in 0..MOST_LINKS {
-            if !place.is_link(rt, alloc, "")? {
-                let is_found = place.look(rt, alloc, "")?.is_some();
-                return Ok(is_found.then_some(place));
+            match place.look(rt, alloc, "")? {
+                Look::Found(found) if !found.is_symlink() => {
+                    return Ok(Target::named(place, found));
+                }
+                Look::Found(_) => {}
+                _ => return Ok(Target::nameless()),
             }
             match place.follow(rt, alloc, "")? {
                 Some(next) => place = next,
-                None => return Ok(None),
+                None => return Ok(Target::nameless()),
             }
         }
-        Ok(None)
+        Ok(Target::nameless())
     }
 
     /// Returns what the link of this name with the suffix leads to; none if the system doesn't say
@@ -278,21 +319,17 @@ impl Place {
         }
     }
 
-    /// Returns what the journal of the file of this name leads to, if it is a link.
+    /// Returns what the name of the journal of the file of this name leads to.
     ///
     /// # Errors
     ///
-    /// `Memory`; `Read` if the link may not be followed.
-    fn linked_journal<R: SystemFiles>(
-        &self,
-        rt: &R,
-        alloc: Global,
-    ) -> Result<Option<Place>, Trouble>
+    /// `Memory`; `Read` if it is a link that may not be followed.
+    fn journal_target<R: SystemFiles>(&self, rt: &R, alloc: Global) -> Result<Target, Trouble>
         ensures { IfErr result (λ trouble. is_file_fault trouble.fault ≡ true) }
     {
         let link = match self.look(rt, alloc, JOURNAL)? {
-            Some(found) if found.is_symlink() => found,
-            _ => return Ok(None),
+            Look::Found(found) if found.is_symlink() => found,
+            found => return Ok(Target { place: None, found }),
         };
         match self.follow(rt, alloc, JOURNAL) {
             Ok(Some(target)) => target.as_journal(rt, alloc, &link),
@@ -311,11 +348,13 @@ impl Place {
         rt: &R,
         alloc: Global,
         link: &Metadata,
-    ) -> Result<Option<Place>, Trouble>
+    ) -> Result<Target, Trouble>
         ensures { IfErr result (λ trouble. is_file_fault trouble.fault ≡ true) }
     {
         match self.look(rt, alloc, "")? {
-            Some(found) if self.may_be_journal(rt, link, &found) => Ok(Some(self)),
+            Look::Found(found) if self.may_be_journal(rt, link, &found) => {
+                Ok(Target::named(self, found))
+            }
             _ => Err(Trouble::unread(Subject::Journal, Reason::Link)),
         }
     }
@@ -327,13 +366,4 @@ impl Place {
         self.name.as_str().ends_with(JOURNAL)
             && (link.is_of(caller(rt)) || link.has_owner_of(&Access::of(file)))
     }
-}
-
-/// Returns whether a call that failed with this error shows that no file has its name; none has a
-/// name that is too long for the system.
-pub fn is_not_found(error: &io::Error) -> bool {
-    matches!(
-        error.kind(),
-        ErrorKind::NotFound | ErrorKind::InvalidFilename
-    )
 }

@@ -28,7 +28,8 @@ pub struct Folder {
     /// None without the permission to read the folder.
     handle: Option<File>,
     /// The first part of the paths of files in this folder: what the system shows of the handle; or,
-    /// where it shows no handles, the folder's name as it was given.
+    /// where it shows no handles, the folder's name as it was given. It is empty for the current
+    /// folder, which stays the same one whatever has its name.
     prefix: String,
 }
 
@@ -43,6 +44,10 @@ impl Folder {
     {
         let itself = format!(in alloc; "{name}.")?;
         match fs::open(rt, &itself) {
+            Ok(handle) if name.is_empty() => Ok(Folder {
+                handle: Some(handle),
+                prefix: name,
+            }),
             Ok(handle) => Ok(Folder::of_handle(rt, alloc, handle, name)?),
             Err(error) if error.kind() == ErrorKind::PermissionDenied => Ok(Folder {
                 handle: None,

@@ -3,10 +3,10 @@
 ghost use Rattle.std.specs.Prelude.{◌≡◌, ◌↔◌, true};
 ghost use Rattle.tf_files.specs.Common.{IsFileOf, IsSomeFileOf, HaveCommon, files_read};
 
-use crate::file_paths::{FilePaths, is_not_found};
-use crate::folder::SystemFiles;
+use crate::file_paths::FilePaths;
+use crate::look::Look;
 use crate::snapshot::Snapshots;
-use std::fs::{self, Metadata, OpenFile};
+use std::fs::{Metadata, OpenFile};
 use std::os::unix::fs::MetadataExt;
 
 /// What identifies a file or a directory, whatever its names are.
@@ -45,21 +45,24 @@ pub struct FoundFiles {
 }
 
 impl FoundFiles {
-    /// Returns the files at these paths. None where the text, or a journal that is there, is no
-    /// regular file, or the system does not say: then it may have anything in common with others.
-    pub fn of<R: SystemFiles>(rt: &R, paths: &FilePaths) -> Option<FoundFiles> {
-        let text = match paths.look_at_text(rt) {
-            Ok(found) => regular_file(&found)?,
-            Err(_) => return None,
+    /// Returns the files that were found at these paths. None where the text, or a journal that is
+    /// there, is no regular file, or the system does not say: then it may have anything in common
+    /// with others.
+    pub fn of(paths: &FilePaths) -> Option<FoundFiles> {
+        let text = match paths.found_text() {
+            Look::Found(text) => regular_file(text)?,
+            _ => return None,
         };
-        let journal = journal_file(rt, &paths.journal)?;
-        let new_text = new_file(rt, &paths.new_text)?;
-        let new_journal = new_file(rt, &paths.new_journal)?;
+        let journal = match paths.found_journal() {
+            Look::Found(journal) => Some(regular_file(journal)?),
+            Look::Nothing => None,
+            Look::Unknown => return None,
+        };
         Some(FoundFiles {
             text,
             journal,
-            new_text,
-            new_journal,
+            new_text: paths.found_new_text.as_ref().map(FileId::of),
+            new_journal: paths.found_new_journal.as_ref().map(FileId::of),
         })
     }
 
@@ -116,24 +119,4 @@ impl FoundFiles {
 /// Returns the id of a file of which this was found, if it is a regular one.
 fn regular_file(found: &Metadata) -> Option<FileId> {
     found.is_file().then_some(FileId::of(found))
-}
-
-/// Returns the id of a journal, or `Some(None)` if nothing has its name; none where something else
-/// has, such as a link, or the system does not say.
-fn journal_file<R: SystemFiles>(rt: &R, name: &str) -> Option<Option<FileId>> {
-    match fs::symlink_metadata(rt, name) {
-        Ok(found) => regular_file(&found).map(Some),
-        Err(error) if is_not_found(&error) => Some(None),
-        Err(_) => None,
-    }
-}
-
-/// Returns the id of what an interrupted command has left under this name, or `Some(None)` if it
-/// has left nothing; none if the system does not say.
-fn new_file<R: SystemFiles>(rt: &R, name: &str) -> Option<Option<FileId>> {
-    match fs::symlink_metadata(rt, name) {
-        Ok(found) => Some(Some(FileId::of(&found))),
-        Err(error) if is_not_found(&error) => Some(None),
-        Err(_) => None,
-    }
 }

@@ -8,7 +8,7 @@ ghost use Rattle.tf_files.specs.Trust.{is_trusted};
 ghost use Rattle.tf_files.specs.declared.trust.Access.{Access};
 
 use crate::cause::{Reason, Subject, Trouble};
-use crate::file_paths::{FilePaths, is_not_found};
+use crate::file_paths::FilePaths;
 use crate::folder::SystemFiles;
 use crate::found_files::FileId;
 use crate::trust::{Access, caller, is_trusted};
@@ -40,17 +40,16 @@ pub struct Leftovers {
 }
 
 impl Leftovers {
-    /// Returns which new files there are beside a file.
+    /// Returns which new files were found beside a file.
     ///
     /// # Errors
     ///
-    /// `Read` if the system does not say it, or if one may not be taken for a new file.
+    /// `Read` if one may not be taken for a new file.
     pub fn of<R: SystemFiles>(rt: &R, paths: &FilePaths) -> Result<Leftovers, Trouble>
         ensures { IfErr result (λ trouble. is_file_fault trouble.fault ≡ true) }
     {
-        let new_text = look_for(rt, &paths.new_text)?;
-        let new_journal = look_for(rt, &paths.new_journal)?;
-        check_new_files(rt, paths, &new_text, &new_journal)?;
+        let (new_text, new_journal) = (&paths.found_new_text, &paths.found_new_journal);
+        check_new_files(rt, paths, new_text, new_journal)?;
         Ok(Leftovers {
             new_text: new_text.as_ref().map(Found::of),
             new_journal: new_journal.as_ref().map(Found::of),
@@ -165,6 +164,10 @@ pub fn refusal<R: SystemFiles>(
         × (caller : Option ℕ) × (is_none result ≡ true
         ↔ IsFile (file_type found.now) × (is_trusted file text.now folder caller ≡ true)) }
 {
+    // most files may be taken whatever the folder and whoever the caller is
+    if refusal_by(found, text, None, None).is_none() {
+        return None;
+    }
     refusal_by(found, text, paths.shared_access(), caller(rt))
 }
 
@@ -216,21 +219,5 @@ fn is_of_found(file: &File, found: Found) -> bool {
     match file.metadata() {
         Ok(opened) => Found::of(&opened) == found,
         Err(_) => false,
-    }
-}
-
-/// Returns what has this path; `Ok(None)` if nothing has.
-///
-/// # Errors
-///
-/// `Read` if the system does not say it.
-pub fn look_for<R: SystemFiles>(rt: &R, path: &str) -> Result<Option<Metadata>, Trouble>
-    ensures { IfErr result (λ trouble. is_file_fault trouble.fault ≡ true) }
-{
-    match fs::symlink_metadata(rt, path) {
-        Ok(found) => Ok(Some(found)),
-        Err(error) if is_not_found(&error) => Ok(None),
-        // its folder may not be searched, as for the file
-        Err(error) => Err(Trouble::unread_after(Subject::File, &error)),
     }
 }

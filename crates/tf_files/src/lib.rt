@@ -11,6 +11,7 @@ mod folder;
 mod found_files;
 mod journaled_file;
 mod leftovers;
+mod look;
 mod new_file;
 mod overwrite_files;
 mod reading;

@@ -4,13 +4,15 @@ ghost use Rattle.std.specs.Prelude.{◌≡◌};
 ghost use Rattle.tf_files.specs.Modes.{first_journal_mode};
 
 use crate::calls::{NewFile, PartFile, reply_to};
-use crate::file_paths::{FilePaths, is_not_found};
+use crate::file_paths::FilePaths;
 use crate::folder::{SystemFiles, handle_path};
 use crate::found_files::FileId;
 use crate::leftovers::Found;
+use crate::look::is_not_found;
 use crate::snapshot::Snapshot;
+use crate::trust::Access;
 use std::alloc::Global;
-use std::fs::{self, File, Metadata, OpenFile, OpenOptions, Permissions};
+use std::fs::{self, File, OpenFile, OpenOptions, Permissions};
 use std::io::{self, ErrorKind, Seek, Write};
 use std::os::unix::fs::{MetadataExt, OpenOptionsExt, PermissionsExt, fchown};
 use tf_saving::{Reply, SavedFile};
@@ -89,82 +91,38 @@ fn is_ruled_out(error: &io::Error) -> bool {
     )
 }
 
-/// Gives the new file the owner, group and mode of the old one; a first journal those of the text's
-/// file. Where the old one is not the file that was read, it may have an owner or a mode that no
-/// new file is to have here, such as root's.
-pub fn copy_attributes<R: SystemFiles>(rt: &R, part: SavedFile, file: &mut PartFile<'_>) -> Reply {
-    match copy_found_attributes(rt, part, file) {
-        Ok(Some(reply)) => reply,
-        Ok(None) => {
-            file.note_change(file.own_subject());
-            Reply::Failed
-        }
-        Err(error) => {
-            file.note(&error);
-            Reply::Failed
-        }
-    }
-}
-
-/// Copies the attributes of the old file; none if that is not the one that was read.
-///
-/// # Errors
-///
-/// That of the look at the old file.
-fn copy_found_attributes<R: SystemFiles>(
-    rt: &R,
-    part: SavedFile,
-    file: &PartFile<'_>,
-) -> io::Result<Option<Reply>> {
+/// Gives the new file the owner, group and mode that the old one had when it was read; a first
+/// journal those of the text's file. Whatever has the old one's name by now, another user's file or
+/// one of another mode, is not looked at: that it is still the same is compared before the rename.
+pub fn copy_attributes(part: SavedFile, file: &mut PartFile<'_>) -> Reply {
     let (Some(read), NewFile::Open(created)) = (file.read, &file.new_file) else {
-        return Ok(Some(Reply::Failed));
+        return Reply::Failed;
     };
     match (part, read.journal) {
-        (SavedFile::Text, _) => make_like(rt, file.own, read.text, created),
-        (SavedFile::Journal, Some(journal)) => make_like(rt, file.own, journal, created),
-        (SavedFile::Journal, None) => make_first_journal(rt, file.paths, read.text, created),
+        (SavedFile::Text, _) => make_like(read.text.access(), created),
+        (SavedFile::Journal, Some(journal)) => make_like(journal.access(), created),
+        (SavedFile::Journal, None) => make_first_journal(read.text.access(), created),
     }
 }
 
-/// Gives the new file the owner, group and mode of a file that was read; none if that is another one
-/// now. The owner comes first, since a change of it takes bits of the mode away.
-///
-/// # Errors
-///
-/// That of the look at the file.
-fn make_like<R: SystemFiles>(
-    rt: &R,
-    path: &str,
-    seen: Snapshot,
-    created: &File,
-) -> io::Result<Option<Reply>> {
-    let Some(old) = unless_absent(fs::symlink_metadata(rt, path))? else {
-        return Ok(None);
-    };
-    if Snapshot::of_found(&old) == seen {
-        return Ok(Some(match copy_owner(&old, created) {
-            Reply::Done => set_permissions(created, old.permissions()),
+/// Gives the new file the owner, group and mode of an old one, of which this was read; `Failed` if
+/// that was no regular file. The owner comes first, since a change of it takes bits of the mode away.
+fn make_like(old: Option<Access>, created: &File) -> Reply {
+    match old {
+        Some(old) => match copy_owner(old, created) {
+            Reply::Done => set_permissions(created, Permissions::from_mode(old.mode)),
             reply => reply,
-        }));
-    }
-    // another command has renamed the new file to the part: its bytes have to follow
-    Ok(is_created(&old, created).then_some(Reply::Done))
-}
-
-/// Returns whether what was found is the new file itself.
-fn is_created(found: &Metadata, created: &File) -> bool {
-    match created.metadata() {
-        Ok(own) => FileId::of(found) == FileId::of(&own),
-        Err(_) => false,
+        },
+        None => Reply::Failed,
     }
 }
 
 /// Gives an open file the owner and group of the old one, unless it has them already. It is done by
 /// the handle, since another program may have put any file in the place of the name.
-fn copy_owner(old: &Metadata, file: &File) -> Reply {
+fn copy_owner(old: Access, file: &File) -> Reply {
     match file.metadata() {
-        Ok(new) if new.uid() == old.uid() && new.gid() == old.gid() => Reply::Done,
-        Ok(_) => reply_to_owner(fchown(file, Some(old.uid()), Some(old.gid()))),
+        Ok(new) if new.uid() == old.owner && new.gid() == old.group => Reply::Done,
+        Ok(_) => reply_to_owner(fchown(file, Some(old.owner), Some(old.group))),
         Err(_) => Reply::Failed,
     }
 }
@@ -179,41 +137,18 @@ fn reply_to_owner(answer: io::Result<()>) -> Reply {
     }
 }
 
-/// Gives a first journal the owner and group of the text's file, and of its mode what a journal
-/// needs; none if that file is another one now.
-///
-/// # Errors
-///
-/// That of the look at the text's file.
-fn make_first_journal<R: SystemFiles>(
-    rt: &R,
-    paths: &FilePaths,
-    seen: Snapshot,
-    created: &File,
-) -> io::Result<Option<Reply>> {
-    let text = match unless_absent(paths.look_at_text(rt))? {
-        Some(text) if Snapshot::of_found(&text) == seen => text,
-        _ => return Ok(None),
-    };
-    Ok(Some(match copy_owner(&text, created) {
-        Reply::Done => {
-            let mode = first_journal_mode(text.permissions().mode(), true, true);
-            set_permissions(created, Permissions::from_mode(mode))
-        }
-        reply => reply,
-    }))
-}
-
-/// Returns what a look has found; none if there is none.
-///
-/// # Errors
-///
-/// Any other one of the look.
-fn unless_absent(look: io::Result<Metadata>) -> io::Result<Option<Metadata>> {
-    match look {
-        Ok(found) => Ok(Some(found)),
-        Err(error) if is_not_found(&error) => Ok(None),
-        Err(error) => Err(error),
+/// Gives a first journal the owner and group of the text's file, of which this was read, and of its
+/// mode what a journal needs; `Failed` if that was no regular file.
+fn make_first_journal(text: Option<Access>, created: &File) -> Reply {
+    match text {
+        Some(text) => match copy_owner(text, created) {
+            Reply::Done => {
+                let mode = first_journal_mode(text.mode, true, true);
+                set_permissions(created, Permissions::from_mode(mode))
+            }
+            reply => reply,
+        },
+        None => Reply::Failed,
     }
 }
 
@@ -229,9 +164,10 @@ pub fn adapt_first_journal<R: SystemFiles>(
         return;
     };
     if Snapshot::of_found(&text) == seen {
-        let has_owner = matches!(copy_owner(&text, created), Reply::Done);
-        let has_group = has_owner || fchown(created, None, Some(text.gid())).is_ok();
-        let mode = first_journal_mode(text.permissions().mode(), has_owner, has_group);
+        let text = Access::of(&text);
+        let has_owner = matches!(copy_owner(text, created), Reply::Done);
+        let has_group = has_owner || fchown(created, None, Some(text.group)).is_ok();
+        let mode = first_journal_mode(text.mode, has_owner, has_group);
         let _ = set_permissions(created, Permissions::from_mode(mode));
     }
 }

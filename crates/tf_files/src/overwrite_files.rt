@@ -1,6 +1,6 @@
 //! Writes a text and its journal in place, where no new files can replace them.
 
-use crate::cause::{Cause, Reason, Trouble};
+use crate::cause::{Cause, Reason, Subject, Trouble};
 use crate::file_part::{Unwritten, subject_of, unwritten_part, write_fault, write_part};
 use crate::file_paths::FilePaths;
 use crate::folder::SystemFiles;
@@ -205,7 +205,11 @@ fn create_journal<R: SystemFiles>(
     seen: Snapshot,
 ) -> Result<File, Trouble> {
     if !paths.journal_folder().is_open() {
-        return Err(Trouble::from(write_fault(SessionPart::Journal, 0)));
+        let cause = Cause {
+            subject: Subject::FirstJournal,
+            reason: Reason::InUnreadFolder,
+        };
+        return Err(unwritten_part(SessionPart::Journal, 0, Some(cause)));
     }
     let mut options = OpenOptions::new();
     options.write(true).create_new(true).mode(PRIVATE);
@@ -214,7 +218,10 @@ fn create_journal<R: SystemFiles>(
             adapt_first_journal(rt, paths, seen, &journal);
             Ok(journal)
         }
-        Err(error) => Err(refused(SessionPart::Journal, 0, &error)),
+        Err(error) => {
+            let cause = Cause::after(Subject::FirstJournal, &error);
+            Err(unwritten_part(SessionPart::Journal, 0, cause))
+        }
     }
 }
 

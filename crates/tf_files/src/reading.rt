@@ -7,16 +7,33 @@ ghost use Rattle.tf_files.specs.Reading.{IsAllOf, IsTextFault, IsJournalFault};
 use crate::cause::{Reason, Subject, Trouble};
 use crate::file_paths::FilePaths;
 use crate::folder::SystemFiles;
-use crate::leftovers::{Found, look_for, open_found, refusal};
+use crate::leftovers::{Found, open_found, refusal};
+use crate::look::look_for;
 use crate::snapshot::{Snapshot, Snapshots};
 use crate::trust::Access;
 use std::alloc::Global;
-use std::fs::{self, File, OpenFile};
-use std::io::Read;
+use std::fs::{self, File, Metadata, OpenFile};
+use std::io::{self, Read};
 use tf_session::{RunFault, Told, take_journal, take_text};
 
 /// The system's number of the error that a file is a folder: `EISDIR` of Linux.
 const IS_A_FOLDER: i32 = 21;
+
+/// A file that was opened to be read.
+#[derive(Drop)]
+struct OpenText {
+    file: File,
+    /// What the system said of it before it was read.
+    found: io::Result<Metadata>,
+}
+
+/// A journal that was opened to be read.
+#[derive(Drop)]
+struct OpenJournal {
+    file: File,
+    /// What it was when it was found.
+    seen: Snapshot,
+}
 
 /// What was read of a file and its journal.
 #[derive(Drop)]
@@ -42,19 +59,19 @@ pub fn read<R: SystemFiles>(
 ) -> Result<ReadContents, Trouble>
     ensures { IfErr result (λ trouble. is_file_fault trouble.fault ≡ true) }
 {
-    let text = open_to_read(rt, &paths.text)?;
-    let seen = Snapshot::of_opened(&text);
+    let text = open_text(rt, &paths.text)?;
+    let seen = text.seen();
     match find_journal(rt, paths, &text) {
         Ok(Some(journal)) => {
-            let seen = Snapshots::with_journal(seen, Snapshot::of_opened(&journal));
-            read_both(alloc, text, journal, seen)
+            let seen = Snapshots::with_journal(seen, Some(journal.seen));
+            read_both(alloc, text.file, journal.file, seen)
         }
         Ok(None) => {
             let seen = Snapshots::without_journal(seen);
-            read_both(alloc, text, b"".as_slice(), seen)
+            read_both(alloc, text.file, b"".as_slice(), seen)
         }
-        Err(trouble) => match take_text(alloc, &mut Told::new(text)) {
-            Err(RunFault::Endless) => Err(Trouble::from(RunFault::Endless)),
+        Err(trouble) => match take_text(alloc, &mut Told::new(text.file)) {
+            Err(RunFault::Endless) => Err(Trouble::of_text(RunFault::Endless)),
             Err(RunFault::Memory) => Err(Trouble::from(RunFault::Memory)),
             _ => Err(trouble),
         },
@@ -86,21 +103,37 @@ pub fn read_with<R: SystemFiles>(
 pub fn open_to_read<R: SystemFiles>(rt: &R, path: &str) -> Result<File, Trouble>
     ensures { IfErr result (λ trouble. is_file_fault trouble.fault ≡ true) }
 {
-    match fs::open(rt, path) {
-        Ok(text) if is_folder(&text) => {
+    Ok(open_text(rt, path)?.file)
+}
+
+/// Opens a file to be read, and keeps what the system says of it.
+///
+/// # Errors
+///
+/// As those of [`open_to_read`].
+fn open_text<R: SystemFiles>(rt: &R, path: &str) -> Result<OpenText, Trouble>
+    ensures { IfErr result (λ trouble. is_file_fault trouble.fault ≡ true) }
+{
+    let file = match fs::open(rt, path) {
+        Ok(file) => file,
+        Err(error) => return Err(Trouble::unread_after(Subject::File, &error)),
+    };
+    match file.metadata() {
+        Ok(found) if found.is_dir() => {
             let reason = Reason::System(IS_A_FOLDER);
             Err(Trouble::unread(Subject::File, reason))
         }
-        Ok(text) => Ok(text),
-        Err(error) => Err(Trouble::unread_after(Subject::File, &error)),
+        found => Ok(OpenText { file, found }),
     }
 }
 
-/// Returns whether this is known to be a folder.
-fn is_folder(file: &File) -> bool {
-    match file.metadata() {
-        Ok(found) => found.is_dir(),
-        Err(_) => false,
+impl OpenText {
+    /// Returns its snapshot from before it is read; none if the system does not say.
+    fn seen(&self) -> Option<Snapshot> {
+        match &self.found {
+            Ok(found) => Some(Snapshot::of_found(found)),
+            Err(_) => None,
+        }
     }
 }
 
@@ -113,22 +146,23 @@ fn is_folder(file: &File) -> bool {
 fn find_journal<R: SystemFiles>(
     rt: &R,
     paths: &FilePaths,
-    text: &File,
-) -> Result<Option<File>, Trouble>
+    text: &OpenText,
+) -> Result<Option<OpenJournal>, Trouble>
     ensures { IfErr result (λ trouble. is_file_fault trouble.fault ≡ true) }
 {
     let Some(found) = look_for(rt, &paths.journal)? else {
         return Ok(None);
     };
-    let text = match text.metadata() {
-        Ok(text) => Access::of(&text),
-        Err(error) => return Err(Trouble::unread_after(Subject::File, &error)),
+    let text = match &text.found {
+        Ok(text) => Access::of(text),
+        Err(error) => return Err(Trouble::unread_after(Subject::File, error)),
     };
     if let Some(reason) = refusal(rt, paths, &found, &text) {
         return Err(Trouble::unread(Subject::Journal, reason));
     }
-    let journal = open_found(rt, &paths.journal, Found::of(&found), Subject::Journal)?;
-    Ok(Some(journal))
+    let file = open_found(rt, &paths.journal, Found::of(&found), Subject::Journal)?;
+    let seen = Snapshot::of_found(&found);
+    Ok(Some(OpenJournal { file, seen }))
 }
 
 /// Reads a text and then a journal, each up to its end.
@@ -145,8 +179,14 @@ fn read_both<T: Read + Drop, J: Read + Drop>(
         ⊎ IsJournalFault (J.remaining journal) trouble.fault) }
     ensures fault { IfErr result (λ trouble. is_file_fault trouble.fault ≡ true) }
 {
-    let text = take_text(alloc, &mut Told::new(text))?;
-    let journal = take_journal(alloc, &mut Told::new(journal))?;
+    let text = match take_text(alloc, &mut Told::new(text)) {
+        Ok(text) => text,
+        Err(fault) => return Err(Trouble::of_text(fault)),
+    };
+    let journal = match take_journal(alloc, &mut Told::new(journal)) {
+        Ok(journal) => journal,
+        Err(fault) => return Err(Trouble::of_journal(fault)),
+    };
     Ok(ReadContents {
         text,
         journal,

@@ -1,12 +1,14 @@
 //! Whether a file or its journal has changed.
 ghost use Rattle.std.specs.Prelude.{◌≡◌, is_some, is_none};
 ghost use Rattle.tf_files.specs.Common.{regular_id};
-ghost use Rattle.tf_files.specs.Snapshots.{snapshots_of, snapshots_of_text};
+ghost use Rattle.tf_files.specs.Snapshots.{access_of, snapshots_of, snapshots_of_text};
 
 use crate::cause::{Reason, Subject, Trouble};
-use crate::file_paths::{FilePaths, is_not_found};
+use crate::file_paths::FilePaths;
 use crate::folder::SystemFiles;
 use crate::found_files::FileId;
+use crate::look::is_not_found;
+use crate::trust::Access;
 use std::fs::{self, Metadata, OpenFile};
 use std::os::unix::fs::MetadataExt;
 
@@ -18,9 +20,7 @@ use std::os::unix::fs::MetadataExt;
 struct FileState {
     size: u64,
     modified: (i64, i64),
-    owner: u32,
-    group: u32,
-    mode: u32,
+    access: Access,
 }
 
 /// A file at a moment. Of a device or a pipe there is no state, since reading changes its times.
@@ -57,6 +57,16 @@ impl Snapshot {
         ensures { result ≡ is_some self.now.regular }
     {
         self.regular.is_some()
+    }
+
+    /// Returns the owner, group and mode of the file, if it is a regular one.
+    pub fn access(&self) -> Option<Access>
+        ensures { result ≡ access_of self.now }
+    {
+        match self.regular {
+            Some(state) => Some(state.access),
+            None => None,
+        }
     }
 
     /// Returns the id of the file, if it is a regular one.
@@ -155,9 +165,7 @@ impl FileState {
         FileState {
             size: found.len(),
             modified: (found.mtime(), found.mtime_nsec()),
-            owner: found.uid(),
-            group: found.gid(),
-            mode: found.mode(),
+            access: Access::of(found),
         }
     }
 }

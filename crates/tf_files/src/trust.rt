@@ -4,7 +4,7 @@
 ghost use Rattle.std.specs.Prelude.{◌≡◌, ◌==◌};
 ghost use Rattle.std.specs.Fs.{metadata_mode};
 ghost use Rattle.tf_files.specs.Trust.{is_of, may_group_write, may_others_write, may_only_group_create};
-ghost use Rattle.tf_files.specs.Trust.{is_of_team, is_of_team_in, is_of_owner, is_written_alike, is_closed};
+ghost use Rattle.tf_files.specs.Trust.{is_of_team, is_of_team_in, is_of_owner, is_written_alike};
 ghost use Rattle.tf_files.specs.Trust.{is_trusted};
 
 use crate::folder::SystemFiles;
@@ -24,9 +24,9 @@ const OTHERS_WRITE: u32 = 0o002;
 /// The owner, the group and the mode of a file or folder.
 #[derive(Clone, Copy, PartialEq, Eq)]
 pub struct Access {
-    owner: u32,
-    group: u32,
-    mode: u32,
+    pub owner: u32,
+    pub group: u32,
+    pub mode: u32,
 }
 
 impl Access {
@@ -78,18 +78,16 @@ impl Access {
 pub fn is_trusted(file: &Access, text: &Access, folder: Option<Access>, caller: Option<u32>) -> bool
     ensures { result ≡ is_trusted file.now text.now folder caller }
 {
-    text.may_others_write()
-        || is_of_team_in(file, text, folder)
-        || is_of_owner(file, text, folder, caller)
+    text.may_others_write() || is_of_team_in(file, text, folder) || is_of_owner(file, text, caller)
 }
 
 /// Returns whether a file belongs to the caller or to the text's owner, and nobody else can have
-/// written it: such a file can be linked or moved here by others.
-fn is_of_owner(file: &Access, text: &Access, folder: Option<Access>, caller: Option<u32>) -> bool
-    ensures { result ≡ is_of_owner file.now text.now folder caller }
+/// written it: such a file can be linked or moved here by others, and to write into one that is here
+/// needs no right to create files.
+fn is_of_owner(file: &Access, text: &Access, caller: Option<u32>) -> bool
+    ensures { result ≡ is_of_owner file.now text.now caller }
 {
-    let is_own = file.is_of(caller) || file.has_owner_of(text);
-    is_own && (is_written_alike(file, text) || is_closed(text, folder, caller))
+    (file.is_of(caller) || file.has_owner_of(text)) && is_written_alike(file, text)
 }
 
 /// Returns whether those who may write a file may write the text, apart from its owner.
@@ -98,21 +96,6 @@ fn is_written_alike(file: &Access, text: &Access) -> bool
 {
     !file.may_others_write()
         && (!file.may_group_write() || file.group == text.group && text.may_group_write())
-}
-
-/// Returns whether only the caller or the text's owner may create files in a folder of which this is
-/// known.
-fn is_closed(text: &Access, folder: Option<Access>, caller: Option<u32>) -> bool
-    ensures { result ≡ is_closed text.now folder caller }
-{
-    match folder {
-        Some(folder) => {
-            !folder.may_others_write()
-                && !folder.may_group_write()
-                && (folder.is_of(caller) || folder.has_owner_of(text))
-        }
-        None => false,
-    }
 }
 
 /// Returns whether a file is one of the group that may write the text, in a folder of which this is
