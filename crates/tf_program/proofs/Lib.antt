@@ -1,10 +1,11 @@
-pub mod Checking
+pub mod Answering
 pub mod Fixing
 pub mod Holding
-pub mod Lending
 pub mod Listing
 pub mod Locating
 pub mod Naming
+pub mod PrintedParts
 pub mod Refusing
 pub mod Running
+pub mod ShortMessages
 pub mod Waiting

@@ -5,7 +5,8 @@ use Rattle.tf_files.specs.FileEffects.{HasNoEffectOnFile}
 use Rattle.tf_files.specs.declared.journaled_file.JournaledFile.{JournaledFile}
 use Rattle.tf_program.specs.declared.file_error.FileError.{FileError}
 use Rattle.tf_program.specs.declared.files.Made.{Made}
-use Rattle.tf_program.specs.Work.{IsMadeOfName, IsMadeOf, IsNotMadeOfName, IsLocatedIn, file_text}
+use Rattle.tf_program.specs.Location.{IsLocatedIn}
+use Rattle.tf_program.specs.Work.{IsMadeOfName, IsMadeOf, IsNotMadeOfName, file_text}
 
 pub made_of : (command : Command) (name : List ℕ) (file : JournaledFile) (result : Result Made FileError) → string_bytes file.paths.name ≡ name
     → IfOk result (IsMadeOf command file) → IfOk result (IsMadeOfName command name)

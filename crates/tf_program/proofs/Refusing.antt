@@ -5,8 +5,7 @@ use Rattle.tf_session.specs.declared.fault.RunFault.{RunFault}
 use Rattle.tf_session.specs.Invocations.{is_limit}
 use Rattle.tf_program.specs.declared.file_error.FileError.{FileError}
 use Rattle.tf_program.specs.declared.location.Location.{Location}
-use Rattle.tf_program.specs.Location.{IsLocationOf, byte_of}
-use Rattle.tf_program.specs.Work.{IsLocatedIn}
+use Rattle.tf_program.specs.Location.{IsLocationOf, IsLocatedIn, byte_of}
 
 pub is_located : (text bytes : List ℕ) (locate : Bool) (fault : RunFault) (error : FileError) → locate ≡ true → bytes ≡ text → error.fault ≡ fault
     → IsLocationOf bytes (byte_of fault) error.location → IsLocatedIn text locate error

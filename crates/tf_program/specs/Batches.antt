@@ -1,4 +1,4 @@
--- What a batch holds of the files that it is given, and what is noted of each of them.
+-- What a batch holds of the files that it is given, and what is printed and met of each of them.
 use Rattle.std.specs.Prelude.{◌≡◌, ◌+◌, ◌<◌, ◌⊎◌, ◌↔◌, ℕ, Bool, true, false, List, [], ◌∷◌, ◌++◌, length}
 use Rattle.std.specs.Prelude.{Option, Some, None, Result, Ok, Err, IfOk, IfErr, vec_len}
 use Rattle.std.specs.Borrow.{Bor}
@@ -13,9 +13,16 @@ use Rattle.tf_program.specs.declared.batch.Batch.{Batch}
 use Rattle.tf_program.specs.declared.batch.Entry.{Entry}
 use Rattle.tf_program.specs.declared.file_error.FileError.{FileError}
 use Rattle.tf_program.specs.declared.files.Made.{Made}
+use Rattle.tf_program.specs.Answers.{AnswersName}
+use Rattle.tf_program.specs.Printing.{Channel, Console, PrintsAll, FailsToPrint, PrintsError}
 use Rattle.tf_program.specs.Work.{IsMadeOfName, IsNotMadeOfName, file_command}
 
--- ---- what is noted
+-- ---- what is met
+
+-- what the files of a run have met, and its streams
+pub record Progress : Type 0 where
+  pub outcome : RunOutcome
+  pub console : Console
 
 -- one more file has met this
 abbrev pub IsOutcomeNoted : FileOutcome → RunOutcome → RunOutcome → Type 0
@@ -31,23 +38,57 @@ IsFaultNoted old new =
     (new.has_fault ≡ true) × (new.has_issue ≡ old.has_issue)
     × (new.has_unformatted ≡ old.has_unformatted)
 
-abbrev pub IsNoted : Result FileOutcome FileError → RunOutcome → RunOutcome → Type 0
-IsNoted (Ok met) old new = IsOutcomeNoted met old new
-IsNoted (Err error) old new = IsFaultNoted old new
+-- the file of this name has met this, and its error was printed if it has one
+abbrev pub IsMet : List ℕ → Bool → Result FileOutcome FileError → Progress → Progress → Type 0
+IsMet name locate (Ok met) old new =
+    IsOutcomeNoted met old.outcome new.outcome × (new.console ≡ old.console)
+IsMet name locate (Err error) old new =
+    IsFaultNoted old.outcome new.outcome
+    × (new.console.unread ≡ old.console.unread) × (new.console.output ≡ old.console.output)
+    × PrintsError name locate error old.console.errors new.console.errors
 
--- of a file that a command has worked on: its outcome, or that it was not saved or not reported; or
--- the error of the command
-abbrev pub IsEntryNoted : Result Made FileError → RunOutcome → RunOutcome → Type 0
-IsEntryNoted (Ok made) old new = IsOutcomeNoted made.outcome old new ⊎ IsFaultNoted old new
-IsEntryNoted (Err error) old new = IsFaultNoted old new
+-- Of a file that a command has worked on the lines were printed; or it was not saved, and none was;
+-- or a call failed in printing them.
+abbrev pub Finishes : Made → Result FileOutcome FileError → Channel → Channel → Type 0
+Finishes made (Ok met) old new = (met ≡ made.outcome) × PrintsAll made.lines.items old new
+Finishes made (Err error) old new =
+    (error.location ≡ None)
+    × ((new ≡ old) ⊎ FailsToPrint made.lines.items error.fault old new)
 
--- these entries have been noted, one after another
-abbrev pub AreNoted : List Entry → RunOutcome → RunOutcome → Type 0
-AreNoted [] old new = new ≡ old
-AreNoted (entry ∷ rest) old new =
-    (mid : RunOutcome) × IsEntryNoted entry.made old mid × AreNoted rest mid new
+-- the lines of what a command made were printed, and the file of this name has met this; or it has
+-- met the error of the command
+abbrev pub IsReported : List ℕ → Bool → Result Made FileError → Progress → Progress → Type 0
+IsReported name locate (Ok made) old new =
+    (met : Result FileOutcome FileError) × (output : Channel)
+    × Finishes made met old.console.output output
+    × IsMet name locate met
+    (record {
+      outcome = old.outcome;
+      console = record { unread = old.console.unread; output = output; errors = old.console.errors };
+    })
+    new
+IsReported name locate (Err error) old new = IsMet name locate (Err error) old new
+
+-- these entries have been reported, one after another
+abbrev pub AreReported : Bool → List Entry → Progress → Progress → Type 0
+AreReported locate [] old new = new ≡ old
+AreReported locate (entry ∷ rest) old new =
+    (mid : Progress) × IsReported entry.name.now locate entry.made old mid
+    × AreReported locate rest mid new
 
 -- ---- what is held
+
+-- the entries that a batch holds, and how far the run has come
+pub record Holding : Type 0 where
+  pub entries : List Entry
+  pub progress : Progress
+
+abbrev pub progress : Batch → Console → Progress
+progress batch console = record { outcome = batch.outcome; console = console }
+
+abbrev pub holding : Batch → Console → Holding
+holding batch console =
+    record { entries = batch.entries.items; progress = progress batch console }
 
 -- a file of this name, with what the command made of it, or why it made nothing
 abbrev pub IsEntryOf : Command → List ℕ → Bool → Entry → Type 0
@@ -64,20 +105,17 @@ abbrev pub ReportsRest : ℕ → Batch → Batch → Type 0
 ReportsRest put old new =
     new.outcome.left + (vec_len old.entries + put) ≡ old.outcome.left + vec_len new.entries
 
--- Of the entries that were held, and after them those that are put in, the first have been noted, in
--- this order, and the others are held.
-abbrev pub NotesFirst : List Entry → List Entry → RunOutcome → List Entry → RunOutcome → Type 0
-NotesFirst put old_entries old new_entries new =
-    (noted : List Entry) × (old_entries ++ put ≡ noted ++ new_entries) × AreNoted noted old new
-
-abbrev pub Notes : List Entry → Batch → Batch → Type 0
-Notes put old new =
-    NotesFirst put old.entries.items old.outcome new.entries.items new.outcome
+-- Of the entries that were held, and after them those that are put in, the first have been reported,
+-- in this order, and the others are held.
+abbrev pub ReportsFirst : Bool → List Entry → Holding → Holding → Type 0
+ReportsFirst locate put old new =
+    (reported : List Entry) × (old.entries ++ put ≡ reported ++ new.entries)
+    × AreReported locate reported old.progress new.progress
 
 -- a command is done on a file of this name, which is put in
-abbrev pub PutsIn : Command → List ℕ → Batch → Batch → Type 0
-PutsIn command name old new =
-    (entry : Entry) × IsEntryOf command name old.locate entry × Notes (entry ∷ []) old new
+abbrev pub PutsIn : Command → List ℕ → Bool → Holding → Holding → Type 0
+PutsIn command name locate old new =
+    (entry : Entry) × IsEntryOf command name locate entry × ReportsFirst locate (entry ∷ []) old new
 
 -- ---- what may be read before those that are held are saved
 
@@ -103,34 +141,41 @@ Admits batch =
 
 -- ---- what is done on each file of a task
 
--- the command on the file of this name; or what changes no file, whose outcome is noted at once
-abbrev pub DoesCommand : Option Command → List ℕ → Batch → Batch → Type 0
-DoesCommand (Some command) name old new = PutsIn command name old new
-DoesCommand None name old new =
-    (new.entries.items ≡ old.entries.items)
-    × (met : Result FileOutcome FileError) × IsNoted met old.outcome new.outcome
+-- the command on the file of this name; or what changes no file, whose outcome is met at once
+abbrev pub DoesCommand : Option Command → Action → Bool → List ℕ → Holding → Holding → Type 0
+DoesCommand (Some command) action locate name old new = PutsIn command name locate old new
+DoesCommand None action locate name old new =
+    (new.entries ≡ old.entries)
+    × (met : Result FileOutcome FileError) × (console : Console)
+    × AnswersName action locate name met old.progress.console console
+    × IsMet name locate met (record { outcome = old.progress.outcome; console = console })
+    new.progress
 
--- the action on the file of this name; whether errors are located stays
-abbrev pub DoesFile : Action → List ℕ → Batch → Batch → Type 0
-DoesFile action name old new =
-    DoesCommand (file_command action name) name old new × (new.locate ≡ old.locate)
+-- the action on the file of this name
+abbrev pub DoesFile : Action → Bool → List ℕ → Holding → Holding → Type 0
+DoesFile action locate name old new =
+    DoesCommand (file_command action name) action locate name old new
 
 -- the action on the files of these names, one after another
-abbrev pub DoesEach : Action → List (Bor (List ℕ)) → Batch → Batch → Type 0
-DoesEach action [] old new = new ≡ old
-DoesEach action (name ∷ names) old new =
-    (mid : Batch) × DoesFile action name.now old mid × DoesEach action names mid new
+abbrev pub DoesEach : Action → Bool → List (Bor (List ℕ)) → Holding → Holding → Type 0
+DoesEach action locate [] old new = new ≡ old
+DoesEach action locate (name ∷ names) old new =
+    (mid : Holding) × DoesFile action locate name.now old mid
+    × DoesEach action locate names mid new
 
--- nothing is held, and nothing has been met on any of this number of files
-abbrev pub IsStart : ℕ → Bool → Batch → Type 0
-IsStart count locate batch =
-    (batch.entries.items ≡ []) × (batch.outcome.has_fault ≡ false)
-    × (batch.outcome.has_issue ≡ false) × (batch.outcome.has_unformatted ≡ false)
-    × (batch.outcome.left ≡ count) × (batch.locate ≡ locate)
+-- nothing has been met on any of this number of files
+abbrev pub outcome_of_files : ℕ → RunOutcome
+outcome_of_files count =
+    record { has_fault = false; has_issue = false; has_unformatted = false; left = count }
 
--- The action was done on each file, in the order given, and what then was held has been noted.
-abbrev pub RunsTask : Action → Bool → List (Bor (List ℕ)) → RunOutcome → Type 0
-RunsTask action locate names outcome =
-    (first : Batch) × IsStart (length names) locate first
-    × (last : Batch) × DoesEach action names first last
-    × (end : Batch) × Notes [] last end × (end.entries.items ≡ []) × (outcome ≡ end.outcome)
+-- nothing is held yet, of this number of files
+abbrev pub start : ℕ → Console → Holding
+start count console =
+    record { entries = []; progress = record { outcome = outcome_of_files count; console = console } }
+
+-- The action was done on each file, in the order given, and what then was held has been reported.
+abbrev pub RunsTask : Action → Bool → List (Bor (List ℕ)) → RunOutcome → Console → Console → Type 0
+RunsTask action locate names outcome old new =
+    (last : Holding) × DoesEach action locate names (start (length names) old) last
+    × ReportsFirst locate [] last
+    (record { entries = []; progress = record { outcome = outcome; console = new } })

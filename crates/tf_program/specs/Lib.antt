@@ -1,6 +1,7 @@
-pub mod Batches
-pub mod Inputs
 pub mod Lines
 pub mod Location
-pub mod Runs
+pub mod Printing
+pub mod Answers
 pub mod Work
+pub mod Batches
+pub mod Runs

@@ -1,7 +1,7 @@
 -- The line and the column of a byte of a text, counted from 1, and the byte of an error.
 -- Unicode Standard Annex #29, extended grapheme clusters.
 use Rattle.std.specs.Prelude.{◌≡◌, ◌+◌, ℕ, if◌then◌else◌, List, length, take, drop, count_by, Option, Some}
-use Rattle.std.specs.Prelude.{None}
+use Rattle.std.specs.Prelude.{None, Bool, true, false}
 use Rattle.hcl_scan.specs.Characters.{is_prefix_of}
 use Rattle.std.specs.Str.{is_utf8}
 use Rattle.hcl_scan.specs.Tokenization.{byte_order_mark}
@@ -13,6 +13,7 @@ use Rattle.hcl_token.specs.Place.{is_lf, clusters, last_line}
 use Rattle.hcl_explain.specs.Said.{IsSaidOfScan, IsSaidOfParse}
 use Rattle.tf_session.specs.declared.fault.RunFault.{RunFault}
 use Rattle.tf_session.specs.declared.fault.RunFault.TheVariants as fault
+use Rattle.tf_program.specs.declared.file_error.FileError.{FileError}
 use Rattle.tf_program.specs.declared.location.Location.{Location}
 
 abbrev pub without_mark : List ℕ → List ℕ
@@ -32,21 +33,6 @@ abbrev pub IsLocation : List ℕ → ℕ → Location → Type 0
 IsLocation text at location =
     (location.line ≡ 1 + count_by is_lf (text_before text at))
     × (location.column ≡ 1 + columns (last_line (text_before text at)))
-
--- the location of an error, if it is at a byte
-abbrev pub IsLocationOf : List ℕ → Option ℕ → Option Location → Type 0
-IsLocationOf text None None = Unit {0}
-IsLocationOf text None (Some location) = ⊥
-IsLocationOf text (Some at) None = ⊥
-IsLocationOf text (Some at) (Some location) = IsLocation text at location
-
--- what is said of an error of a text is printed here
-abbrev pub IsSaidAt : List ℕ → RunFault → Location → Type 0
-IsSaidAt text (fault.Scan error) location =
-    (at : ℕ) × IsSaidOfScan text error at × IsLocation text at location
-IsSaidAt text (fault.Parse error) location =
-    (at : ℕ) × IsSaidOfParse text error at × IsLocation text at location
-IsSaidAt text _ location = ⊥
 
 -- ---- the byte of an error
 
@@ -71,3 +57,26 @@ abbrev pub byte_of : RunFault → Option ℕ
 byte_of (fault.Scan error) = byte_of_scan_fault error
 byte_of (fault.Parse error) = byte_of_parse_fault error
 byte_of _ = None
+
+-- ---- where an error is
+
+-- the location of an error, if it is at a byte
+abbrev pub IsLocationOf : List ℕ → Option ℕ → Option Location → Type 0
+IsLocationOf text None None = Unit {0}
+IsLocationOf text None (Some location) = ⊥
+IsLocationOf text (Some at) None = ⊥
+IsLocationOf text (Some at) (Some location) = IsLocation text at location
+
+-- an error of this text: it has its location there if errors are located, and else none
+abbrev pub IsLocatedIn : List ℕ → Bool → FileError → Type 0
+IsLocatedIn text locate error =
+    (locate ≡ true → IsLocationOf text (byte_of error.fault) error.location)
+    × (locate ≡ false → error.location ≡ None)
+
+-- what is said of an error of a text is printed here
+abbrev pub IsSaidAt : List ℕ → RunFault → Location → Type 0
+IsSaidAt text (fault.Scan error) location =
+    (at : ℕ) × IsSaidOfScan text error at × IsLocation text at location
+IsSaidAt text (fault.Parse error) location =
+    (at : ℕ) × IsSaidOfParse text error at × IsLocation text at location
+IsSaidAt text _ location = ⊥

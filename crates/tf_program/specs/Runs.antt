@@ -1,11 +1,11 @@
--- The exit status of a run, by its arguments.
+-- What a run does with its arguments: what it prints, and its exit status.
 use Rattle.std.specs.Prelude.{◌≡◌, ◌⊎◌, ℕ, true, false, List}
 use Rattle.tf_cli.specs.Reading.{IsTaskOfArguments, IsArgumentsFault}
 use Rattle.tf_cli.specs.declared.exits.Exit.{Exit}
 use Rattle.tf_cli.specs.declared.tasks.Task.{Task}
 use Rattle.tf_cli.specs.declared.outcome.RunOutcome.{RunOutcome}
 use Rattle.tf_program.specs.Batches.{RunsTask}
-use Rattle.tf_program.specs.Work.{IsStatusOf}
+use Rattle.tf_program.specs.Printing.{Console, PrintsExit}
 
 -- 1 after an error, else 2 after an issue, else 3 after a file that is not formatted, else 0
 abbrev pub IsStatusOfOutcome : RunOutcome → ℕ → Type 0
@@ -18,13 +18,15 @@ IsStatusOfOutcome outcome status =
     → status ≡ 0)
 
 -- the task's action was done on each of its files, and the status is that of what they have met
-abbrev pub IsStatusOfTask : Task → ℕ → Type 0
-IsStatusOfTask task status =
-    (outcome : RunOutcome) × RunsTask task.action task.locate task.files.items outcome
+abbrev pub WorksOnTask : Task → ℕ → Console → Console → Type 0
+WorksOnTask task status old new =
+    (outcome : RunOutcome)
+    × RunsTask task.action task.locate task.files.items outcome old new
     × IsStatusOfOutcome outcome status
 
--- the status of the task of these arguments; or they have none, and it is that of the reason
-abbrev pub IsStatusOfArguments : List (List ℕ) → ℕ → Type 0
-IsStatusOfArguments args status =
-    ((task : Task) × IsTaskOfArguments args task × IsStatusOfTask task status)
-    ⊎ ((exit : Exit) × IsArgumentsFault args exit × IsStatusOf exit status)
+-- what was done with these arguments, the exit status, and what was read and printed: their task;
+-- or they have none, and the reason was printed
+abbrev pub Works : List (List ℕ) → ℕ → Console → Console → Type 0
+Works args status old new =
+    ((task : Task) × IsTaskOfArguments args task × WorksOnTask task status old new)
+    ⊎ ((exit : Exit) × IsArgumentsFault args exit × PrintsExit exit status old new)

@@ -1,17 +1,18 @@
 //! Files that a command changes: many are saved at once, and all are reported in the order in which
 //! they were given.
 
-ghost use Rattle.std.specs.Prelude.{◌≡◌, ◌+◌, ◌<◌, ◌≤◌, ◌↔◌, true, [], ◌∷◌, IfSome, length, vec_len};
+ghost use Rattle.std.specs.Prelude.{◌≡◌, ◌+◌, ◌<◌, ◌≤◌, ◌↔◌, true, [], ◌∷◌, Err, IfSome, length, vec_len};
 ghost use Rattle.tf_program.specs.Work.{IsFound};
-ghost use Rattle.tf_program.specs.Batches.{IsNoted, IsFaultNoted, IsEntryNoted, AreNoted};
-ghost use Rattle.tf_program.specs.Batches.{HasNext, ReportsRest};
-ghost use Rattle.tf_program.specs.Batches.{Notes, IsEntryOf, PutsIn, IsStart};
+ghost use Rattle.tf_program.specs.Batches.{IsMet, IsReported, AreReported, progress, holding, start};
+ghost use Rattle.tf_program.specs.Batches.{HasNext, ReportsRest, ReportsFirst, IsEntryOf, PutsIn};
 ghost use Rattle.tf_program.specs.Batches.{MayShare, NoneMayShare, Admits};
+ghost use Rattle.tf_program.specs.Printing.{Console, console_of};
 
 use crate::file_error::FileError;
 use crate::files::{Made, change_file};
+use crate::streams::Streams;
 use std::alloc::{AllocError, Global};
-use std::io::Write;
+use std::io::{Read, Write};
 use std::mem;
 use tf_cli::{FileOutcome, RunOutcome, Task};
 use tf_files::{Attempt, ChangedFile, FilePaths, FoundFiles, SystemFiles, Trouble, save_together};
@@ -49,7 +50,10 @@ impl<'a> Batch<'a> {
     /// Returns a batch of no file, for the files of a task.
     pub fn new(alloc: Global, task: &Task<'_>) -> Batch<'a>
         ensures none { vec_len result.entries ≡ 0 }
-        ensures start { IsStart (length task.now.files.items) task.now.locate result }
+        ensures left { result.outcome.left ≡ length task.now.files.items }
+        ensures start { (console : Console)
+            → holding result console ≡ start (length task.now.files.items) console }
+        ensures locate { result.locate ≡ task.now.locate }
     {
         Batch {
             alloc,
@@ -61,45 +65,51 @@ impl<'a> Batch<'a> {
     }
 
     /// Does a command on a file, which is saved and reported at the latest by `finish`.
-    pub fn change<R: SystemFiles, O: Write, F: Write>(
+    pub fn change<R: SystemFiles, I: Read, O: Write, F: Write>(
         &mut self,
         rt: &R,
         command: Command,
         name: &'a str,
-        output: &mut O,
-        faults: &mut F,
+        streams: &mut Streams<I, O, F>,
     )
         requires { HasNext self.old }
         ensures reported { ReportsRest 1 self.old self.new }
-        ensures entries { PutsIn command name.now self.old self.new }
+        ensures entries { PutsIn command name.now self.old.locate
+            (holding self.old
+            (console_of I.remaining O.contents F.contents streams.old))
+            (holding self.new
+            (console_of I.remaining O.contents F.contents streams.new)) }
         ensures locate { self.new.locate ≡ self.old.locate }
     {
-        let paths = self.admit(rt, name, output, faults);
-        let entry = self.make(rt, command, name, paths, output, faults);
-        self.add(rt, entry, output, faults);
+        let paths = self.admit(rt, name, streams);
+        let entry = self.make(rt, command, name, paths, streams);
+        self.add(rt, entry, streams);
     }
 
     /// Opens the folders of a file of this name, and saves what is held, unless the file may be read
     /// before that.
-    #[tactic(auto, using(crate::proofs::Holding::none_noted))]
-    fn admit<R: SystemFiles, O: Write, F: Write>(
+    #[tactic(auto, using(crate::proofs::Holding::none_reported))]
+    fn admit<R: SystemFiles, I: Read, O: Write, F: Write>(
         &mut self,
         rt: &R,
         name: &str,
-        output: &mut O,
-        faults: &mut F,
+        streams: &mut Streams<I, O, F>,
     ) -> Result<FilePaths, Trouble>
         requires { vec_len self.old.entries ≤ self.old.outcome.left }
         ensures found { IsFound name.now result }
         ensures reported { ReportsRest 0 self.old self.new }
-        ensures notes { Notes [] self.old self.new }
+        ensures notes { ReportsFirst self.old.locate []
+            (holding self.old
+            (console_of I.remaining O.contents F.contents streams.old))
+            (holding self.new
+            (console_of I.remaining O.contents F.contents streams.new)) }
         ensures locate { self.new.locate ≡ self.old.locate }
         ensures apart { Admits self.new }
     {
         if let Some(paths) = self.admitted(rt, name) {
             return paths;
         }
-        self.finish(rt, output, faults);
+        self.finish(rt, streams);
         // a link may lead elsewhere by now
         FilePaths::of(rt, self.alloc, name)
     }
@@ -111,11 +121,11 @@ impl<'a> Batch<'a> {
         ensures apart { IfSome result (λ paths. Admits self.now) }
     {
         let paths = FilePaths::of(rt, self.alloc, name);
-        self.admits(rt, &paths).then_some(paths)
+        self.admits(&paths).then_some(paths)
     }
 
     /// Returns whether the file at these paths may be read before those that are held are saved.
-    fn admits<R: SystemFiles>(&self, rt: &R, paths: &Result<FilePaths, Trouble>) -> bool
+    fn admits(&self, paths: &Result<FilePaths, Trouble>) -> bool
         ensures { result ≡ true → Admits self.now }
     {
         if self.entries.is_empty() {
@@ -124,7 +134,7 @@ impl<'a> Batch<'a> {
         let Ok(paths) = paths else {
             return false;
         };
-        match FoundFiles::of(rt, paths) {
+        match FoundFiles::of(paths) {
             Some(found) => none_may_share(&self.entries, &found),
             None => false,
         }
@@ -132,22 +142,25 @@ impl<'a> Batch<'a> {
 
     /// Does a command on a file. If memory runs out while others are held, or it can't be read, which
     /// may be for want of handles, these are saved, and it is done once more.
-    #[tactic(auto, using(crate::proofs::Holding::none_noted))]
-    fn make<R: SystemFiles, O: Write, F: Write>(
+    #[tactic(auto, using(crate::proofs::Holding::none_reported))]
+    fn make<R: SystemFiles, I: Read, O: Write, F: Write>(
         &mut self,
         rt: &R,
         command: Command,
         name: &'a str,
         paths: Result<FilePaths, Trouble>,
-        output: &mut O,
-        faults: &mut F,
+        streams: &mut Streams<I, O, F>,
     ) -> Entry<'a>
         requires found { IsFound name.now paths }
         requires within { vec_len self.old.entries ≤ self.old.outcome.left }
         requires apart { Admits self.old }
         ensures made { IsEntryOf command name.now self.old.locate result }
         ensures reported { ReportsRest 0 self.old self.new }
-        ensures notes { Notes [] self.old self.new }
+        ensures notes { ReportsFirst self.old.locate []
+            (holding self.old
+            (console_of I.remaining O.contents F.contents streams.old))
+            (holding self.new
+            (console_of I.remaining O.contents F.contents streams.new)) }
         ensures locate { self.new.locate ≡ self.old.locate }
     {
         let locate = self.locate;
@@ -159,50 +172,56 @@ impl<'a> Batch<'a> {
             return Entry { name, made };
         }
         // once those are saved there is more memory, and more files can be opened
-        self.finish(rt, output, faults);
+        self.finish(rt, streams);
         let paths = FilePaths::of(rt, self.alloc, name);
         let made = change_file(rt, self.alloc, command, name, paths, locate);
         Entry { name, made }
     }
 
     /// Holds an entry, or finishes it if it is not to wait.
-    fn add<R: SystemFiles, O: Write, F: Write>(
+    fn add<R: SystemFiles, I: Read, O: Write, F: Write>(
         &mut self,
         rt: &R,
         next: Entry<'a>,
-        output: &mut O,
-        faults: &mut F,
+        streams: &mut Streams<I, O, F>,
     )
         requires { HasNext self.old }
         ensures reported { ReportsRest 1 self.old self.new }
-        ensures notes { Notes (next.entry ∷ []) self.old self.new }
+        ensures notes { ReportsFirst self.old.locate (next.entry ∷ [])
+            (holding self.old
+            (console_of I.remaining O.contents F.contents streams.old))
+            (holding self.new
+            (console_of I.remaining O.contents F.contents streams.new)) }
         ensures locate { self.new.locate ≡ self.old.locate }
     {
-        self.make_space(rt, next.size(), output, faults);
+        self.make_space(rt, next.size(), streams);
         if self.lets_wait(&next) {
-            return self.hold(rt, next, output, faults);
+            return self.hold(rt, next, streams);
         }
-        self.finish_with(rt, &next, output, faults);
+        self.finish_with(rt, &next, streams);
     }
 
     /// Saves what is held, unless this many bytes more may be held.
-    #[tactic(auto, using(crate::proofs::Holding::none_noted))]
-    fn make_space<R: SystemFiles, O: Write, F: Write>(
+    #[tactic(auto, using(crate::proofs::Holding::none_reported))]
+    fn make_space<R: SystemFiles, I: Read, O: Write, F: Write>(
         &mut self,
         rt: &R,
         bytes: usize,
-        output: &mut O,
-        faults: &mut F,
+        streams: &mut Streams<I, O, F>,
     )
         requires { vec_len self.old.entries ≤ self.old.outcome.left }
         ensures reported { ReportsRest 0 self.old self.new }
-        ensures notes { Notes [] self.old self.new }
+        ensures notes { ReportsFirst self.old.locate []
+            (holding self.old
+            (console_of I.remaining O.contents F.contents streams.old))
+            (holding self.new
+            (console_of I.remaining O.contents F.contents streams.new)) }
         ensures locate { self.new.locate ≡ self.old.locate }
     {
         if self.has_space(bytes) {
             return;
         }
-        self.finish(rt, output, faults);
+        self.finish(rt, streams);
     }
 
     /// Returns whether this many bytes more may be held.
@@ -221,45 +240,51 @@ impl<'a> Batch<'a> {
     }
 
     /// Holds an entry, or finishes it if there is no memory for that.
-    fn hold<R: SystemFiles, O: Write, F: Write>(
+    fn hold<R: SystemFiles, I: Read, O: Write, F: Write>(
         &mut self,
         rt: &R,
         next: Entry<'a>,
-        output: &mut O,
-        faults: &mut F,
+        streams: &mut Streams<I, O, F>,
     )
         requires { HasNext self.old }
         ensures reported { ReportsRest 1 self.old self.new }
-        ensures notes { Notes (next.entry ∷ []) self.old self.new }
+        ensures notes { ReportsFirst self.old.locate (next.entry ∷ [])
+            (holding self.old
+            (console_of I.remaining O.contents F.contents streams.old))
+            (holding self.new
+            (console_of I.remaining O.contents F.contents streams.new)) }
         ensures locate { self.new.locate ≡ self.old.locate }
     {
         let size = next.size();
         match self.entries.push(next) {
             Ok(()) => {
                 self.bytes = self.bytes.saturating_add(size);
-                self.finish_full(rt, output, faults);
+                self.finish_full(rt, streams);
             }
-            Err(refused) => self.finish_with(rt, &refused.value, output, faults),
+            Err(refused) => self.finish_with(rt, &refused.value, streams),
         }
     }
 
     /// Saves what is held if it is as much as may be held.
-    #[tactic(auto, using(crate::proofs::Holding::none_noted))]
-    fn finish_full<R: SystemFiles, O: Write, F: Write>(
+    #[tactic(auto, using(crate::proofs::Holding::none_reported))]
+    fn finish_full<R: SystemFiles, I: Read, O: Write, F: Write>(
         &mut self,
         rt: &R,
-        output: &mut O,
-        faults: &mut F,
+        streams: &mut Streams<I, O, F>,
     )
         requires { vec_len self.old.entries ≤ self.old.outcome.left }
         ensures reported { ReportsRest 0 self.old self.new }
-        ensures notes { Notes [] self.old self.new }
+        ensures notes { ReportsFirst self.old.locate []
+            (holding self.old
+            (console_of I.remaining O.contents F.contents streams.old))
+            (holding self.new
+            (console_of I.remaining O.contents F.contents streams.new)) }
         ensures locate { self.new.locate ≡ self.old.locate }
     {
         if self.may_hold_more() {
             return;
         }
-        self.finish(rt, output, faults);
+        self.finish(rt, streams);
     }
 
     /// Returns whether another entry may be held: fewer than `MAX_FILES` are, with fewer than
@@ -269,40 +294,46 @@ impl<'a> Batch<'a> {
     }
 
     /// Saves what is held, and then an entry.
-    fn finish_with<R: SystemFiles, O: Write, F: Write>(
+    fn finish_with<R: SystemFiles, I: Read, O: Write, F: Write>(
         &mut self,
         rt: &R,
         next: &Entry<'_>,
-        output: &mut O,
-        faults: &mut F,
+        streams: &mut Streams<I, O, F>,
     )
         requires { HasNext self.old }
         ensures reported { ReportsRest 1 self.old self.new }
         ensures entries { self.new.entries.items ≡ [] }
-        ensures notes { Notes (next.now ∷ []) self.old self.new }
+        ensures notes { ReportsFirst self.old.locate (next.now ∷ [])
+            (holding self.old
+            (console_of I.remaining O.contents F.contents streams.old))
+            (holding self.new
+            (console_of I.remaining O.contents F.contents streams.new)) }
         ensures locate { self.new.locate ≡ self.old.locate }
     {
-        self.finish(rt, output, faults);
-        self.finish_entry(rt, next, None, output, faults);
+        self.finish(rt, streams);
+        self.finish_entry(rt, next, None, streams);
     }
 
     /// Saves all files that are held, then reports each.
-    pub fn finish<R: SystemFiles, O: Write, F: Write>(
+    pub fn finish<R: SystemFiles, I: Read, O: Write, F: Write>(
         &mut self,
         rt: &R,
-        output: &mut O,
-        faults: &mut F,
+        streams: &mut Streams<I, O, F>,
     )
         requires { vec_len self.old.entries ≤ self.old.outcome.left }
         ensures reported { ReportsRest 0 self.old self.new }
         ensures none { vec_len self.new.entries ≡ 0 }
         ensures entries { self.new.entries.items ≡ [] }
-        ensures notes { Notes [] self.old self.new }
+        ensures notes { ReportsFirst self.old.locate []
+            (holding self.old
+            (console_of I.remaining O.contents F.contents streams.old))
+            (holding self.new
+            (console_of I.remaining O.contents F.contents streams.new)) }
         ensures locate { self.new.locate ≡ self.old.locate }
     {
         let entries = self.take_entries();
         let attempts = save_entries(rt, self.alloc, &entries);
-        self.finish_all(rt, &entries, attempts, output, faults);
+        self.finish_all(rt, &entries, attempts, streams);
     }
 
     /// Returns the entries that are held, and holds them no longer.
@@ -319,19 +350,22 @@ impl<'a> Batch<'a> {
     }
 
     /// Finishes entries, of which those that have changed have come as far as these attempts.
-    fn finish_all<R: SystemFiles, O: Write, F: Write>(
+    fn finish_all<R: SystemFiles, I: Read, O: Write, F: Write>(
         &mut self,
         rt: &R,
         entries: &[Entry<'_>],
         attempts: Vec<Attempt>,
-        output: &mut O,
-        faults: &mut F,
+        streams: &mut Streams<I, O, F>,
     )
         requires { length entries.now ≤ self.old.outcome.left }
         ensures left { self.new.outcome.left + length entries.now ≡ self.old.outcome.left }
         ensures len { vec_len self.new.entries ≡ vec_len self.old.entries }
         ensures entries { self.new.entries.items ≡ self.old.entries.items }
-        ensures noted { AreNoted entries.now self.old.outcome self.new.outcome }
+        ensures noted { AreReported self.old.locate entries.now
+            (progress self.old
+            (console_of I.remaining O.contents F.contents streams.old))
+            (progress self.new
+            (console_of I.remaining O.contents F.contents streams.new)) }
         ensures locate { self.new.locate ≡ self.old.locate }
     {
         let mut rest = attempts.into_iter();
@@ -340,67 +374,83 @@ impl<'a> Batch<'a> {
                 Some(_) => rest.next(),
                 None => None,
             };
-            self.finish_entry(rt, entry, attempt, output, faults);
+            self.finish_entry(rt, entry, attempt, streams);
         }
     }
 
     /// Saves an entry, as far as an attempt has not, and reports it.
-    fn finish_entry<R: SystemFiles, O: Write, F: Write>(
+    fn finish_entry<R: SystemFiles, I: Read, O: Write, F: Write>(
         &mut self,
         rt: &R,
         entry: &Entry<'_>,
         attempt: Option<Attempt>,
-        output: &mut O,
-        faults: &mut F,
+        streams: &mut Streams<I, O, F>,
     )
         requires { 0 < self.old.outcome.left }
         ensures left { self.new.outcome.left + 1 ≡ self.old.outcome.left }
         ensures len { vec_len self.new.entries ≡ vec_len self.old.entries }
         ensures entries { self.new.entries.items ≡ self.old.entries.items }
-        ensures noted { IsEntryNoted entry.now.made self.old.outcome self.new.outcome }
+        ensures noted { IsReported entry.now.name.now self.old.locate entry.now.made
+            (progress self.old
+            (console_of I.remaining O.contents F.contents streams.old))
+            (progress self.new
+            (console_of I.remaining O.contents F.contents streams.new)) }
         ensures locate { self.new.locate ≡ self.old.locate }
     {
         match &entry.made {
             Ok(made) => {
-                let met = made.finish(rt, self.alloc, attempt, output);
-                self.note(entry.name, met, faults);
+                let met = made.finish(rt, self.alloc, attempt, self.locate, &mut streams.output);
+                self.note(entry.name, met, streams);
             }
-            Err(error) => self.note_error(entry.name, error, faults),
+            Err(error) => self.note_error(entry.name, error, streams),
         }
     }
 
     /// Notes the outcome of the work on a file. An error is reported, and does not stop the next
     /// file.
-    pub fn note<F: Write>(
+    pub fn note<I: Read, O: Write, F: Write>(
         &mut self,
         name: &str,
         met: Result<FileOutcome, FileError>,
-        faults: &mut F,
+        streams: &mut Streams<I, O, F>,
     )
         requires { 0 < self.old.outcome.left }
         ensures left { self.new.outcome.left + 1 ≡ self.old.outcome.left }
         ensures len { vec_len self.new.entries ≡ vec_len self.old.entries }
         ensures entries { self.new.entries.items ≡ self.old.entries.items }
-        ensures noted { IsNoted met self.old.outcome self.new.outcome }
+        ensures noted { IsMet name.now self.old.locate met
+            (progress self.old
+            (console_of I.remaining O.contents F.contents streams.old))
+            (progress self.new
+            (console_of I.remaining O.contents F.contents streams.new)) }
         ensures locate { self.new.locate ≡ self.old.locate }
     {
         match met {
             Ok(file_outcome) => self.outcome = self.outcome.with_file(file_outcome),
-            Err(error) => self.note_error(name, &error, faults),
+            Err(error) => self.note_error(name, &error, streams),
         }
     }
 
     /// Notes and reports an error of a file.
-    fn note_error<F: Write>(&mut self, name: &str, error: &FileError, faults: &mut F)
+    fn note_error<I: Read, O: Write, F: Write>(
+        &mut self,
+        name: &str,
+        error: &FileError,
+        streams: &mut Streams<I, O, F>,
+    )
         requires { 0 < self.old.outcome.left }
         ensures left { self.new.outcome.left + 1 ≡ self.old.outcome.left }
         ensures len { vec_len self.new.entries ≡ vec_len self.old.entries }
         ensures entries { self.new.entries.items ≡ self.old.entries.items }
-        ensures noted { IsFaultNoted self.old.outcome self.new.outcome }
+        ensures noted { IsMet name.now self.old.locate (Err error.now)
+            (progress self.old
+            (console_of I.remaining O.contents F.contents streams.old))
+            (progress self.new
+            (console_of I.remaining O.contents F.contents streams.new)) }
         ensures locate { self.new.locate ≡ self.old.locate }
     {
         self.outcome = self.outcome.with_fault();
-        error.report(self.alloc, faults, name, self.locate);
+        error.report(self.alloc, name, self.locate, &mut streams.errors);
     }
 }
 

@@ -1,20 +1,31 @@
 //! Why the work on a file failed, and the lines that say so.
 
-ghost use Rattle.std.specs.Prelude.{◌≡◌, IfSome, None};
-ghost use Rattle.tf_program.specs.Location.{byte_of, IsLocation, IsLocationOf, IsSaidAt};
-ghost use Rattle.tf_program.specs.Work.{IsLocatedIn};
+ghost use Rattle.std.specs.Prelude.{◌≡◌, ◌⊎◌, ℕ, List, [], IfSome, None, IfOk, OnOk, OnErr, string_bytes, codes};
+ghost use Rattle.tf_program.specs.Location.{byte_of, IsLocation, IsLocationOf, IsLocatedIn, IsSaidAt};
+ghost use Rattle.tf_program.specs.Printing.{channel_of, PrintsAll, PrintsPart, Prints, PrintsError};
+ghost use Rattle.tf_program.specs.Printing.{IsErrorText, IsShortErrorText, IsSecondLine};
+ghost use Rattle.tf_program.specs.Printing.{IsMessage, IsReasonLine};
+ghost use Rattle.tf_program.specs.Printing.{error_line, located_line};
 
 use crate::hint::{Hint, hint_of, hint_of_unread};
 use crate::location::{Location, byte_of, location_of};
+use crate::printing::print;
+use arrayvec::ArrayString;
 use hcl_explain::{Said, say_parse_fault, say_scan_fault};
 use std::alloc::{AllocError, Global};
+use std::fmt::Write as _;
 use std::io::Write;
 use tf_files::{Cause, FileFault, Trouble};
-use tf_session::{Command, RunFault};
+use tf_session::{Command, RunFault, Told};
+
+/// The most bytes of a message that is printed where memory has run out. No error has one of more.
+const MOST_MESSAGE: usize = 256;
+
+const OUT_OF_MEMORY: &str = "out of memory";
 
 /// What is said of an error of a text, and where that is printed.
 #[derive(Drop)]
-struct Explained {
+pub struct Explained {
     location: Location,
     sentence: String,
 }
@@ -130,22 +141,71 @@ impl FileError {
         }
     }
 
-    /// Writes the lines of the error of a file at once, so that lines of programs that run side by
-    /// side don't mix. Without memory for that, the first is written in pieces, and one that says
+    /// Returns the error of an action on this text, located if `locate` says so.
+    pub fn of_text(alloc: Global, fault: RunFault, text: &[u8], locate: bool) -> FileError
+        ensures fault { result.fault ≡ fault }
+        ensures location { IsLocatedIn text.now locate result }
+    {
+        if locate {
+            FileError::located(alloc, fault, text, None)
+        } else {
+            FileError::from(fault)
+        }
+    }
+
+    /// Returns the error that the lines of a file were not printed, once it was saved, with that if
+    /// `locate` says so.
+    pub fn of_unprinted(fault: RunFault, locate: bool) -> FileError
+        ensures fault { result.fault ≡ fault }
+        ensures location { result.location ≡ None }
+    {
+        FileError {
+            fault,
+            location: None,
+            explained: None,
+            cause: None,
+            hint: if locate { Some(Hint::NotPrinted) } else { None },
+        }
+    }
+
+    /// Prints the lines of the error of a file at once, so that lines of programs that run side by
+    /// side don't mix. Without memory for that, the first is printed in pieces, and one that says
     /// so in place of the other. If standard error takes nothing, the exit status still reports the
     /// error.
-    pub fn report<F: Write>(&self, alloc: Global, faults: &mut F, name: &str, locate: bool) {
+    pub fn report<F: Write>(&self, alloc: Global, name: &str, locate: bool, errors: &mut Told<F>)
+        ensures { PrintsError name.now locate self.now
+            (channel_of F.contents errors.old) (channel_of F.contents errors.new) }
+    {
         match self.lines(alloc, name, locate) {
             Ok(lines) => {
-                let _ = faults.write_all(lines.as_bytes());
+                let _ = print(lines.as_bytes(), errors);
             }
             Err(_) => {
-                let _ = writeln!(faults, "tfk: {name}: {}", self.fault);
-                if self.has_second_line(locate) {
-                    let _ = writeln!(faults, "tfk: {name}: {}", RunFault::Memory);
-                }
+                let _ = self.print_in_pieces(name, locate, errors);
             }
         }
+    }
+
+    /// Prints the lines of the error where there is no memory for them.
+    ///
+    /// # Errors
+    ///
+    /// Those of printing.
+    fn print_in_pieces<F: Write>(
+        &self,
+        name: &str,
+        locate: bool,
+        errors: &mut Told<F>,
+    ) -> Result<(), RunFault>
+        ensures { (text : List ℕ) × IsShortErrorText name.now self.now text
+            × Prints text (channel_of F.contents errors.old) (channel_of F.contents errors.new) }
+    {
+        let message = short_message(self.fault);
+        print_line(name, message.as_str(), errors)?;
+        if self.has_second_line(locate) {
+            return print_line(name, OUT_OF_MEMORY, errors);
+        }
+        Ok(())
     }
 
     /// Returns whether there is more to say than the error.
@@ -155,43 +215,106 @@ impl FileError {
 
     /// Returns the line `tfk: NAME: ERROR` and, if errors are located, one that says where it is in
     /// the file and begins with `NAME:LINE:COLUMN`, or why the file can't be read or written.
-    fn lines(&self, alloc: Global, name: &str, locate: bool) -> Result<String, AllocError> {
-        let fault = self.fault;
+    fn lines(&self, alloc: Global, name: &str, locate: bool) -> Result<String, AllocError>
+        ensures { IfOk result (λ lines. IsErrorText name.now locate self.now (string_bytes lines)) }
+    {
+        let second = self.second_line(alloc, name, locate)?;
+        let message = message_of(alloc, self.fault)?;
+        let text = format!(in alloc; "tfk: {name}: {message}\n{second}")?;
+        Ok(text)
+    }
+
+    /// Returns the line that says more of the error, with the line feed; nothing if there is none.
+    fn second_line(&self, alloc: Global, name: &str, locate: bool) -> Result<String, AllocError>
+        ensures { IfOk result (λ line. IsSecondLine name.now locate self.now.explained
+            self.now.location self.now.cause self.now.hint (string_bytes line)) }
+    {
         if let Some(Explained { location, sentence }) = &self.explained {
-            return located_lines(alloc, name, fault, *location, sentence.as_str());
+            return located_line(alloc, name, *location, sentence.as_str());
         }
         if let Some(location) = self.location {
-            let whole = format!(in alloc; "{fault}")?;
-            return located_lines(
-                alloc,
-                name,
-                fault,
-                location,
-                text_after_byte(whole.as_str()),
-            );
+            let message = message_of(alloc, self.fault)?;
+            return located_line(alloc, name, location, text_after_byte(message.as_str()));
         }
-        match (self.cause, self.hint) {
-            (Some(cause), _) if locate => {
-                format!(in alloc; "tfk: {name}: {fault}\n{name}: error: {cause}\n")
-            }
-            (None, Some(hint)) => {
-                format!(in alloc; "tfk: {name}: {fault}\n{name}: error: {hint}\n")
-            }
-            _ => format!(in alloc; "tfk: {name}: {fault}\n"),
-        }
+        reason_line(alloc, name, locate, self.cause, self.hint)
     }
 }
 
-/// Returns the lines of an error at this location, of which this is said.
-fn located_lines(
+/// Returns the message of an error; if it is too long for that, the one that memory ran out.
+fn short_message(fault: RunFault) -> ArrayString<MOST_MESSAGE>
+    ensures { IsMessage fault result.bytes ⊎ (result.bytes ≡ codes "out of memory") }
+{
+    let mut message = ArrayString::new();
+    if write!(message, "{fault}").is_ok() {
+        return message;
+    }
+    out_of_memory()
+}
+
+/// Returns the message that memory ran out.
+fn out_of_memory() -> ArrayString<MOST_MESSAGE>
+    ensures { result.bytes ≡ codes "out of memory" }
+{
+    let mut message = ArrayString::new();
+    message.push_str(OUT_OF_MEMORY);
+    message
+}
+
+/// Prints the line `tfk: NAME: MESSAGE` in pieces.
+///
+/// # Errors
+///
+/// Those of printing.
+fn print_line<F: Write>(name: &str, message: &str, errors: &mut Told<F>) -> Result<(), RunFault>
+    ensures done { OnOk result (PrintsAll (error_line name.now message.now)
+        (channel_of F.contents errors.old) (channel_of F.contents errors.new)) }
+    ensures part { OnErr result (PrintsPart (error_line name.now message.now)
+        (channel_of F.contents errors.old) (channel_of F.contents errors.new)) }
+{
+    print(b"tfk: ", errors)?;
+    print(name.as_bytes(), errors)?;
+    print(b": ", errors)?;
+    print(message.as_bytes(), errors)?;
+    print(b"\n", errors)
+}
+
+/// Returns the message of an error.
+fn message_of(alloc: Global, fault: RunFault) -> Result<String, AllocError>
+    ensures { IfOk result (λ message. IsMessage fault (string_bytes message)) }
+{
+    format!(in alloc; "{fault}")
+}
+
+/// Returns the line that says why a file can't be read or written, or what an error of its journal
+/// means; nothing if that is not known, or not to be said.
+fn reason_line(
     alloc: Global,
     name: &str,
-    fault: RunFault,
+    locate: bool,
+    cause: Option<Cause>,
+    hint: Option<Hint>,
+) -> Result<String, AllocError>
+    ensures { IfOk result (λ line. IsReasonLine name.now locate cause hint (string_bytes line)) }
+{
+    let sentence = match (cause, hint) {
+        (Some(cause), _) if locate => format!(in alloc; "{cause}")?,
+        (None, Some(hint)) => format!(in alloc; "{hint}")?,
+        _ => return Ok(String::new(alloc)),
+    };
+    format!(in alloc; "{name}: error: {sentence}\n")
+}
+
+/// Returns the line of an error at this location, of which this is said.
+fn located_line(
+    alloc: Global,
+    name: &str,
     location: Location,
-    said: &str,
-) -> Result<String, AllocError> {
+    sentence: &str,
+) -> Result<String, AllocError>
+    ensures { IfOk result (λ line. string_bytes line ≡ located_line name.now location sentence.now) }
+{
     let Location { line, column } = location;
-    format!(in alloc; "tfk: {name}: {fault}\n{name}:{line}:{column}: error: {said}\n")
+    format!(in alloc; "{name}:{line}:{column}: error: {sentence}\n")
 }
 
 /// Returns what is said of an error of this text, and where; none of any other error, or if memory

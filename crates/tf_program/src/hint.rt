@@ -14,19 +14,26 @@ pub enum Hint {
     ChangedSomewhere,
     /// What the command had added is not there any more.
     ChangedInPlace,
+    /// There is no command to undo.
+    NothingRecorded,
     /// There is no such command.
     NoCommand,
     /// A later command changed the same place.
     Blocked { number: usize },
     /// The journal can't be decoded.
     NotDecoded,
+    /// Not all of the file's lines were printed, once it was saved.
+    NotPrinted,
 }
 
 /// Returns what is said of an error of a command on a file with `len` bytes.
 pub fn hint_of(command: Command, fault: &RunFault, len: usize) -> Option<Hint> {
     match fault {
         RunFault::Refused(refused) => hint_of_refused(command, refused, len),
-        RunFault::NoRecord => Some(Hint::NoCommand),
+        RunFault::NoRecord => Some(match command {
+            Command::Take(_) => Hint::NoCommand,
+            _ => Hint::NothingRecorded,
+        }),
         RunFault::Blocked { number } => Some(Hint::Blocked { number: *number }),
         _ => hint_of_unread(fault),
     }
@@ -81,10 +88,14 @@ impl fmt::Display for Hint {
                 "the file was changed where the command had changed it: undo that change, or \
                  delete the journal",
             ),
+            Hint::NothingRecorded => {
+                f.write_str("no command is recorded: there is no journal, or it is empty")
+            }
             Hint::NoCommand => f.write_str(
                 "no such command: tfk revert --list FILE prints those that there are",
             ),
             Hint::Blocked { number } => write!(f, "undo command {number} first"),
+            Hint::NotPrinted => f.write_str("standard output takes no more; the file is saved"),
             Hint::NotDecoded => {
                 f.write_str("the journal is damaged, or not tfk's: restore it, or delete it")
             }

@@ -1,12 +1,17 @@
 //! The work of the program `tfk`, from its arguments to its exit status.
 #![tactic(auto)]
 
+mod answer;
 mod batch;
 mod file_error;
 mod files;
 mod hint;
 mod location;
+mod printing;
+mod read_only;
 mod record_list;
 mod run;
+mod streams;
 
 pub use run::work;
+pub use streams::Streams;

@@ -1,21 +1,28 @@
 //! The work that the arguments ask for.
 
-ghost use Rattle.std.specs.Prelude.{◌≡◌, ◌≤◌, map, string_bytes};
+ghost use Rattle.std.specs.Prelude.{◌≡◌, ℕ, List, ◌++◌, map, OnOk, OnErr, string_bytes};
 ghost use Rattle.tf_cli.specs.Arguments.{all_normalized};
 ghost use Rattle.tf_cli.specs.Reading.{arguments_of};
-ghost use Rattle.tf_program.specs.Batches.{HasNext, ReportsRest, DoesFile, RunsTask};
-ghost use Rattle.tf_program.specs.Runs.{IsStatusOfArguments};
-ghost use Rattle.tf_program.specs.Work.{IsStatusOf, command_of, file_command};
+ghost use Rattle.tf_program.specs.Batches.{HasNext, ReportsRest, DoesFile, RunsTask, holding};
+ghost use Rattle.tf_program.specs.Printing.{channel_of, console_of, IsLineEnd, PrintsAll, PrintsPart};
+ghost use Rattle.tf_program.specs.Printing.{PrintsExit, PrintsFault, PrintsHelp};
+ghost use Rattle.tf_program.specs.Runs.{Works};
+ghost use Rattle.tf_program.specs.Work.{command_of, file_command};
 
+use crate::answer::STANDARD_INPUT;
 use crate::batch::Batch;
-use crate::files::{STANDARD_INPUT, run_read_only};
+use crate::printing::print;
+use crate::read_only::run_read_only;
+use crate::streams::Streams;
 use std::alloc::Global;
 use std::io::{Read, Write};
 use tf_cli::{Action, CommandLine, Exit, RunOutcome, Task};
 use tf_files::SystemFiles;
-use tf_session::{Command, RunFault, Told, put_text};
+use tf_session::{Command, RunFault, Told};
 
 const OUT_OF_MEMORY: &str = "tfk: out of memory\n";
+
+const CANNOT_WRITE: &str = "tfk: cannot write standard output\n";
 
 /// Does what the arguments ask for, without the name of the program, and returns the exit status: 1
 /// after any error, else 2 if an issue is left, else 3 if a file that was to be checked is not
@@ -24,15 +31,15 @@ pub fn work<R: SystemFiles, I: Read, O: Write, F: Write>(
     rt: &R,
     alloc: Global,
     words: &[String],
-    input: &mut I,
-    output: &mut O,
-    faults: &mut F,
+    streams: &mut Streams<I, O, F>,
 ) -> u8
-    ensures { IsStatusOfArguments (all_normalized (map string_bytes words.now)) result }
+    ensures { Works (all_normalized (map string_bytes words.now)) result
+        (console_of I.remaining O.contents F.contents streams.old)
+        (console_of I.remaining O.contents F.contents streams.new) }
 {
     match CommandLine::new(alloc, words) {
-        Ok(line) => run_command_line(rt, alloc, &line, input, output, faults),
-        Err(_) => exit_with_fault(faults, OUT_OF_MEMORY),
+        Ok(line) => run_command_line(rt, alloc, &line, streams),
+        Err(_) => exit_with_fault(OUT_OF_MEMORY, streams),
     }
 }
 
@@ -42,54 +49,75 @@ fn run_command_line<R: SystemFiles, I: Read, O: Write, F: Write>(
     rt: &R,
     alloc: Global,
     line: &CommandLine<'_>,
-    input: &mut I,
-    output: &mut O,
-    faults: &mut F,
+    streams: &mut Streams<I, O, F>,
 ) -> u8
-    ensures { IsStatusOfArguments (arguments_of line.now) result }
+    ensures { Works (arguments_of line.now) result
+        (console_of I.remaining O.contents F.contents streams.old)
+        (console_of I.remaining O.contents F.contents streams.new) }
 {
     match line.task(alloc) {
-        Ok(task) => run_task(rt, alloc, &task, input, output, faults).status(),
-        Err(stop) => exit_with(&stop, output, faults),
+        Ok(task) => run_task(rt, alloc, &task, streams).status(),
+        Err(stop) => exit_with(&stop, streams),
     }
 }
 
 /// Prints the help, or why there is no task, and returns the exit status.
-fn exit_with<O: Write, F: Write>(stop: &Exit, output: &mut O, faults: &mut F) -> u8
-    ensures { IsStatusOf stop.now result }
+fn exit_with<I: Read, O: Write, F: Write>(stop: &Exit, streams: &mut Streams<I, O, F>) -> u8
+    ensures { PrintsExit stop.now result
+        (console_of I.remaining O.contents F.contents streams.old)
+        (console_of I.remaining O.contents F.contents streams.new) }
 {
     match stop {
-        Exit::Help(text) => print_help(output, faults, text.as_str()),
-        Exit::UsageError(text) => exit_with_fault(faults, text.as_str()),
-        Exit::Memory => exit_with_fault(faults, OUT_OF_MEMORY),
+        Exit::Help(text) => print_help(text.as_str(), streams),
+        Exit::UsageError(text) => exit_with_fault(text.as_str(), streams),
+        Exit::Memory => exit_with_fault(OUT_OF_MEMORY, streams),
     }
 }
 
 /// Prints an error and returns its exit status, which still reports the error if standard error
 /// takes nothing.
-fn exit_with_fault<F: Write>(faults: &mut F, text: &str) -> u8
-    ensures { result ≡ 1 }
+fn exit_with_fault<I: Read, O: Write, F: Write>(text: &str, streams: &mut Streams<I, O, F>) -> u8
+    ensures { PrintsFault text.now result
+        (console_of I.remaining O.contents F.contents streams.old)
+        (console_of I.remaining O.contents F.contents streams.new) }
 {
-    let _ = put_text(text.as_bytes(), &mut Told::new(faults));
+    let _ = print(text.as_bytes(), &mut streams.errors);
     1
 }
 
 /// Prints a help and returns the exit status.
-fn print_help<O: Write, F: Write>(output: &mut O, faults: &mut F, text: &str) -> u8
-    ensures { result ≤ 1 }
+fn print_help<I: Read, O: Write, F: Write>(text: &str, streams: &mut Streams<I, O, F>) -> u8
+    ensures { PrintsHelp text.now result
+        (console_of I.remaining O.contents F.contents streams.old)
+        (console_of I.remaining O.contents F.contents streams.new) }
 {
-    match write_help(output, text) {
+    match write_help(text, &mut streams.output) {
         Ok(()) => 0,
-        Err(_) => exit_with_fault(faults, "tfk: cannot write standard output\n"),
+        Err(_) => {
+            let _ = print(CANNOT_WRITE.as_bytes(), &mut streams.errors);
+            1
+        }
     }
 }
 
-/// Writes a text, and the end of its last line where it has none.
-fn write_help<O: Write>(output: &mut O, text: &str) -> Result<(), RunFault> {
-    let line_end = if text.ends_with('\n') { "" } else { "\n" };
-    let mut output = Told::new(output);
-    put_text(text.as_bytes(), &mut output)?;
-    put_text(line_end.as_bytes(), &mut output)
+/// Prints a text, and the end of its last line where it has none.
+fn write_help<O: Write>(text: &str, output: &mut Told<O>) -> Result<(), RunFault>
+    ensures done { OnOk result ((end : List ℕ) × IsLineEnd end
+        × PrintsAll (text.now ++ end) (channel_of O.contents output.old)
+        (channel_of O.contents output.new)) }
+    ensures part { OnErr result ((end : List ℕ) × IsLineEnd end
+        × PrintsPart (text.now ++ end) (channel_of O.contents output.old)
+        (channel_of O.contents output.new)) }
+{
+    print(text.as_bytes(), output)?;
+    print(line_end(text).as_bytes(), output)
+}
+
+/// Returns what follows a text, so that its last line ends.
+fn line_end(text: &str) -> &'static str
+    ensures { IsLineEnd result.now }
+{
+    if text.ends_with('\n') { "" } else { "\n" }
 }
 
 /// Does a task on one file after another, in the order given; an error on one does not stop the
@@ -98,18 +126,18 @@ fn run_task<R: SystemFiles, I: Read, O: Write, F: Write>(
     rt: &R,
     alloc: Global,
     task: &Task<'_>,
-    input: &mut I,
-    output: &mut O,
-    faults: &mut F,
+    streams: &mut Streams<I, O, F>,
 ) -> RunOutcome
     ensures left { result.left ≡ 0 }
-    ensures runs { RunsTask task.now.action task.now.locate task.now.files.items result }
+    ensures runs { RunsTask task.now.action task.now.locate task.now.files.items result
+        (console_of I.remaining O.contents F.contents streams.old)
+        (console_of I.remaining O.contents F.contents streams.new) }
 {
     let mut batch = Batch::new(alloc, task);
     for name in &task.files {
-        run_on_file(rt, alloc, task, name, &mut batch, input, output, faults);
+        run_on_file(rt, alloc, task, name, &mut batch, streams);
     }
-    batch.finish(rt, output, faults);
+    batch.finish(rt, streams);
     batch.outcome
 }
 
@@ -120,19 +148,21 @@ fn run_on_file<'a, R: SystemFiles, I: Read, O: Write, F: Write>(
     task: &Task<'_>,
     name: &'a str,
     batch: &mut Batch<'a>,
-    input: &mut I,
-    output: &mut O,
-    faults: &mut F,
+    streams: &mut Streams<I, O, F>,
 )
     requires { HasNext batch.old }
     ensures reported { ReportsRest 1 batch.old batch.new }
-    ensures does { DoesFile task.now.action name.now batch.old batch.new }
+    ensures does { batch.old.locate ≡ task.now.locate
+        → DoesFile task.now.action task.now.locate name.now
+        (holding batch.old (console_of I.remaining O.contents F.contents streams.old))
+        (holding batch.new (console_of I.remaining O.contents F.contents streams.new)) }
+    ensures locate { batch.new.locate ≡ batch.old.locate }
 {
     match file_command(task.action, name) {
-        Some(command) => batch.change(rt, command, name, output, faults),
+        Some(command) => batch.change(rt, command, name, streams),
         None => {
-            let met = run_read_only(rt, alloc, task, name, input, output, faults);
-            batch.note(name, met, faults);
+            let met = run_read_only(rt, alloc, task, name, streams);
+            batch.note(name, met, streams);
         }
     }
 }

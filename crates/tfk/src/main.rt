@@ -5,7 +5,7 @@
 use std::io::ErrorKind;
 use std::process::ExitCode;
 use std::{env, io};
-use tf_program::work;
+use tf_program::{Streams, work};
 
 /// Runs the program, and returns its exit status: that of [`work`], or 1 if the arguments can't be
 /// read.
@@ -15,9 +15,7 @@ fn main(rt: HostRuntime) -> ExitCode {
             &rt,
             rt.alloc(),
             args.as_slice(),
-            &mut rt.stdin(),
-            &mut rt.stdout(),
-            &mut rt.stderr(),
+            &mut Streams::new(rt.stdin(), rt.stdout(), rt.stderr()),
         )),
         Err(error) => {
             let text = match error.kind() {

@@ -1,4 +1,4 @@
--- The status of the task, or of the reason why there is none.
+-- What was done on the task; or what was printed of the reason why there is none.
 use Rattle.std.proofs.Common.{inl, inr}
 use Rattle.tf_program.proofs.run.run_command_line.Goals as goal
 

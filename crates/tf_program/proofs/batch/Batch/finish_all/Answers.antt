@@ -1,4 +1,4 @@
--- One more entry is noted.
+-- One more entry is reported.
 use Rattle.std.proofs.Common.{◌∙◌, arith}
 use Rattle.tf_program.proofs.Holding.{taken_item, one_more}
 use Rattle.tf_program.proofs.batch.Batch.finish_all.Goals as goal
@@ -11,6 +11,6 @@ loop-entry-preserved g c =
       left = omega (arith, c.finish_entry.ensures.left, done.left);
       len = c.finish_entry.ensures.len ∙ done.len;
       entries = c.finish_entry.ensures.entries ∙ done.entries;
-      noted = rw more (one_more _ c.entry-item.result _ _ _ done.noted c.finish_entry.ensures.noted);
+      noted = rw more (one_more _ _ _ c.entry-item.result _ _ _ done.locate done.noted c.finish_entry.ensures.noted);
       locate = c.finish_entry.ensures.locate ∙ done.locate;
     }

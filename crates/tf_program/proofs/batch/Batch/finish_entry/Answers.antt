@@ -1,7 +1,6 @@
--- What is noted is the outcome of what the command made, or an error.
-use Rattle.tf_program.proofs.Holding.{noted_of}
+-- What is met of an entry is what its lines were printed to, or its error.
+use Rattle.std.proofs.Common.{rules}
 use Rattle.tf_program.proofs.batch.Batch.finish_entry.Goals as goal
 
 pub returns-in-Ok-clause-noted : goal.returns-in-Ok-clause-noted
-returns-in-Ok-clause-noted g c =
-    rw c.in-Ok.is (noted_of c.in-Ok.made c.finish-met.result _ _ c.finish-met.ensures c.note.ensures.noted)
+returns-in-Ok-clause-noted g c = rw c.in-Ok.is (c.finish-met.result, _, c.finish-met.ensures, c.note.ensures.noted)
