@@ -1,7 +1,13 @@
 # Completions of tfk for fish, made from its help by tools/completions.
 
+# Of what fish completes, only what is there: after a `:` or `=` it begins another name, and of a
+# name with a newline it makes two.
 function __tfk_files
-    complete -C "'' "(commandline -ct) | string match -rv '\.(tfundo|tfundo\.new|tfnew)(\t|$)'
+    for name in (complete -C "'' "(commandline -ct) | string replace -r '\t.*' '' | string match -rv '\.(tfundo|tfundo\.new|tfnew)$')
+        if test -e "$name"; or string match -qr '^[$~]' -- "$name"
+            echo -- "$name"
+        end
+    end
 end
 
 complete -c tfk -f
