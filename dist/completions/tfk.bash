@@ -3,6 +3,8 @@
 _tfk() {
     local word=${COMP_WORDS[COMP_CWORD]} at=$COMP_CWORD line=${COMP_LINE:0:COMP_POINT}
     local command=${COMP_WORDS[1]} last=$2 option= words= is_file= name= lead before part
+    # a FILE of such a name would be taken for options, but after `--`
+    local dashed='-*'
     COMPREPLY=()
     # The word up to the cursor. Bash splits it at `:`, `=` and `@`, and replaces only the last part
     # ($2): `lead` is what is before that, without quotes
@@ -30,6 +32,7 @@ _tfk() {
         return
     elif [[ " ${COMP_WORDS[*]:0:at} " == *" -- "* ]]; then
         is_file=1
+        dashed=
     elif [[ $before == --enable-rule || $before == --disable-rule ]]; then
         words='all terraform_comment_syntax terraform_deprecated_index terraform_deprecated_interpolation terraform_empty_list_equality terraform_deprecated_lookup terraform_naming_convention terraform_typed_variables terraform_documented_variables terraform_documented_outputs'
     elif [[ $before == --take || -n $option ]]; then
@@ -57,7 +60,7 @@ _tfk() {
         fi
         name=${name%//}
         case $name in
-        *.tfundo | *.tfundo.new | *.tfnew) ;;
+        *.tfundo | *.tfundo.new | *.tfnew | $dashed) ;;
         "$lead"*)
             # readline has only a part of the name, and can't see that it is a folder
             [[ -z $lead || ! -d ${name/#\~\//$HOME/} ]] || name+=/

@@ -1,9 +1,13 @@
 # Completions of tfk for fish, made from its help by tools/completions.
 
 # Of what fish completes, only what is there: after a `:` or `=` it begins another name, and of a
-# name with a newline it makes two.
+# name with a newline it makes two. A name with a dash first would be taken for options, but after
+# `--`.
 function __tfk_files
     for name in (complete -C "'' "(commandline -ct) | string replace -r '\t.*' '' | string match -rv '\.(tfundo|tfundo\.new|tfnew)$')
+        if string match -q -- '-*' "$name"; and not contains -- -- (commandline -opc)
+            continue
+        end
         if test -e "$name"; or string match -qr '^[$~]' -- "$name"
             echo -- "$name"
         end
