@@ -8,6 +8,9 @@ use std::alloc::AllocError;
 use std::{fmt, io};
 use tf_session::{MAX_JOURNAL, RunFault};
 
+/// The system's number of the error that there is no such file: `ENOENT` of Linux.
+pub const NO_SUCH_FILE: i32 = 2;
+
 /// Which file a cause is about.
 #[derive(Clone, Copy)]
 pub enum Subject {
@@ -32,6 +35,8 @@ pub enum Reason {
     NotRegular,
     /// It is a link, and what it leads to is no journal, or the link is another user's.
     Link,
+    /// It is a link, and what it leads to is not there.
+    LinkToNothing,
     /// It would be longer than the limit of a file's size.
     OverSizeLimit,
     /// It has more bytes than this.
@@ -122,6 +127,28 @@ impl Trouble {
         }
     }
 
+    /// Returns this error of what a link leads to, as one of the link.
+    pub fn of_link(self) -> Trouble
+        ensures { result.fault ≡ self.fault }
+    {
+        let cause = match self.cause {
+            Some(
+                Cause {
+                    subject,
+                    reason: Reason::System(NO_SUCH_FILE),
+                },
+            ) => Some(Cause {
+                subject,
+                reason: Reason::LinkToNothing,
+            }),
+            cause => cause,
+        };
+        Trouble {
+            fault: self.fault,
+            cause,
+        }
+    }
+
     /// Returns this error if it is one of files, else that a file can't be read.
     pub fn of_files(self) -> Trouble
         ensures { is_file_fault result.fault ≡ true }
@@ -187,6 +214,7 @@ impl fmt::Display for Cause {
             ),
             Reason::NotRegular => f.write_str("no regular file"),
             Reason::Link => f.write_str("a link that is not followed"),
+            Reason::LinkToNothing => f.write_str("a link to a file that is not there"),
             Reason::OverSizeLimit => f.write_str("over the limit of a file's size"),
             Reason::Over(limit) => write!(f, "over {limit} bytes"),
             Reason::InUnreadFolder => f.write_str("its folder can't be read"),

@@ -4,7 +4,7 @@ ghost use Rattle.std.specs.Prelude.{◌≡◌, true, IfOk, IfErr, string_bytes};
 ghost use Rattle.tf_files.specs.Opening.{is_file_fault};
 ghost use Rattle.tf_files.specs.Paths.{text_folder, journal_folder};
 
-use crate::cause::{Reason, Subject, Trouble};
+use crate::cause::{NO_SUCH_FILE, Reason, Subject, Trouble};
 use crate::folder::{Folder, SystemFiles};
 use crate::look::{Look, look_for};
 use crate::trust::{Access, caller};
@@ -21,9 +21,6 @@ const NEW_TEXT: &str = ".tfnew";
 
 /// The suffix that the name of a new journal adds to that of the journal that it is to replace.
 const NEW_JOURNAL: &str = ".new";
-
-/// The system's number of the error that there is no such file: `ENOENT` of Linux.
-const NO_SUCH_FILE: i32 = 2;
 
 /// The most links that are followed, each to the next: as many as Linux follows.
 const MOST_LINKS: u32 = 40;
@@ -308,10 +305,10 @@ impl Place {
     {
         let path = self.path(alloc, suffix, "")?;
         match rt.read_link(alloc, path.as_str()) {
-            Ok(link) => {
-                let place = Place::open(rt, alloc, self.folder.prefix(), link.as_str())?;
-                Ok(Some(place))
-            }
+            Ok(link) => match Place::open(rt, alloc, self.folder.prefix(), link.as_str()) {
+                Ok(place) => Ok(Some(place)),
+                Err(trouble) => Err(trouble.of_link()),
+            },
             Err(error) if error.kind() == ErrorKind::OutOfMemory => {
                 Err(Trouble::from(RunFault::Memory))
             }

@@ -8,7 +8,7 @@ use crate::cause::{Reason, Subject, Trouble};
 use crate::file_paths::FilePaths;
 use crate::folder::SystemFiles;
 use crate::leftovers::{Found, open_found, refusal};
-use crate::look::look_for;
+use crate::look::{Look, look_for};
 use crate::snapshot::{Snapshot, Snapshots};
 use crate::trust::Access;
 use std::alloc::Global;
@@ -116,7 +116,7 @@ fn open_text<R: SystemFiles>(rt: &R, path: &str) -> Result<OpenText, Trouble>
 {
     let file = match fs::open(rt, path) {
         Ok(file) => file,
-        Err(error) => return Err(Trouble::unread_after(Subject::File, &error)),
+        Err(error) => return Err(unopened(rt, path, &error)),
     };
     match file.metadata() {
         Ok(found) if found.is_dir() => {
@@ -124,6 +124,19 @@ fn open_text<R: SystemFiles>(rt: &R, path: &str) -> Result<OpenText, Trouble>
             Err(Trouble::unread(Subject::File, reason))
         }
         found => Ok(OpenText { file, found }),
+    }
+}
+
+/// Returns the error of a file that could not be opened with this one. A link is there even where
+/// what it leads to is not.
+fn unopened<R: SystemFiles>(rt: &R, path: &str, error: &io::Error) -> Trouble
+    ensures { result.fault ≡ RunFault.Read }
+{
+    let trouble = Trouble::unread_after(Subject::File, error);
+    if Look::at(rt, path).is_link() {
+        trouble.of_link()
+    } else {
+        trouble
     }
 }
 
