@@ -1,5 +1,6 @@
 -- What an action that changes no file makes of a text, prints, and returns.
-use Rattle.std.specs.Prelude.{◌≡◌, ◌<◌, ◌⊎◌, ℕ, Bool, true, false, List, [], ◌++◌, codes, if◌then◌else◌, Option, None, Result, Ok, Err}
+use Rattle.std.specs.Prelude.{◌≡◌, ◌<◌, ◌⊎◌, ℕ, Bool, true, false, List, [], ◌++◌, codes}
+use Rattle.std.specs.Prelude.{if◌then◌else◌, Option, None, Result, Ok, Err}
 use Rattle.hcl_layout.specs.Layouts.{IsLayout, IsTooLong}
 use Rattle.tf_rules.specs.declared.rule_set.RuleSet.{RuleSet}
 use Rattle.tf_cli.specs.Arguments.{is_dash}
@@ -125,7 +126,8 @@ HasNoAnswer action name text fault old new =
     × IsAnswer action name text met output left × FailsToPrintBoth output left fault old new)
 
 -- what the action on this text has printed, and what is met
-abbrev pub AnswersText : Action → Bool → List ℕ → List ℕ → Result FileOutcome FileError → Console → Console → Type 0
+abbrev pub AnswersText : Action → Bool → List ℕ → List ℕ → Result FileOutcome FileError
+    → Console → Console → Type 0
 AnswersText action locate name text (Ok met) old new = PrintsAnswer action name text met old new
 AnswersText action locate name text (Err error) old new =
     IsLocatedIn text locate error × HasNoAnswer action name text error.fault old new
@@ -139,7 +141,8 @@ IsNotRead source (Err error) = IsReadStreamFault error.fault source × (error.lo
 
 -- The source had a whole text, and the action was done on it; or it was not read whole, and nothing
 -- was printed.
-abbrev pub AnswersStream : Action → Bool → List ℕ → Result FileOutcome FileError → Source → Console → Console → Type 0
+abbrev pub AnswersStream : Action → Bool → List ℕ → Result FileOutcome FileError → Source
+    → Console → Console → Type 0
 AnswersStream action locate name met source old new =
     ((text : List ℕ) × ReadsText source text × AnswersText action locate name text met old new)
     ⊎ (IsNotRead source met × KeepsOutputs old new)

@@ -1,5 +1,6 @@
 -- What a run prints: bytes, the lines of an error, and what arguments without a task print.
-use Rattle.std.specs.Prelude.{◌≡◌, ◌⊎◌, ℕ, Bool, true, false, List, [], ◌++◌, codes, Option, Some, None, IfSome, string_bytes}
+use Rattle.std.specs.Prelude.{◌≡◌, ◌⊎◌, ℕ, Bool, true, false, List, [], ◌++◌, codes}
+use Rattle.std.specs.Prelude.{Option, Some, None, IfSome, string_bytes}
 use Rattle.std.specs.Fmt.{decimal}
 use Rattle.tf_cli.specs.declared.exits.Exit.{Exit}
 use Rattle.tf_stream.specs.declared.told.Told.{Told}
@@ -32,7 +33,8 @@ pub record Console : Type 0 where
   pub output : Channel
   pub errors : Channel
 
-abbrev pub console_of : {I O F : Type 0} → (I → Option (List ℕ)) → (O → Option (List ℕ)) → (F → Option (List ℕ)) → Streams I O F → Console
+abbrev pub console_of : {I O F : Type 0} → (I → Option (List ℕ)) → (O → Option (List ℕ))
+    → (F → Option (List ℕ)) → Streams I O F → Console
 console_of remaining output errors streams = record {
   unread = remaining (inner_of streams.input);
   output = channel_of output streams.output;
@@ -91,7 +93,8 @@ IsReasonLine name locate None (Some hint) line =
 IsReasonLine name locate None None line = line ≡ []
 
 -- what is said of the error, where that is; or where it is; or such a reason; or nothing
-abbrev pub IsSecondLine : List ℕ → Bool → Option Explained → Option Location → Option Cause → Option Hint → List ℕ → Type 0
+abbrev pub IsSecondLine : List ℕ → Bool → Option Explained → Option Location → Option Cause
+    → Option Hint → List ℕ → Type 0
 IsSecondLine name locate (Some explained) location cause hint line =
     line ≡ located_line name explained.location (string_bytes explained.sentence)
 IsSecondLine name locate None (Some location) cause hint line =
