@@ -128,7 +128,7 @@ impl Subcommand {
             },
             Subcommand::Revert => SubcommandInfo {
                 name: "revert",
-                about: "Reverts the last command on a file, or an earlier one",
+                about: "Reverts the last command that changed a file, or an earlier one",
                 file_help: "The file to revert",
                 file_count: FileCount::One,
             },
