@@ -1,7 +1,7 @@
 //! What is said before clap's text on arguments that it refuses. clap's tip is to take an unknown
 //! option for a FILE, and a FILE in a command's place for another command.
 
-use crate::counterparts::{COUNTERPARTS, Place};
+use crate::counterparts::{Place, SEVERAL, SEVERAL_LISTS, line_of};
 use crate::options::Subcommand;
 use clap::error::ErrorKind;
 
@@ -9,13 +9,8 @@ use clap::error::ErrorKind;
 /// that of `-recursive` it has `-r`.
 const UNKNOWN_ARGUMENT: &str = "error: unexpected argument '";
 
-const NUMBER: &str = "--take N: N is the number of a command, as tfk revert --list FILE prints it";
-
-const SEVERAL: &str =
-    "revert takes one FILE; for several: for f in *.tf; do tfk revert -- \"$f\"; done";
-
-const SEVERAL_LISTS: &str =
-    "revert takes one FILE; for several: for f in *.tf; do tfk revert --list -- \"$f\"; done";
+const NUMBER: &str =
+    "--take N: N is the number of a command, as tfk revert --list -- FILE prints it";
 
 const NO_COMMAND: &str =
     "name a command first: tfk fmt -- FILE formats, tfk lint -- FILE lints; see tfk --help";
@@ -58,7 +53,7 @@ fn advice_on_missing<'a>(args: &[&str]) -> Option<Advice<'a>> {
         Subcommand::Lint => "name the files: tfk lint -- *.tf; see tfk lint --help",
         Subcommand::Fix => "name the files: tfk fix -- *.tf; see tfk fix --help",
         Subcommand::Revert => {
-            "name the file: tfk revert --list FILE lists its commands; see tfk revert --help"
+            "name the file: tfk revert --list -- FILE lists its commands; see tfk revert --help"
         }
     };
     Some(Advice::Line(line))
@@ -81,11 +76,13 @@ fn advice_on_unknown<'a>(text: &str, args: &[&'a str]) -> Option<Advice<'a>> {
     match command(args) {
         // clap refuses the first option that is before a command
         None => advice_on_option(Place::Start, *args.get(1)?),
+        Some(Subcommand::Fmt) if args.contains(&"--check") => advice_on_options(Place::Check, args),
         Some(Subcommand::Fmt) => advice_on_options(Place::Fmt, args),
         Some(Subcommand::Lint) => advice_on_options(Place::Lint, args),
         Some(Subcommand::Fix) => advice_on_options(Place::Fix, args),
         Some(Subcommand::Revert) => match advice_on_revert(text, args) {
             Some(line) => Some(Advice::Line(line)),
+            None if args.contains(&"--list") => advice_on_options(Place::List, args),
             None => advice_on_options(Place::Revert, args),
         },
     }
@@ -137,13 +134,6 @@ fn option_name(arg: &str) -> Option<&str> {
 
 /// Returns what is said of a word with this name.
 fn advice_on_word<'a>(place: Place, word: &'a str, name: &str) -> Option<Advice<'a>> {
-    for row in COUNTERPARTS {
-        if row.is_of(place, name) {
-            return Some(Advice::Unknown {
-                word,
-                line: row.line,
-            });
-        }
-    }
-    None
+    let line = line_of(place, name)?;
+    Some(Advice::Unknown { word, line })
 }

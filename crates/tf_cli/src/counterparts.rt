@@ -1,4 +1,4 @@
-//! The table of the options and commands of other programs, with what there is in their place.
+//! Tables of the options and commands of other programs, with what there is in their place.
 
 /// Where a word is given.
 #[derive(Clone, Copy, PartialEq)]
@@ -12,22 +12,26 @@ pub enum Place {
     Lint,
     Fix,
     Revert,
+    /// An option of `fmt --check`, which reads FILE alone.
+    Check,
+    /// An option of `revert --list`, which reads FILE alone.
+    List,
 }
 
-/// A row of the table.
-pub struct Counterpart {
+/// A row of a table.
+struct Counterpart {
     /// Words of other programs, options without their dashes. An option has the value that follows
     /// its `=` here; if there is no `=`, any value or none.
     words: &'static [&'static str],
     /// Where they are given.
     places: &'static [Place],
     /// What is said after the word.
-    pub line: &'static str,
+    line: &'static str,
 }
 
 impl Counterpart {
     /// Returns whether the row has a word at a place.
-    pub fn is_of(&self, place: Place, word: &str) -> bool {
+    fn is_of(&self, place: Place, word: &str) -> bool {
         self.places.contains(&place) && self.words.contains(&word)
     }
 }
@@ -35,67 +39,251 @@ impl Counterpart {
 const ANY: &[Place] = &[
     Place::Start,
     Place::Fmt,
+    Place::Check,
     Place::Lint,
     Place::Fix,
     Place::Revert,
+    Place::List,
 ];
 
-const ANY_BUT_REVERT: &[Place] = &[Place::Start, Place::Fmt, Place::Lint, Place::Fix];
+/// The options of a command, whichever it is.
+const COMMANDS: &[Place] = &[
+    Place::Fmt,
+    Place::Check,
+    Place::Lint,
+    Place::Fix,
+    Place::Revert,
+    Place::List,
+];
 
-/// The options of `terraform fmt` and of gofmt.
-const FORMATTER: &[Place] = &[Place::Start, Place::Fmt];
+const ANY_BUT_REVERT: &[Place] = &[
+    Place::Start,
+    Place::Fmt,
+    Place::Check,
+    Place::Lint,
+    Place::Fix,
+];
+
+/// The options of `terraform fmt` and of other formatters.
+const FORMATTER: &[Place] = &[Place::Start, Place::Fmt, Place::Check];
 
 /// The options of TFLint, and of other linters.
 const LINTER: &[Place] = &[Place::Start, Place::Lint, Place::Fix];
 
-/// The table. At each place a word is in one row at most.
-pub const COUNTERPARTS: &[Counterpart] = &[
-    // terraform fmt and gofmt
+const REVERT: &[Place] = &[Place::Revert, Place::List];
+
+/// What `revert` takes, and how it is run for several files.
+pub const SEVERAL: &str =
+    "revert takes one FILE; for several: for f in *.tf; do tfk revert -- \"$f\"; done";
+
+pub const SEVERAL_LISTS: &str =
+    "revert takes one FILE; for several: for f in *.tf; do tfk revert --list -- \"$f\"; done";
+
+/// Returns what is said after this word at a place; none if no row has it.
+pub fn line_of(place: Place, word: &str) -> Option<&'static str> {
+    let tables = [
+        format_rows(),
+        folder_rows(),
+        lint_rows(),
+        change_rows(),
+        revert_rows(),
+        general_rows(),
+        command_rows(),
+    ];
+    for table in tables {
+        if let Some(line) = line_in(table, place, word) {
+            return Some(line);
+        }
+    }
+    None
+}
+
+/// Returns what the first of these rows says that has this word at a place.
+fn line_in(table: &'static [Counterpart], place: Place, word: &str) -> Option<&'static str> {
+    for row in table {
+        if row.is_of(place, word) {
+            return Some(row.line);
+        }
+    }
+    None
+}
+
+// For the proof: a function for each table, since one with all rows exceeds the prover's limit.
+
+fn format_rows() -> &'static [Counterpart] {
+    FORMAT_ROWS
+}
+
+fn folder_rows() -> &'static [Counterpart] {
+    FOLDER_ROWS
+}
+
+fn lint_rows() -> &'static [Counterpart] {
+    LINT_ROWS
+}
+
+fn change_rows() -> &'static [Counterpart] {
+    CHANGE_ROWS
+}
+
+fn revert_rows() -> &'static [Counterpart] {
+    REVERT_ROWS
+}
+
+fn general_rows() -> &'static [Counterpart] {
+    GENERAL_ROWS
+}
+
+fn command_rows() -> &'static [Counterpart] {
+    COMMAND_ROWS
+}
+
+// The tables. At each place a word is in one row at most, of all tables. If the arguments are to
+// read FILE alone, no line names a command that writes it, except that of `lint --fix`.
+
+/// The options of `terraform fmt`, gofmt, prettier and black.
+const FORMAT_ROWS: &[Counterpart] = &[
     Counterpart {
         words: &["diff", "d"],
         places: FORMATTER,
-        line: "tfk fmt - < FILE | diff -u FILE - shows the changes; see tfk fmt --help",
+        line: "tfk fmt - < FILE | diff -u -- FILE - shows the changes; see tfk fmt --help",
     },
     Counterpart {
-        words: &["write", "dry-run"],
+        words: &["write=false", "dry-run"],
         places: FORMATTER,
-        line: "tfk fmt --check writes nothing; see tfk fmt --help",
+        line: "tfk fmt --check -- FILE writes nothing; see tfk fmt --help",
     },
     Counterpart {
-        words: &["list"],
-        places: FORMATTER,
+        words: &["write", "w", "in-place", "i"],
+        places: &[Place::Start],
+        line: "tfk fmt -- FILE formats it in place; see tfk --help",
+    },
+    Counterpart {
+        words: &["write", "w", "in-place", "i", "force"],
+        places: &[Place::Fmt],
+        line: "fmt writes FILE without it; see tfk fmt --help",
+    },
+    Counterpart {
+        words: &["write", "w", "in-place", "i", "force"],
+        places: &[Place::Check],
+        line: "fmt --check writes nothing; see tfk fmt --help",
+    },
+    Counterpart {
+        words: &["list", "quiet", "q", "silent"],
+        places: &[Place::Fmt, Place::Check],
+        line: "for no list of files add > /dev/null; see tfk fmt --help",
+    },
+    Counterpart {
+        words: &["list=false"],
+        places: &[Place::Start],
         line: "for no list of files add > /dev/null; see tfk fmt --help",
     },
     Counterpart {
         words: &["l"],
-        places: &[Place::Fmt],
-        line: "tfk fmt --check FILE prints FILE if it is not formatted; see tfk fmt --help",
+        places: &[Place::Fmt, Place::Check],
+        line: "tfk fmt --check -- FILE prints FILE if it is not formatted; see tfk fmt --help",
     },
     Counterpart {
-        words: &["w", "force"],
+        words: &["s"],
         places: &[Place::Fmt],
-        line: "FILE is written without it; see tfk fmt --help",
+        line: "fmt only formats; tfk fix -- FILE simplifies, > /dev/null drops the names",
+    },
+    Counterpart {
+        words: &["s"],
+        places: &[Place::Check],
+        line: "tfk lint -- FILE reports what could be simpler, > /dev/null drops the names",
+    },
+    Counterpart {
+        words: &["s"],
+        places: &[Place::Start],
+        line: "tfk fmt -- FILE formats, tfk lint -- FILE lints; see tfk --help",
     },
     Counterpart {
         words: &["check=true"],
-        places: &[Place::Fmt],
+        places: &[Place::Fmt, Place::Check],
         line: "write -check",
     },
     Counterpart {
         words: &["check=false"],
-        places: &[Place::Fmt],
+        places: &[Place::Fmt, Place::Check],
         line: "leave it out",
     },
     Counterpart {
-        words: &["recursive"],
-        places: ANY_BUT_REVERT,
-        line: "folders are not searched; see tfk fmt --help or tfk lint --help",
+        words: &["c"],
+        places: &[Place::Fmt],
+        line: "tfk fmt --check -- FILE checks the layout; there is no configuration file",
     },
-    // TFLint and other linters
+];
+
+/// Options for folders, and for what is left out of them.
+const FOLDER_ROWS: &[Counterpart] = &[
+    Counterpart {
+        words: &["recursive", "r", "R", "all"],
+        places: &[Place::Start],
+        line: "folders are not searched, and a command comes first: \
+            git ls-files -z '*.tf' '*.tfvars' | xargs -0 -r tfk lint --",
+    },
+    Counterpart {
+        words: &["recursive", "r", "R", "all"],
+        places: &[Place::Fmt],
+        line: "folders are not searched; for the files that git tracks: \
+            git ls-files -z '*.tf' '*.tfvars' | xargs -0 -r tfk fmt --",
+    },
+    Counterpart {
+        words: &["recursive", "r", "R", "all"],
+        places: &[Place::Check],
+        line: "folders are not searched; for the files that git tracks: \
+            git ls-files -z '*.tf' '*.tfvars' | xargs -0 -r tfk fmt --check --",
+    },
+    Counterpart {
+        words: &["recursive", "r", "R", "all"],
+        places: &[Place::Lint],
+        line: "folders are not searched; for the files that git tracks: \
+            git ls-files -z '*.tf' '*.tfvars' | xargs -0 -r tfk lint --",
+    },
+    Counterpart {
+        words: &["recursive", "r", "R", "all"],
+        places: &[Place::Fix],
+        line: "folders are not searched; for the files that git tracks: \
+            git ls-files -z '*.tf' '*.tfvars' | xargs -0 -r tfk fix --",
+    },
+    Counterpart {
+        words: &["exclude"],
+        places: &[Place::Fmt],
+        line: "name the files without PATH: \
+            git ls-files -z '*.tf' ':!:PATH' | xargs -0 -r tfk fmt --",
+    },
+    Counterpart {
+        words: &["exclude"],
+        places: &[Place::Check],
+        line: "name the files without PATH: \
+            git ls-files -z '*.tf' ':!:PATH' | xargs -0 -r tfk fmt --check --",
+    },
+    Counterpart {
+        words: &["exclude"],
+        places: &[Place::Start, Place::Lint],
+        line: "name the files without PATH: \
+            git ls-files -z '*.tf' ':!:PATH' | xargs -0 -r tfk lint --",
+    },
+    Counterpart {
+        words: &["exclude"],
+        places: &[Place::Fix],
+        line: "name the files without PATH: \
+            git ls-files -z '*.tf' ':!:PATH' | xargs -0 -r tfk fix --",
+    },
+];
+
+/// The options of TFLint and of other linters.
+const LINT_ROWS: &[Counterpart] = &[
     Counterpart {
         words: &["fix"],
-        places: ANY_BUT_REVERT,
-        line: "tfk fix FILE fixes what it can; see tfk fix --help",
+        places: &[Place::Start, Place::Fmt, Place::Lint, Place::Fix],
+        line: "tfk fix -- FILE fixes what it can; see tfk fix --help",
+    },
+    Counterpart {
+        words: &["fix"],
+        places: &[Place::Check],
+        line: "tfk lint -- FILE reports the issues; see tfk fix --help",
     },
     Counterpart {
         words: &["filter"],
@@ -137,44 +325,128 @@ pub const COUNTERPARTS: &[Counterpart] = &[
         places: LINTER,
         line: "modules are not followed: each FILE is read by itself",
     },
-    // what shows changes, or writes nothing
     Counterpart {
-        words: &["diff", "d", "dry-run", "write"],
+        words: &["quiet", "q", "silent", "s"],
         places: &[Place::Lint],
-        line: "lint writes nothing; tfk fix - < FILE | diff -u FILE - shows the fixes",
+        line: "for no list of issues add > /dev/null; the exit status is 2 if there are any",
+    },
+    Counterpart {
+        words: &["quiet", "q", "silent", "s"],
+        places: &[Place::Fix],
+        line: "for no list of issues add > /dev/null, or with - as FILE 2> /dev/null",
+    },
+    Counterpart {
+        words: &["c"],
+        places: &[Place::Check, Place::Lint],
+        line: "there is no configuration file; see tfk --help",
+    },
+    Counterpart {
+        words: &["c"],
+        places: &[Place::Fix],
+        line: "tfk lint -- FILE checks and writes nothing; there is no configuration file",
+    },
+];
+
+/// Options that show changes, write nothing or write in place, of lint, fix and revert.
+const CHANGE_ROWS: &[Counterpart] = &[
+    Counterpart {
+        words: &["diff", "d", "dry-run", "write", "w", "in-place", "i"],
+        places: &[Place::Lint],
+        line: "lint writes nothing; tfk fix - < FILE | diff -u -- FILE - shows the fixes",
     },
     Counterpart {
         words: &["check"],
         places: &[Place::Lint],
-        line: "lint writes nothing; tfk fmt --check FILE checks the layout",
+        line: "lint writes nothing; tfk fmt --check -- FILE checks the layout",
     },
     Counterpart {
-        words: &["diff", "d", "dry-run", "write"],
+        words: &["diff", "d", "dry-run", "write=false"],
         places: &[Place::Fix],
-        line: "tfk fix - < FILE | diff -u FILE - shows the changes; see tfk fix --help",
+        line: "tfk fix - < FILE | diff -u -- FILE - shows the changes; see tfk fix --help",
+    },
+    Counterpart {
+        words: &["write", "w", "in-place", "i"],
+        places: &[Place::Fix],
+        line: "fix writes FILE without it; see tfk fix --help",
     },
     Counterpart {
         words: &["check"],
         places: &[Place::Fix],
-        line: "tfk lint FILE reports the issues and writes nothing; see tfk lint --help",
+        line: "tfk lint -- FILE reports the issues and writes nothing; see tfk lint --help",
     },
     Counterpart {
-        words: &["diff", "d", "dry-run", "check"],
-        places: &[Place::Revert],
-        line: "tfk revert --list FILE says what can be undone, and writes nothing",
+        words: &["diff", "d", "dry-run", "write=false", "check", "c"],
+        places: REVERT,
+        line: "tfk revert --list -- FILE says what can be undone, and writes nothing",
     },
-    // other options of revert
     Counterpart {
-        words: &["recursive"],
+        words: &["write", "w", "in-place", "i"],
         places: &[Place::Revert],
+        line: "revert writes FILE without it; see tfk revert --help",
+    },
+    Counterpart {
+        words: &["write", "w", "in-place", "i"],
+        places: &[Place::List],
+        line: "revert --list writes nothing; see tfk revert --help",
+    },
+];
+
+/// Other options of revert.
+const REVERT_ROWS: &[Counterpart] = &[
+    Counterpart {
+        words: &["recursive", "r", "R"],
+        places: &[Place::Revert],
+        line: SEVERAL,
+    },
+    Counterpart {
+        words: &["recursive", "r", "R"],
+        places: &[Place::List],
+        line: SEVERAL_LISTS,
+    },
+    Counterpart {
+        words: &["exclude"],
+        places: REVERT,
         line: "revert takes one FILE; see tfk revert --help",
     },
     Counterpart {
         words: &["force"],
-        places: &[Place::Revert],
+        places: REVERT,
         line: "a command is undone only if what it wrote is still there; see tfk revert --help",
     },
-    // options of all commands
+    Counterpart {
+        words: &["all"],
+        places: &[Place::Revert],
+        line: "while tfk revert -- FILE; do :; done undoes all commands; see tfk revert --help",
+    },
+    Counterpart {
+        words: &["to"],
+        places: &[Place::Revert],
+        line: "run tfk revert -- FILE until tfk revert --list -- FILE ends with the one to keep",
+    },
+    Counterpart {
+        words: &["all", "to"],
+        places: &[Place::List],
+        line: "tfk revert --list -- FILE lists all commands; see tfk revert --help",
+    },
+    Counterpart {
+        words: &["quiet", "q", "silent", "s"],
+        places: &[Place::Revert],
+        line: "revert prints nothing but errors; see tfk revert --help",
+    },
+    Counterpart {
+        words: &["quiet", "q", "silent", "s"],
+        places: &[Place::List],
+        line: "for no list add > /dev/null; see tfk revert --help",
+    },
+];
+
+/// Options of all commands.
+const GENERAL_ROWS: &[Counterpart] = &[
+    Counterpart {
+        words: &["quiet", "q", "silent"],
+        places: &[Place::Start],
+        line: "for no output add > /dev/null; see tfk --help",
+    },
     Counterpart {
         words: &["chdir"],
         places: ANY,
@@ -190,30 +462,71 @@ pub const COUNTERPARTS: &[Counterpart] = &[
         places: ANY,
         line: "there is no configuration file; see tfk --help",
     },
-    // commands
+    Counterpart {
+        words: &["verbose"],
+        places: ANY,
+        line: "--locate says where each error is, and why; see tfk --help",
+    },
+    Counterpart {
+        words: &["v"],
+        places: COMMANDS,
+        line: "--locate says where each error is, and why; tfk --version is the version",
+    },
+];
+
+/// Words in a command's place; some are options too.
+const COMMAND_ROWS: &[Counterpart] = &[
     Counterpart {
         words: &["version", "v"],
         places: &[Place::Command, Place::Start],
         line: "tfk --version prints it",
     },
     Counterpart {
-        words: &["check"],
+        words: &["check", "c"],
         places: &[Place::Command, Place::Start],
-        line: "tfk fmt --check FILE checks the layout, tfk lint FILE reports issues",
+        line: "tfk fmt --check -- FILE checks the layout, tfk lint -- FILE reports issues",
     },
     Counterpart {
         words: &["format"],
         places: &[Place::Command],
-        line: "tfk fmt FILE formats it; see tfk fmt --help",
+        line: "tfk fmt -- FILE formats it; see tfk fmt --help",
+    },
+    Counterpart {
+        words: &["undo"],
+        places: &[
+            Place::Command,
+            Place::Start,
+            Place::Fmt,
+            Place::Fix,
+            Place::Revert,
+        ],
+        line: "tfk revert -- FILE undoes the last command that changed it; see tfk revert --help",
+    },
+    Counterpart {
+        words: &["list"],
+        places: &[Place::Command, Place::Start],
+        line: "tfk revert --list -- FILE lists the commands that changed it, \
+            tfk lint --help the rules",
+    },
+    Counterpart {
+        words: &["rules", "list-rules"],
+        places: &[Place::Command],
+        line: "tfk lint --help lists them",
+    },
+    Counterpart {
+        words: &["list-rules"],
+        places: ANY,
+        line: "tfk lint --help lists them",
     },
     Counterpart {
         words: &["validate"],
         places: &[Place::Command],
-        line: "tfk lint FILE reports syntax errors and issues; for more run terraform validate",
+        line: "tfk lint -- FILE reports syntax errors and issues; for more run terraform validate",
     },
     Counterpart {
         words: &["init", "plan", "apply", "destroy"],
         places: &[Place::Command],
-        line: "terraform does that; tfk has fmt, lint, fix and revert; see tfk --help",
+        line: "init, validate, plan and apply are terraform's; tfk has fmt, lint, fix and revert; \
+            see tfk --help",
     },
 ];
