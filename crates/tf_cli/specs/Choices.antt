@@ -1,6 +1,9 @@
 -- Which rules the options of the command line choose. Options of TFLint.
-use Rattle.std.specs.Prelude.{◌≡◌, ◌==◌, ℕ, Bool, true, List, [], ◌∷◌, ◌++◌, ⊤, codes, string_bytes}
+use Rattle.std.specs.Prelude.{◌≡◌, ◌==◌, ◌≤◌, ◌<◌, ◌⊎◌, ℕ, Bool, true, List, [], ◌∷◌, ◌++◌, ⊤}
+use Rattle.std.specs.Prelude.{codes, string_bytes, length, nat_eq, Option, Some, None}
 use Rattle.std.specs.List.{list_any}
+use Rattle.std.specs.Str.{chars}
+use Rattle.strsim.specs.Edits.{levenshtein_row}
 use Rattle.tf_rules.specs.declared.rule.Rule.{Rule}
 use Rattle.tf_rules.specs.Table.{index_of, name_of}
 use Rattle.tf_cli.specs.declared.exits.Exit.{Exit}
@@ -28,12 +31,40 @@ AreNames [] [] = ⊤
 AreNames (choice ∷ choices) (name ∷ names) = IsName choice name × AreNames choices names
 AreNames choices names = ⊥
 
+-- how many characters have to be inserted, removed or replaced, at least (Levenshtein)
+abbrev pub distance : List ℕ → List ℕ → ℕ
+distance from to = levenshtein_row nat_eq (chars from) (chars to) (length (chars to))
+
+-- a name is similar to that of the rule, also without `terraform_` before it
+abbrev pub IsSimilar : List ℕ → Rule → Type 0
+IsSimilar name rule =
+    (distance name (name_of rule) ≤ 3) ⊎ (distance (codes "terraform_" ++ name) (name_of rule) ≤ 3)
+
+-- the first rule with a similar name, if there is one
+abbrev pub IsSimilarRule : List ℕ → Option Rule → Type 0
+IsSimilarRule name (Some rule) =
+    IsSimilar name rule
+    × ((other : Rule) → index_of other < index_of rule → ¬ (IsSimilar name other))
+IsSimilarRule name None = (rule : Rule) → ¬ (IsSimilar name rule)
+
+-- what is said of a name that no rule has, by the rule with a similar name
+abbrev pub unknown_rule_text : List ℕ → Option Rule → List ℕ
+unknown_rule_text name (Some rule) =
+    codes "tfk: unknown rule "
+    ++ (name ++ (codes ": did you mean "
+    ++ (name_of rule ++ codes "? tfk lint --help lists them\n")))
+unknown_rule_text name None =
+    codes "tfk: unknown rule "
+    ++ (name ++ codes ": tfk lint --help lists them; one for each option\n")
+
+abbrev pub SaysUnknownRule : List ℕ → List ℕ → Type 0
+SaysUnknownRule name text =
+    (similar : Option Rule) × IsSimilarRule name similar × (text ≡ unknown_rule_text name similar)
+
 -- no rule has this name, and the error says so; or there is no memory for that
 abbrev pub IsUnknownRule : List ℕ → Exit → Type 0
 IsUnknownRule name (UsageError text) =
-    ((choice : Choice) → ¬ (IsName choice name))
-    × (string_bytes text ≡ codes "tfk: unknown rule "
-    ++ (name ++ codes ": tfk lint --help lists them; one for each option\n"))
+    ((choice : Choice) → ¬ (IsName choice name)) × SaysUnknownRule name (string_bytes text)
 IsUnknownRule name Memory = ⊤
 IsUnknownRule name (Help text) = ⊥
 

@@ -11,6 +11,7 @@ mod help;
 mod options;
 mod outcome;
 mod rule_choice;
+mod similar;
 mod tasks;
 
 pub use command_line::CommandLine;

@@ -1,7 +1,8 @@
 //! The task of what clap has read of the arguments.
 
-ghost use Rattle.std.specs.Prelude.{◌≡◌, map, IfOk, IfErr};
-ghost use Rattle.tf_cli.specs.Choices.{IsName, AreNames, IsUnknownRule, HasUnknownRule};
+ghost use Rattle.std.specs.Prelude.{◌≡◌, map, string_bytes, IfOk, IfErr};
+ghost use Rattle.tf_cli.specs.Choices.{IsName, AreNames, SaysUnknownRule, IsUnknownRule};
+ghost use Rattle.tf_cli.specs.Choices.{HasUnknownRule};
 ghost use Rattle.tf_cli.specs.Tasks.{rows_in, values_of, option_values, IsNamesFault};
 ghost use Rattle.tf_cli.specs.Tasks.{AreChosenRules, IsRulesFault, IsGiven, IsTakenNumber};
 ghost use Rattle.tf_cli.specs.Tasks.{IsAction, IsActionFault, IsTask, IsTaskFault};
@@ -11,6 +12,7 @@ use crate::clap_commands::FILE;
 use crate::exits::{Exit, usage_error};
 use crate::options::{Action, Flag, Subcommand};
 use crate::rule_choice::{Choice, chosen_rules};
+use crate::similar::similar_rule;
 use clap::ArgMatches;
 use std::alloc::{AllocError, Global};
 use tf_rules::RuleSet;
@@ -92,9 +94,28 @@ fn parse_choice(alloc: Global, name: &str) -> Result<Choice, Exit>
 {
     match Choice::by_name(name) {
         Some(choice) => Ok(choice),
-        None => Err(Exit::UsageError(format!(in alloc;
+        None => Err(Exit::UsageError(unknown_rule(alloc, name)?)),
+    }
+}
+
+/// Returns what is said of a name that no rule has: which rule is meant, if it has a similar name.
+///
+/// # Errors
+///
+/// `AllocError` if memory runs out.
+fn unknown_rule(alloc: Global, name: &str) -> Result<String, AllocError>
+    ensures { IfOk result (λ text. SaysUnknownRule name.now (string_bytes text)) }
+{
+    match similar_rule(alloc, name)? {
+        Some(rule) => {
+            let meant = rule.name();
+            format!(in alloc;
+                "tfk: unknown rule {name}: did you mean {meant}? tfk lint --help lists them\n"
+            )
+        }
+        None => format!(in alloc;
             "tfk: unknown rule {name}: tfk lint --help lists them; one for each option\n"
-        )?)),
+        ),
     }
 }
 
