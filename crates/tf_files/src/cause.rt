@@ -11,6 +11,9 @@ use tf_session::{MAX_JOURNAL, RunFault};
 /// The system's number of the error that there is no such file: `ENOENT` of Linux.
 pub const NO_SUCH_FILE: i32 = 2;
 
+/// The system's number of the error that a folder is read as a file: `EISDIR` of Linux.
+const IS_FOLDER: i32 = 21;
+
 /// Which file a cause is about.
 #[derive(Clone, Copy)]
 pub enum Subject {
@@ -161,6 +164,11 @@ impl Trouble {
 }
 
 impl Cause {
+    /// Returns whether there is no file of the name that was given.
+    pub fn is_no_file(&self) -> bool {
+        matches!((self.subject, self.reason), (Subject::File, Reason::System(NO_SUCH_FILE)))
+    }
+
     /// Returns the cause of a call that failed with this error; none if it isn't the system's.
     pub fn after(subject: Subject, error: &io::Error) -> Option<Cause> {
         match error.raw_os_error() {
@@ -207,6 +215,7 @@ impl fmt::Display for Cause {
             Subject::NewJournal => f.write_str("its .tfundo.new: ")?,
         }
         match self.reason {
+            Reason::System(IS_FOLDER) => f.write_str("is a folder: name its files"),
             Reason::System(number) => { write!(f, "{}", io::Error::from_raw_os_error(number)) }
             Reason::Changed => f.write_str("changed by another program"),
             Reason::OfAnotherUser => f.write_str(

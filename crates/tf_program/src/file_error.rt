@@ -23,6 +23,9 @@ const MOST_MESSAGE: usize = 256;
 
 const OUT_OF_MEMORY: &str = "out of memory";
 
+/// What is said of a pattern in place of a name, which is no file's.
+const NO_MATCH: &str = "no such file: is the pattern quoted, or does it match no name?";
+
 /// What is said of an error of a text, and where that is printed.
 #[derive(Drop)]
 pub struct Explained {
@@ -297,11 +300,25 @@ fn reason_line(
     ensures { IfOk result (λ line. IsReasonLine name.now locate cause hint (string_bytes line)) }
 {
     let sentence = match (cause, hint) {
-        (Some(cause), _) if locate => format!(in alloc; "{cause}")?,
+        (Some(cause), _) if locate => cause_sentence(alloc, name, cause)?,
         (None, Some(hint)) => format!(in alloc; "{hint}")?,
         _ => return Ok(String::new(alloc)),
     };
     format!(in alloc; "{name}: error: {sentence}\n")
+}
+
+/// Returns why the file of this name can't be read or written.
+fn cause_sentence(alloc: Global, name: &str, cause: Cause) -> Result<String, AllocError> {
+    if cause.is_no_file() && is_pattern(name) {
+        String::from_str(alloc, NO_MATCH)
+    } else {
+        format!(in alloc; "{cause}")
+    }
+}
+
+/// Returns whether a name has what a shell takes for a part of a pattern.
+fn is_pattern(name: &str) -> bool {
+    name.bytes().any(|byte| matches!(byte, b'*' | b'?' | b'['))
 }
 
 /// Returns the line of an error at this location, of which this is said.
