@@ -2,8 +2,10 @@
 
 use crate::context::{Context, has_keywords};
 use crate::expected::Expected;
+use crate::head::{HeadAdvice, at_head_end, in_head};
 use crate::near::{
-    ends_value, first_from, is_adjacent, is_kind, is_line_start, is_word, kind_at, last_before,
+    after_words, ends_value, first_from, is_adjacent, is_kind, is_line_end, is_line_start, is_word,
+    kind_at, last_before,
 };
 use hcl_grammar::operators::binary_operator;
 use hcl_scan::{Kind, Scanned};
@@ -15,14 +17,14 @@ pub enum Advice {
     ConflictMarker,
     /// An operator at the start of a line.
     OperatorFirst,
-    /// A name that begins with a digit.
-    NameDigit,
-    /// A name in quotes.
-    NameQuoted,
+    /// A mistake before the `=` of an attribute or the `{` of a block.
+    Head(HeadAdvice),
     /// A text that begins with `{`.
     Json,
-    /// The `{` of a block, in a line after its name.
-    BraceOnNextLine,
+    /// A space in a key.
+    KeySpace,
+    /// A comma after the value of an attribute.
+    AttributeComma,
     /// `and`, `or` and `not`.
     And,
     Or,
@@ -76,11 +78,11 @@ impl Advice {
             Advice::OperatorFirst => {
                 "a line can't begin with an operator: put the value in parentheses"
             }
-            Advice::NameDigit => "a name can't begin with a digit",
-            Advice::NameQuoted => "the name of an attribute or of a block has no quotes",
+            Advice::Head(advice) => advice.sentence(),
             Advice::Json =>
-                "expected an attribute or a block, found `{`: JSON is read from .tf.json",
-            Advice::BraceOnNextLine => "the `{` of a block has to be on the line of its name",
+                "this is JSON, not HCL's native syntax: terraform reads it from .tf.json",
+            Advice::KeySpace => "a key with a space is in double quotes, `\"`",
+            Advice::AttributeComma => "a newline ends an attribute, not a `,`",
             Advice::And => "`and` is written `&&`",
             Advice::Or => "`or` is written `||`",
             Advice::Not => "`not` is written `!`",
@@ -128,34 +130,53 @@ pub fn advice_for(
         }
         Some(kind) => match expected {
             Expected::Member | Expected::MemberOrBrace => at_line_start(scanned, kind, found),
-            Expected::EqualOrBlock | Expected::LabelOrBrace => in_head(scanned, kind, found),
+            Expected::EqualOrBlock | Expected::LabelOrBrace => {
+                in_head(scanned, context, kind, found)
+            }
             Expected::OneLineEqual => None,
+            Expected::KeySign if is_key_with_space(scanned, found) => Some(Advice::KeySpace),
             Expected::ForColon if is_word(scanned, found, b"if") => Some(Advice::ForIf),
             Expected::SequenceEnd => at_sequence_end(scanned, kind, found, context),
             _ => in_value(scanned, kind, found, context, expected),
         },
+        None if matches!(expected, Expected::LabelOrBrace) => at_head_end(scanned, found),
         None => None,
     }
 }
 
 fn at_line_start(scanned: &Scanned<'_>, kind: Kind, found: usize) -> Option<Advice> {
     match kind {
-        Kind::Number => Some(Advice::NameDigit),
-        Kind::QuoteOpen => Some(Advice::NameQuoted),
-        Kind::OpenBrace if found == 0 && is_json(scanned) => Some(Advice::Json),
+        Kind::Number => Some(Advice::Head(HeadAdvice::NameDigit)),
+        Kind::QuoteOpen => Some(Advice::Head(HeadAdvice::NameQuoted)),
+        Kind::OpenBrace if is_json(scanned, found) => Some(Advice::Json),
         _ if is_operator(kind) && follows_attribute(scanned, found) => Some(Advice::OperatorFirst),
         _ => None,
     }
 }
 
-/// Whether a name in quotes or `}` follows the first token.
-fn is_json(scanned: &Scanned<'_>) -> bool {
-    let next = first_from(scanned, 1, true);
-    is_kind(scanned, next, Kind::QuoteOpen) || is_kind(scanned, next, Kind::CloseBrace)
+/// Whether token `found` is the first, and a name in quotes or `}` follows it.
+fn is_json(scanned: &Scanned<'_>, found: usize) -> bool {
+    let start = if is_kind(scanned, 0, Kind::Mark) {
+        1
+    } else {
+        0
+    };
+    let next = first_from(scanned, found.saturating_add(1), true);
+    first_from(scanned, start, true) == found
+        && (is_kind(scanned, next, Kind::QuoteOpen) || is_kind(scanned, next, Kind::CloseBrace))
+}
+
+/// Whether words follow the word before token `found`, in its line, and then the sign of a key.
+fn is_key_with_space(scanned: &Scanned<'_>, found: usize) -> bool {
+    let sign = after_words(scanned, found);
+    found > 0
+        && is_kind(scanned, found - 1, Kind::Identifier)
+        && is_kind(scanned, found, Kind::Identifier)
+        && (is_kind(scanned, sign, Kind::Equal) || is_kind(scanned, sign, Kind::Colon))
 }
 
 /// Whether the kind is an operator between values.
-fn is_operator(kind: Kind) -> bool {
+pub fn is_operator(kind: Kind) -> bool {
     matches!(kind, Kind::Question | Kind::Colon) || binary_operator(kind).is_some()
 }
 
@@ -194,20 +215,6 @@ fn is_marker(scanned: &Scanned<'_>, kind: Kind, found: usize) -> bool {
 fn is_next(scanned: &Scanned<'_>, kind: Kind, i: usize) -> bool {
     let next = i.saturating_add(1);
     is_kind(scanned, next, kind) && is_adjacent(scanned, next)
-}
-
-fn in_head(scanned: &Scanned<'_>, kind: Kind, found: usize) -> Option<Advice> {
-    match kind {
-        Kind::LineEnd | Kind::LineComment => {
-            let next = first_from(scanned, found, true);
-            if is_kind(scanned, next, Kind::OpenBrace) {
-                Some(Advice::BraceOnNextLine)
-            } else {
-                None
-            }
-        }
-        _ => None,
-    }
 }
 
 /// Returns the advice for a token where a template sequence should end.
@@ -325,12 +332,25 @@ fn after_value(
         Kind::Colon if is_text(expected) && is_in_text(scanned, last, found) => {
             Some(Advice::BareText)
         }
+        Kind::Comma if is_after_attribute(scanned, found, expected) => {
+            Some(Advice::AttributeComma)
+        }
         Kind::Equal if is_next(scanned, Kind::Bang, found) => Some(Advice::NotEqual),
         Kind::Equal if is_next(scanned, Kind::Less, found) => Some(Advice::AtMost),
         Kind::Equal if is_condition(scanned, found, expected) => Some(Advice::Equal),
         Kind::FatArrow if is_condition(scanned, found, expected) => Some(Advice::AtLeast),
         _ => None,
     }
+}
+
+/// Whether this comma is after an attribute's value: with the end of the line, or another
+/// attribute, after it.
+fn is_after_attribute(scanned: &Scanned<'_>, found: usize, expected: Expected) -> bool {
+    let next = first_from(scanned, found.saturating_add(1), false);
+    matches!(expected, Expected::ValueEnd)
+        && (is_line_end(scanned, next)
+            || (is_kind(scanned, next, Kind::Identifier)
+                && is_kind(scanned, next.saturating_add(1), Kind::Equal)))
 }
 
 /// Whether a value that ends here may be text without quotes: no `:` can follow it.
@@ -387,20 +407,11 @@ fn heredoc(scanned: &Scanned<'_>, found: usize) -> Option<Advice> {
 /// Whether this token and words after it are in a string, whose quotes end it before them and begin
 /// another one after them.
 fn is_between_quotes(scanned: &Scanned<'_>, last: usize, found: usize) -> bool {
+    let end = after_words(scanned, found);
     is_kind(scanned, last, Kind::QuoteClose)
         && is_adjacent(scanned, found)
-        && are_words_before_quote(scanned, found)
-}
-
-/// Whether words, and right after them a quote, follow from token `from` on.
-fn are_words_before_quote(scanned: &Scanned<'_>, from: usize) -> bool {
-    for i in from..scanned.len() {
-        match scanned.kind(i) {
-            Kind::Identifier => {}
-            kind => return matches!(kind, Kind::QuoteOpen) && is_adjacent(scanned, i),
-        }
-    }
-    false
+        && is_kind(scanned, end, Kind::QuoteOpen)
+        && is_adjacent(scanned, end)
 }
 
 /// Returns the advice for a word after token `last`.

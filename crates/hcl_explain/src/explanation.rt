@@ -15,6 +15,7 @@ use crate::context::{Context, context_of};
 use crate::directives::{directive_advice, end_word, open_directive};
 use crate::expected::{Expected, expected_after};
 use crate::found::{byte_of, token_at};
+use crate::head::label_advice;
 use crate::near::kind_at;
 use crate::openings::{closes, innermost_open};
 use crate::unclosed::is_not_closed;
@@ -145,7 +146,7 @@ fn reason_at(
 {
     let from = first_in(opening);
     if matches!(context, Context::Label) {
-        return Reason::Advice(Advice::LabelTemplate);
+        return Reason::Advice(label_advice(scanned, from));
     }
     if matches!(context, Context::Directive) && from == found {
         return at_directive_word(scanned, found);

@@ -107,6 +107,25 @@ pub fn is_line_start(scanned: &Scanned<'_>, i: usize) -> bool {
     }
 }
 
+/// Whether token `i` ends a line or the text.
+pub fn is_line_end(scanned: &Scanned<'_>, i: usize) -> bool {
+    match kind_at(scanned, i) {
+        Some(kind) => ends_line(kind),
+        None => true,
+    }
+}
+
+/// Returns the number of the first token from number `from` on that is no word.
+pub fn after_words(scanned: &Scanned<'_>, from: usize) -> usize {
+    for i in from..scanned.len() {
+        match scanned.kind(i) {
+            Kind::Identifier => {}
+            _ => return i,
+        }
+    }
+    scanned.len()
+}
+
 /// Whether a value can end with token `i`.
 pub fn ends_value(scanned: &Scanned<'_>, i: usize) -> bool
     ensures { result ≡ spec.ends_value scanned.now.pairs i }

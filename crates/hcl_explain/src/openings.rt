@@ -91,6 +91,24 @@ pub fn innermost_open(scanned: &Scanned<'_>, before: usize) -> Option<usize>
     None
 }
 
+/// Returns the number of the first token from number `from` on that closes more than was opened
+/// from there on; how many tokens there are, if there is none.
+pub fn closing_after(scanned: &Scanned<'_>, from: usize) -> usize {
+    let mut opened = 0usize;
+    for i in from..scanned.len() {
+        let kind = scanned.kind(i);
+        if opens(kind) {
+            opened = opened.saturating_add(1);
+        } else if closes(kind) {
+            if opened == 0 {
+                return i;
+            }
+            opened -= 1;
+        }
+    }
+    scanned.len()
+}
+
 /// Whether a token of this kind closes one of the openings that are not closed before token
 /// `before`.
 pub fn closes_any(scanned: &Scanned<'_>, before: usize, closing: Kind) -> bool

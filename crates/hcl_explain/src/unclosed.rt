@@ -7,8 +7,9 @@ ghost use Rattle.hcl_token.specs.declared.kind.Kind.{Kind};
 ghost use Rattle.hcl_explain.specs.Openings.{closes, ClosesOuter};
 
 use crate::context::{Context, context_of};
-use crate::near::{is_kind, is_line_start, kind_at, last_before};
-use crate::openings::{closes, closes_any, is_closed_by, opens};
+use crate::head::is_after_name;
+use crate::near::{is_kind, is_line_start, kind_at};
+use crate::openings::{closes, closes_any, closing_after, is_closed_by};
 use hcl_scan::{Kind, Scanned};
 
 /// Whether token `found` shows that this opening, the innermost, is not closed.
@@ -84,30 +85,13 @@ fn are_labels(scanned: &Scanned<'_>, from: usize) -> bool {
     false
 }
 
-/// Whether the token before token `i` is a name with which a line begins.
-fn is_after_name(scanned: &Scanned<'_>, i: usize) -> bool {
-    match last_before(scanned, i, false) {
-        Some(last) => is_kind(scanned, last, Kind::Identifier) && is_line_start(scanned, last),
-        None => false,
-    }
-}
-
 /// Whether the first token from number `found` on that closes more than was opened from there on
 /// closes this opening.
 fn is_closed_after(scanned: &Scanned<'_>, opening: usize, found: usize) -> bool {
-    let mut opened = 0usize;
-    for i in found..scanned.len() {
-        let kind = scanned.kind(i);
-        if opens(kind) {
-            opened = opened.saturating_add(1);
-        } else if closes(kind) {
-            if opened == 0 {
-                return is_closed_by(scanned, opening, kind);
-            }
-            opened -= 1;
-        }
+    match kind_at(scanned, closing_after(scanned, found)) {
+        Some(kind) => is_closed_by(scanned, opening, kind),
+        None => false,
     }
-    false
 }
 
 /// Whether token `found` begins the labels of a block, in an object.

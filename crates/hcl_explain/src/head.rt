@@ -1,0 +1,166 @@
+//! A line of a body that has no `=` or no `{` yet: a name, and words or strings after it.
+
+use crate::advice::{Advice, is_operator};
+use crate::context::Context;
+use crate::near::{first_from, is_kind, is_line_end, is_line_start, kind_at, last_before};
+use crate::openings::closing_after;
+use hcl_scan::{Kind, Scanned};
+
+/// A mistake in such a line, by what is written in its place.
+#[derive(Clone, Copy)]
+pub enum HeadAdvice {
+    /// A name that begins with a digit.
+    NameDigit,
+    /// A name in quotes.
+    NameQuoted,
+    /// A name with a space.
+    NameSpace,
+    /// A value after a name, with no `=` between.
+    NoEqual,
+    /// A name and one word or string, which may be a value or a label.
+    EqualOrBrace,
+    /// `=` before the `{` of a block.
+    BlockEqual,
+    /// The `{` of a block, in a line after its name.
+    BraceOnNextLine,
+}
+
+impl HeadAdvice {
+    /// Returns the sentence.
+    pub fn sentence(self) -> &'static str {
+        match self {
+            HeadAdvice::NameDigit => "a name can't begin with a digit",
+            HeadAdvice::NameQuoted => "the name of an attribute or of a block has no quotes",
+            HeadAdvice::NameSpace => "a name can't have a space",
+            HeadAdvice::NoEqual => "an attribute is written `NAME = VALUE`",
+            HeadAdvice::EqualOrBrace => "expected `=` after the name or `{` after the label",
+            HeadAdvice::BlockEqual => "a block has no `=` before its `{`",
+            HeadAdvice::BraceOnNextLine => "the `{` of a block has to be on the line of its name",
+        }
+    }
+}
+
+/// Whether a name, with which the line begins, and one word or string are before token `i`.
+fn is_after_first_label(scanned: &Scanned<'_>, i: usize) -> bool {
+    match last_before(scanned, i, false) {
+        Some(last) => is_after_name(scanned, label_start(scanned, last)),
+        None => false,
+    }
+}
+
+/// Returns the number of the first token of the word or string that ends with token `last`.
+fn label_start(scanned: &Scanned<'_>, last: usize) -> usize {
+    let before = last.saturating_sub(1);
+    if !is_kind(scanned, last, Kind::QuoteClose) {
+        last
+    } else if is_kind(scanned, before, Kind::QuoteLit) {
+        before.saturating_sub(1)
+    } else {
+        before
+    }
+}
+
+/// Whether the token before token `i` is a name with which a line begins.
+pub fn is_after_name(scanned: &Scanned<'_>, i: usize) -> bool {
+    match last_before(scanned, i, false) {
+        Some(last) => is_kind(scanned, last, Kind::Identifier) && is_line_start(scanned, last),
+        None => false,
+    }
+}
+
+/// Returns the advice for token `found`, of this kind, which can't follow in such a line.
+pub fn in_head(
+    scanned: &Scanned<'_>,
+    context: Context,
+    kind: Kind,
+    found: usize,
+) -> Option<Advice> {
+    match kind {
+        Kind::LineEnd | Kind::LineComment => at_head_end(scanned, found),
+        Kind::Equal => at_equal(scanned, context, found),
+        _ if is_value_after(scanned, kind, found) => Some(Advice::Head(HeadAdvice::NoEqual)),
+        _ => None,
+    }
+}
+
+/// Returns the advice where token `found`, or the end of the text, ends such a line.
+pub fn at_head_end(scanned: &Scanned<'_>, found: usize) -> Option<Advice> {
+    if is_brace_next(scanned, found) {
+        Some(Advice::Head(HeadAdvice::BraceOnNextLine))
+    } else if is_after_first_label(scanned, found) {
+        Some(Advice::Head(HeadAdvice::EqualOrBrace))
+    } else {
+        None
+    }
+}
+
+/// Whether the first token after line ends, from number `i` on, is a `{`.
+fn is_brace_next(scanned: &Scanned<'_>, i: usize) -> bool {
+    is_kind(scanned, first_from(scanned, i, true), Kind::OpenBrace)
+}
+
+/// Returns the advice for the `=` after a name and words or strings. With nothing but words before
+/// it, a `{` after it is that of a block at top level, and in a block that of an object.
+fn at_equal(scanned: &Scanned<'_>, context: Context, found: usize) -> Option<Advice> {
+    let next = first_from(scanned, found.saturating_add(1), false);
+    let is_before_brace = is_kind(scanned, next, Kind::OpenBrace);
+    let is_name = are_words_before(scanned, found);
+    if is_before_brace && (!is_name || matches!(context, Context::File)) {
+        Some(Advice::Head(HeadAdvice::BlockEqual))
+    } else if is_name {
+        Some(Advice::Head(HeadAdvice::NameSpace))
+    } else {
+        None
+    }
+}
+
+/// Whether the line of token `i` has nothing but words before it.
+fn are_words_before(scanned: &Scanned<'_>, i: usize) -> bool {
+    for k in (0..i).rev() {
+        if !is_kind(scanned, k, Kind::Identifier) {
+            return is_line_start(scanned, k.saturating_add(1));
+        }
+    }
+    true
+}
+
+/// Whether the word or string after a name begins a value, which token `found` continues: a `(`, or
+/// an operator in a line without the `{` of a block.
+fn is_value_after(scanned: &Scanned<'_>, kind: Kind, found: usize) -> bool {
+    let continues = match kind {
+        Kind::OpenParen => true,
+        Kind::Dot | Kind::DotIndex | Kind::OpenBracket => !has_brace(scanned, found),
+        _ => is_operator(kind) && !has_brace(scanned, found),
+    };
+    continues && is_after_first_label(scanned, found)
+}
+
+/// Whether a `{` is in the line of token `i`, from there on.
+fn has_brace(scanned: &Scanned<'_>, i: usize) -> bool {
+    for k in i..scanned.len() {
+        match scanned.kind(k) {
+            Kind::OpenBrace => return true,
+            Kind::LineEnd | Kind::LineComment => return false,
+            _ => {}
+        }
+    }
+    false
+}
+
+/// Returns the advice for a template in a string after the name of a block or an attribute, whose
+/// text begins with token `from`.
+pub fn label_advice(scanned: &Scanned<'_>, from: usize) -> Advice {
+    let next = first_from(
+        scanned,
+        closing_after(scanned, from).saturating_add(1),
+        false,
+    );
+    if is_line_end(scanned, next)
+        && !is_brace_next(scanned, next)
+        && is_after_name(scanned, from.saturating_sub(1))
+    {
+        Advice::Head(HeadAdvice::NoEqual)
+    } else {
+        Advice::LabelTemplate
+    }
+}
