@@ -9,7 +9,7 @@ ghost use Rattle.hcl_explain.specs.Openings.{closes, ClosesOuter};
 use crate::context::{Context, context_of};
 use crate::head::is_after_name;
 use crate::near::{is_kind, is_line_start, kind_at};
-use crate::openings::{closes, closes_any, closing_after, is_closed_by};
+use crate::openings::{closes, closes_any, closing_after, innermost_open, is_closed_by};
 use hcl_scan::{Kind, Scanned};
 
 /// Whether token `found` shows that this opening, the innermost, is not closed.
@@ -44,7 +44,9 @@ fn closes_outer(scanned: &Scanned<'_>, opening: usize, kind: Kind) -> bool
 /// Whether token `found` shows that the line of it is outside of this construct.
 fn begins_outside(scanned: &Scanned<'_>, opening: usize, found: usize) -> bool {
     match context_of(scanned, Some(opening)) {
-        Context::Object => is_label_in_object(scanned, found),
+        Context::Object => {
+            is_block_in_object(scanned, found) && is_open_at_end(scanned, opening, found)
+        }
         Context::Interpolation => is_word_alone(scanned, found),
         Context::Tuple
         | Context::TupleFor
@@ -94,9 +96,20 @@ fn is_closed_after(scanned: &Scanned<'_>, opening: usize, found: usize) -> bool 
     }
 }
 
-/// Whether token `found` begins the labels of a block, in an object.
-fn is_label_in_object(scanned: &Scanned<'_>, found: usize) -> bool {
-    is_kind(scanned, found, Kind::QuoteOpen)
-        && is_after_name(scanned, found)
-        && are_labels(scanned, found)
+/// Whether the line of token `found`, in an object, is the head of a block: a name before it, and
+/// with it the labels, if any, and the `{`.
+fn is_block_in_object(scanned: &Scanned<'_>, found: usize) -> bool {
+    is_after_name(scanned, found) && are_labels(scanned, found)
+}
+
+/// Whether nothing from token `found` on closes this opening, the innermost there, or one around it
+/// is the innermost at the end of the text.
+fn is_open_at_end(scanned: &Scanned<'_>, opening: usize, found: usize) -> bool {
+    if closing_after(scanned, found) >= scanned.len() {
+        return true;
+    }
+    match innermost_open(scanned, scanned.len()) {
+        Some(last) => last <= opening,
+        None => false,
+    }
 }
