@@ -60,6 +60,12 @@ open_before pairs (suc i) = open_after (kind_of pairs i) i (open_before pairs i)
 abbrev pub innermost_open : List Pair → ℕ → Option ℕ
 innermost_open pairs n = slice_get (open_before pairs n) 0
 
+-- the second of these tokens is a `}`, which closes the first, a `{`
+abbrev pub AreBraces : List Pair → ℕ → ℕ → Type 0
+AreBraces pairs opening closing =
+    (kind_of pairs opening ≡ Some OpenBrace) × (kind_of pairs closing ≡ Some CloseBrace)
+    × (innermost_open pairs closing ≡ Some opening)
+
 -- a token of this kind closes this opening
 abbrev pub IsClosedBy : List Pair → ℕ → Kind → Type 0
 IsClosedBy pairs opening closing =

@@ -14,6 +14,7 @@ mod expected;
 mod explanation;
 mod found;
 mod head;
+mod indents;
 mod lines;
 mod near;
 mod openings;

@@ -54,6 +54,17 @@ pub fn line_end(text: &[u8], at: usize) -> usize
     text.len().saturating_sub(after.len())
 }
 
+/// Returns the number of the line of a byte, from 1.
+pub fn line_number(text: &[u8], at: usize) -> usize {
+    let mut line = 1usize;
+    for byte in prefix(text, at) {
+        if *byte == b'\n' {
+            line = line.saturating_add(1);
+        }
+    }
+    line
+}
+
 /// Returns the line of a byte from its start on, with all that follows it.
 pub fn from_line_start(text: &[u8], at: usize) -> &[u8] {
     for i in (0..at.min(text.len())).rev() {

@@ -3,9 +3,13 @@
 use crate::context::{Context, context_of};
 use crate::directives::word_of;
 use crate::explanation::{Explanation, Reason};
+use crate::found::byte_of;
+use crate::indents::{Braces, early_braces, late_braces};
+use crate::lines::line_number;
 use crate::near::{first_from, is_kind, kind_at};
 use hcl_scan::{Kind, Scanned};
 use std::alloc::{AllocError, Global};
+use std::fmt::Write;
 use std::str::from_utf8;
 
 /// A spelling of more bytes is not quoted in a sentence.
@@ -23,13 +27,19 @@ impl Explanation {
     pub fn sentence(&self, alloc: Global, scanned: &Scanned<'_>) -> Result<String, AllocError> {
         let mut out = String::new(alloc);
         match self.reason {
-            Reason::NotClosed => push_not_closed(&mut out, scanned, self.token)?,
+            Reason::NotClosed => {
+                push_not_closed(&mut out, scanned, self.token)?;
+                push_braces(&mut out, scanned, early_braces(alloc, scanned, *self)?)?;
+            }
             Reason::NoEnd => push_no_end(&mut out, scanned, self.token)?,
             Reason::TooDeep => out.push_str("nested more than 100 deep")?,
             Reason::Expected(expected) => {
                 push_expected(&mut out, scanned, expected.name(), self.found)?
             }
-            Reason::ClosesNothing => push_closes_nothing(&mut out, scanned, self.found)?,
+            Reason::ClosesNothing => {
+                push_closes_nothing(&mut out, scanned, self.found)?;
+                push_braces(&mut out, scanned, late_braces(alloc, scanned, self.found)?)?;
+            }
             Reason::Advice(advice) => out.push_str(advice.sentence())?,
         }
         Ok(out)
@@ -68,6 +78,30 @@ fn push_not_closed(out: &mut String, scanned: &Scanned<'_>, open: usize) -> Resu
         _ => {}
     }
     out.push_str(" is not closed")
+}
+
+/// Adds which `{` a `}` closes, where these were found.
+fn push_braces(
+    out: &mut String,
+    scanned: &Scanned<'_>,
+    braces: Option<Braces>,
+) -> Result<(), AllocError> {
+    match braces {
+        Some(braces) => {
+            let closing = line_of(scanned, braces.closing);
+            let opening = line_of(scanned, braces.opening);
+            write!(
+                out,
+                "; the `}}` in line {closing} closes the `{{` in line {opening}"
+            )
+        }
+        None => Ok(()),
+    }
+}
+
+/// Returns the number of the line of a token, from 1.
+fn line_of(scanned: &Scanned<'_>, i: usize) -> usize {
+    line_number(scanned.text(), byte_of(scanned, i))
 }
 
 /// Adds that a directive has no end.
