@@ -3,7 +3,7 @@
 use crate::advice::Advice;
 use crate::context::{Context, context_of};
 use crate::expected::{Expected, expected_after};
-use crate::lines::{bytes_from, from_line_start, prefix};
+use crate::lines::{bytes_from, from_line_start, prefix, whitespace_len};
 use crate::near::{is_adjacent, is_kind};
 use crate::openings::innermost_open;
 use crate::sequence::sequence_text;
@@ -14,6 +14,12 @@ use std::str::from_utf8;
 
 /// How many characters a conflict marker of a merge has.
 const MARKER_LEN: usize = 7;
+
+/// What is said of three backquotes with which a line begins.
+const FENCE: &str = "this line is a fence of Markdown: delete it";
+
+/// What is written in place of the `$(` of a shell.
+const SHELL_COMMAND: &str = ": a command of a shell is text, in double quotes, `\"`";
 
 /// What is said of a `${` in a template sequence.
 const NESTED: &str = "unexpected `${`: in `${ }` and `%{ }` write the value alone";
@@ -33,6 +39,9 @@ pub fn push_character(
 ) -> Result<(), AllocError> {
     if is_conflict_marker(from_line_start(text, at)) {
         return out.push_str(Advice::ConflictMarker.sentence());
+    }
+    if is_fence(text, at) {
+        return out.push_str(FENCE);
     }
     let before = match opened {
         Some(opened) => sequence_text(bytes_from(prefix(text, at), opened)),
@@ -71,7 +80,7 @@ fn push_found(
     match first_character(found.rest) {
         Some(c) => match advice {
             Some(advice) => push_with(out, c, found.rest, advice),
-            None if !found.rest.starts_with(b"${") => push_unexpected(out, c),
+            None if !found.rest.starts_with(b"${") => push_unexpected(out, c, found.rest),
             None if found.is_in_sequence => out.push_str(NESTED),
             None => out.push_str(TEMPLATE_OUTSIDE),
         },
@@ -106,6 +115,13 @@ fn is_conflict_marker(line: &[u8]) -> bool {
     }
 }
 
+/// Whether a fence of Markdown is at this byte: three backquotes with which a line begins.
+fn is_fence(text: &[u8], at: usize) -> bool {
+    let line = from_line_start(text, at);
+    bytes_from(text, at).starts_with(b"```")
+        && bytes_from(line, whitespace_len(line)).starts_with(b"```")
+}
+
 /// Returns how often a text repeats its first byte at its start.
 fn repeated(text: &[u8]) -> usize {
     for (i, byte) in text.iter().enumerate() {
@@ -125,7 +141,9 @@ fn advice_after(scanned: &Scanned<'_>, found: Found<'_>) -> Option<Advice> {
     match found.rest {
         [b'$', b'{', ..] if is_key_next(scanned) => Some(Advice::ComputedKey),
         [b'\\', b'"', ..] => Some(Advice::EscapedQuote),
-        [b'\'', ..] if is_heredoc_next(scanned) => Some(Advice::HeredocQuotes),
+        [b'\'', ..] | [0xe2, 0x80, 0x98..=0x9f, ..] if is_heredoc_next(scanned) => {
+            Some(Advice::HeredocQuotes)
+        }
         [b'~', ..] if is_heredoc_next(scanned) => Some(Advice::HeredocTilde),
         _ => None,
     }
@@ -183,13 +201,38 @@ fn is_name_start(byte: u8) -> bool {
     byte.is_ascii_alphabetic() || byte == b'_'
 }
 
-/// Adds that a character is unexpected, and what is written in its place.
-fn push_unexpected(out: &mut String, c: char) -> Result<(), AllocError> {
+/// Adds that the character with which a text begins is unexpected, and what is written in its
+/// place.
+fn push_unexpected(out: &mut String, c: char, rest: &[u8]) -> Result<(), AllocError> {
     out.push_str("unexpected ")?;
     push_shown(out, c)?;
+    match entity_form(rest) {
+        Some(plain) => write!(out, " of an HTML entity: write a plain `{plain}`"),
+        None => push_in_place(out, c, rest),
+    }
+}
+
+/// Adds what is written in place of a character, with which a text begins.
+fn push_in_place(out: &mut String, c: char, rest: &[u8]) -> Result<(), AllocError> {
     match plain_form(c) {
         Some(plain) => write!(out, ": write a plain `{plain}`"),
+        None if rest.starts_with(b"$(") => out.push_str(SHELL_COMMAND),
         None => out.push_str(character_advice(c)),
+    }
+}
+
+/// Returns the character of the HTML entity with which a text begins.
+fn entity_form(rest: &[u8]) -> Option<char> {
+    if rest.starts_with(b"&quot;") || rest.starts_with(b"&#34;") {
+        Some('"')
+    } else if rest.starts_with(b"&amp;") || rest.starts_with(b"&#38;") {
+        Some('&')
+    } else if rest.starts_with(b"&lt;") || rest.starts_with(b"&#60;") {
+        Some('<')
+    } else if rest.starts_with(b"&gt;") || rest.starts_with(b"&#62;") {
+        Some('>')
+    } else {
+        None
     }
 }
 
@@ -242,8 +285,12 @@ fn character_advice(c: char) -> &'static str {
         '\r' | '\u{b}' | '\u{c}' | '\u{85}' | '\u{2028}' | '\u{2029}' => {
             ": a line ends with LF, or CR LF"
         }
-        '\0' => ": delete it",
-        '\u{a0}' | '\u{1680}' | '\u{2000}'..='\u{200b}' | '\u{202f}' | '\u{205f}' | '\u{3000}' => {
+        '\0'
+        | '\u{ad}'
+        | '\u{200b}'..='\u{200f}'
+        | '\u{202a}'..='\u{202e}'
+        | '\u{2060}'..='\u{206f}' => ": delete it",
+        '\u{a0}' | '\u{1680}' | '\u{2000}'..='\u{200a}' | '\u{202f}' | '\u{205f}' | '\u{3000}' => {
             ", which is no space: write a plain one"
         }
         _ => symbol_advice(c),

@@ -82,7 +82,7 @@ fn is_whitespace(b: u8) -> bool
 }
 
 /// Returns how many spaces and tabs a text begins with.
-fn whitespace_len(text: &[u8]) -> usize
+pub fn whitespace_len(text: &[u8]) -> usize
     ensures { result ≡ prefix_len scanner.is_whitespace text.now }
 {
     let mut at = 0usize;
