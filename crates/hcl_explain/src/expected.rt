@@ -1,7 +1,7 @@
 //! What the grammar has at a place.
 
 use crate::context::{Context, Sign, drops_lines, has_keywords, keyword_of, last_sign};
-use crate::near::{ends_line, ends_value, is_kind, is_line_start, is_word, kind_at, last_before};
+use crate::near::{ends_value, is_kind, is_line_start, kind_at, last_before};
 use hcl_scan::{Kind, Scanned};
 
 /// What was expected at a place.
