@@ -166,7 +166,10 @@ impl Trouble {
 impl Cause {
     /// Returns whether there is no file of the name that was given.
     pub fn is_no_file(&self) -> bool {
-        matches!((self.subject, self.reason), (Subject::File, Reason::System(NO_SUCH_FILE)))
+        matches!(
+            (self.subject, self.reason),
+            (Subject::File, Reason::System(NO_SUCH_FILE))
+        )
     }
 
     /// Returns the cause of a call that failed with this error; none if it isn't the system's.
