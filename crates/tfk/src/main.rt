@@ -1,5 +1,5 @@
-//! The program `tfk`, a formatter and linter for Terraform files: it reads its arguments and does
-//! what tf_program does with them.
+//! The program `tfk`, a formatter and linter for Terraform files: it hands its arguments, the files
+//! of the system and its standard streams to `work` of tf_program.
 #![tactic(auto)]
 
 use std::io::ErrorKind;
