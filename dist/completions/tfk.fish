@@ -18,7 +18,7 @@ complete -c tfk -f
 complete -c tfk -n __fish_use_subcommand -a fmt -d 'Formats files in place'
 complete -c tfk -n __fish_use_subcommand -a lint -d 'Reports the issues in files'
 complete -c tfk -n __fish_use_subcommand -a fix -d 'Fixes issues in files in place'
-complete -c tfk -n __fish_use_subcommand -a revert -d 'Reverts the last command on a file, or an earlier one'
+complete -c tfk -n __fish_use_subcommand -a revert -d 'Reverts the last command that changed a file, or an earlier one'
 complete -c tfk -n __fish_use_subcommand -a help -d 'Print this message or the help of the given subcommand(s)'
 complete -c tfk -n __fish_use_subcommand -s h -l help -d 'Print help'
 complete -c tfk -n __fish_use_subcommand -s V -l version -d 'Print version'
