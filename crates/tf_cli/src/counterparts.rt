@@ -87,6 +87,7 @@ pub fn line_of(place: Place, word: &str) -> Option<&'static str> {
         lint_rows(),
         change_rows(),
         revert_rows(),
+        stream_rows(),
         general_rows(),
         command_rows(),
     ];
@@ -130,6 +131,10 @@ fn revert_rows() -> &'static [Counterpart] {
     REVERT_ROWS
 }
 
+fn stream_rows() -> &'static [Counterpart] {
+    STREAM_ROWS
+}
+
 fn general_rows() -> &'static [Counterpart] {
     GENERAL_ROWS
 }
@@ -169,7 +174,17 @@ const FORMAT_ROWS: &[Counterpart] = &[
         line: "fmt --check writes nothing; see tfk fmt --help",
     },
     Counterpart {
-        words: &["list", "quiet", "q", "silent"],
+        words: &["list"],
+        places: &[Place::Fmt],
+        line: "fmt prints the names of the files that it changes; see tfk fmt --help",
+    },
+    Counterpart {
+        words: &["list"],
+        places: &[Place::Check],
+        line: "fmt --check prints the names of the files that are not formatted",
+    },
+    Counterpart {
+        words: &["list=false", "quiet", "q", "silent"],
         places: &[Place::Fmt, Place::Check],
         line: "for no list of files add > /dev/null; see tfk fmt --help",
     },
@@ -179,8 +194,8 @@ const FORMAT_ROWS: &[Counterpart] = &[
         line: "for no list of files add > /dev/null; see tfk fmt --help",
     },
     Counterpart {
-        words: &["l"],
-        places: &[Place::Fmt, Place::Check],
+        words: &["l", "list-different"],
+        places: FORMATTER,
         line: "tfk fmt --check -- FILE prints FILE if it is not formatted; see tfk fmt --help",
     },
     Counterpart {
@@ -301,9 +316,9 @@ const LINT_ROWS: &[Counterpart] = &[
         line: "--disable-rule RULE disables one; see tfk lint --help",
     },
     Counterpart {
-        words: &["format", "output-format"],
+        words: &["format", "output-format", "f", "json"],
         places: LINTER,
-        line: "there is one format of issues; see tfk lint --help",
+        line: "there is one format of issues; docs/INTEGRATING.md makes JSON of it, with jq",
     },
     Counterpart {
         words: &["force", "exit-zero"],
@@ -317,11 +332,11 @@ const LINT_ROWS: &[Counterpart] = &[
     },
     Counterpart {
         words: &["var-file", "var"],
-        places: LINTER,
+        places: ANY_BUT_REVERT,
         line: "nothing is evaluated, so no values are read",
     },
     Counterpart {
-        words: &["call-module-type"],
+        words: &["call-module-type", "module", "no-module", "ignore-module"],
         places: LINTER,
         line: "modules are not followed: each FILE is read by itself",
     },
@@ -409,7 +424,7 @@ const REVERT_ROWS: &[Counterpart] = &[
         line: "revert takes one FILE; see tfk revert --help",
     },
     Counterpart {
-        words: &["force"],
+        words: &["force", "f"],
         places: REVERT,
         line: "a command is undone only if what it wrote is still there; see tfk revert --help",
     },
@@ -437,6 +452,50 @@ const REVERT_ROWS: &[Counterpart] = &[
         words: &["quiet", "q", "silent", "s"],
         places: &[Place::List],
         line: "for no list add > /dev/null; see tfk revert --help",
+    },
+];
+
+/// Options for standard input and output, and those of TFLint for what it starts.
+const STREAM_ROWS: &[Counterpart] = &[
+    Counterpart {
+        words: &["stdin", "stdin-filename", "stdin-filepath"],
+        places: ANY_BUT_REVERT,
+        line: "write - in place of FILE; see tfk --help",
+    },
+    Counterpart {
+        words: &["stdin", "stdin-filename", "stdin-filepath"],
+        places: REVERT,
+        line: "standard input has no journal: name the file; see tfk revert --help",
+    },
+    Counterpart {
+        words: &["stdout"],
+        places: FORMATTER,
+        line: "tfk fmt - < FILE prints it formatted; see tfk fmt --help",
+    },
+    Counterpart {
+        words: &["stdout"],
+        places: &[Place::Lint],
+        line: "lint prints the issues there without it; see tfk lint --help",
+    },
+    Counterpart {
+        words: &["stdout"],
+        places: &[Place::Fix],
+        line: "tfk fix - < FILE prints it fixed; see tfk fix --help",
+    },
+    Counterpart {
+        words: &["init", "enable-plugin"],
+        places: LINTER,
+        line: "there are no plugins: all rules are built in; tfk lint --help lists them",
+    },
+    Counterpart {
+        words: &["max-workers", "no-parallel-runners"],
+        places: LINTER,
+        line: "there are no workers: one file is processed after the other",
+    },
+    Counterpart {
+        words: &["langserver"],
+        places: LINTER,
+        line: "there is no language server; docs/INTEGRATING.md says how editors run tfk",
     },
 ];
 
