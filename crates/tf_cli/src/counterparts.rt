@@ -1,4 +1,5 @@
-//! Tables of the options and commands of other programs, with what there is in their place.
+//! Tables of the options and commands of other programs, and of options of tfk that are written
+//! otherwise, with what there is in their place.
 
 /// Where a word is given.
 #[derive(Clone, Copy, PartialEq)]
@@ -20,8 +21,8 @@ pub enum Place {
 
 /// A row of a table.
 struct Counterpart {
-    /// Words of other programs, options without their dashes. An option has the value that follows
-    /// its `=` here; if there is no `=`, any value or none.
+    /// Words, options without their dashes. An option has the value that follows its `=` here; if
+    /// there is no `=`, any value or none.
     words: &'static [&'static str],
     /// Where they are given.
     places: &'static [Place],
@@ -89,6 +90,7 @@ pub fn line_of(place: Place, word: &str) -> Option<&'static str> {
         revert_rows(),
         stream_rows(),
         general_rows(),
+        own_rows(),
         command_rows(),
     ];
     for table in tables {
@@ -137,6 +139,10 @@ fn stream_rows() -> &'static [Counterpart] {
 
 fn general_rows() -> &'static [Counterpart] {
     GENERAL_ROWS
+}
+
+fn own_rows() -> &'static [Counterpart] {
+    OWN_ROWS
 }
 
 fn command_rows() -> &'static [Counterpart] {
@@ -212,16 +218,6 @@ const FORMAT_ROWS: &[Counterpart] = &[
         words: &["s"],
         places: &[Place::Start],
         line: "tfk fmt -- FILE formats, tfk lint -- FILE lints; see tfk --help",
-    },
-    Counterpart {
-        words: &["check=true"],
-        places: &[Place::Fmt, Place::Check],
-        line: "write -check",
-    },
-    Counterpart {
-        words: &["check=false"],
-        places: &[Place::Fmt, Place::Check],
-        line: "leave it out",
     },
     Counterpart {
         words: &["c"],
@@ -530,6 +526,76 @@ const GENERAL_ROWS: &[Counterpart] = &[
         words: &["v"],
         places: COMMANDS,
         line: "--locate says where each error is, and why; tfk --version is the version",
+    },
+];
+
+/// Options of tfk, with a value that they don't have, before a command, shortened, or of another
+/// command.
+const OWN_ROWS: &[Counterpart] = &[
+    Counterpart {
+        words: &["check=true"],
+        places: &[Place::Fmt, Place::Check],
+        line: "write --check",
+    },
+    Counterpart {
+        words: &["check=false"],
+        places: &[Place::Fmt, Place::Check],
+        line: "leave it out",
+    },
+    Counterpart {
+        words: &["list=true", "l"],
+        places: REVERT,
+        line: "write --list",
+    },
+    Counterpart {
+        words: &["list=false"],
+        places: REVERT,
+        line: "leave it out",
+    },
+    Counterpart {
+        words: &["locate=true"],
+        places: COMMANDS,
+        line: "write --locate",
+    },
+    Counterpart {
+        words: &["locate=false"],
+        places: COMMANDS,
+        line: "leave it out",
+    },
+    Counterpart {
+        words: &["locate"],
+        places: &[Place::Start],
+        line: "a command comes first: tfk lint --locate -- FILE; see tfk --help",
+    },
+    Counterpart {
+        words: &["disable-rule"],
+        places: &[Place::Start],
+        line: "a command comes first: tfk lint --disable-rule RULE -- FILE; see tfk lint --help",
+    },
+    Counterpart {
+        words: &["enable-rule"],
+        places: &[Place::Start],
+        line: "a command comes first: tfk lint --enable-rule RULE -- FILE; see tfk lint --help",
+    },
+    Counterpart {
+        words: &["take"],
+        places: &[Place::Start],
+        line: "a command comes first: tfk revert --take N -- FILE; see tfk revert --help",
+    },
+    Counterpart {
+        words: &["list"],
+        places: &[Place::Lint, Place::Fix],
+        line: "only revert has it; see tfk revert --help",
+    },
+    Counterpart {
+        words: &["take"],
+        places: &[Place::Fmt, Place::Check, Place::Lint, Place::Fix],
+        line: "only revert has it; see tfk revert --help",
+    },
+    Counterpart {
+        words: &["disable-rule", "enable-rule"],
+        places: &[Place::Fmt, Place::Check, Place::Revert, Place::List],
+        line: "only lint and fix have it; see tfk lint --help",
     },
 ];
 

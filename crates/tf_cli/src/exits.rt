@@ -5,7 +5,7 @@ ghost use Rattle.clap.specs.Words.{kind_of};
 ghost use Rattle.tf_cli.specs.Reading.{IsExitOfKind};
 ghost use Rattle.tf_cli.specs.Tasks.{SaysUsage};
 
-use crate::advice::{Advice, advice_for};
+use crate::advice::{Advice, advice_for, around_tips};
 use clap::Error;
 use clap::error::ErrorKind;
 use std::alloc::{AllocError, AllocFailed, Global};
@@ -92,10 +92,29 @@ fn exit_with_text(error: &Error, text: String) -> Exit
 fn error_text(alloc: Global, error: &Error, args: &[&str]) -> Result<String, AllocError> {
     let text = error.to_string(alloc)?;
     match advice_for(error.kind(), text.as_str(), args) {
-        Some(Advice::Unknown { word, line }) => {
-            format!(in alloc; "tfk: no {word}: {line}\n{text}")
-        }
-        Some(Advice::Line(line)) => format!(in alloc; "tfk: {line}\n{text}"),
+        Some(advice) => advised_text(alloc, advice, text.as_str()),
         None => Ok(text),
+    }
+}
+
+/// Returns this advice, and after it a text of clap's without its tips.
+fn advised_text(alloc: Global, advice: Advice<'_>, text: &str) -> Result<String, AllocError> {
+    let (before, after) = around_tips(text);
+    match advice {
+        Advice::Unknown { word, line } => {
+            format!(in alloc; "tfk: no {word}: {line}\n{before}{after}")
+        }
+        Advice::OneDash { word, name } => {
+            format!(in alloc; "tfk: no {word}: write --{name}\n{before}{after}")
+        }
+        Advice::TakenForRule { file, option } => format!(in alloc;
+            "tfk: {file} was taken for the rule of {option}: write {option} RULE -- FILE; \
+                see tfk lint --help\n{before}{after}"
+        ),
+        Advice::Number(number) => format!(in alloc;
+            "tfk: revert takes one FILE; for its command {number} alone: \
+                tfk revert --take {number} -- FILE\n{before}{after}"
+        ),
+        Advice::Line(line) => format!(in alloc; "tfk: {line}\n{before}{after}"),
     }
 }
