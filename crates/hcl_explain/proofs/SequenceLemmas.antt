@@ -10,8 +10,7 @@ use Rattle.hcl_scan.specs.Fault.{IsFault}
 use Rattle.hcl_scan.specs.ScanResult.{IsScanFault}
 use Rattle.hcl_scan.specs.declared.fault.ScanFault.{ScanFault}
 use Rattle.hcl_scan.specs.declared.fault.ScanFault.TheVariants.{Memory, OpenTemplate}
-use Rattle.hcl_explain.specs.Sequences.{HasTokens}
-use Rattle.hcl_explain.specs.ScanExplanations.{IsOpenBefore}
+use Rattle.hcl_explain.specs.Sequences.{HasTokens, IsOpenBefore}
 use Rattle.hcl_explain.proofs.SaidLemmas.{OneTokenization, NoTokenizationWithFault}
 
 abbrev pub OneFault : Type 0

@@ -1,13 +1,11 @@
 -- What an explanation says of a text without tokens.
-use Rattle.std.specs.Prelude.{◌≡◌, ℕ, ◌⊎◌, Bool, true, false, List, take, drop, codes, ◌==◌}
+use Rattle.std.specs.Prelude.{◌≡◌, ℕ, ◌⊎◌, true, false, List, drop}
 use Rattle.std.specs.Prelude.{Option, Some, None}
-use Rattle.std.specs.List.{starts_with}
 use Rattle.hcl_scan.specs.declared.fault.ScanFault.{ScanFault}
 use Rattle.hcl_scan.specs.declared.fault.ScanFault.TheVariants as fault
-use Rattle.hcl_scan.specs.Fault.{IsFault}
 use Rattle.hcl_explain.specs.Lines.{line_end, closing_place}
-use Rattle.hcl_explain.specs.Sequences.{sequence_text, EndsInValue, IsClosedInComment, between}
-use Rattle.hcl_explain.specs.Sequences.{IsBlamed}
+use Rattle.hcl_explain.specs.Sequences.{IsClosedInComment, IsOpenBefore, IsEnded, IsBlamed}
+use Rattle.hcl_explain.specs.Sequences.{is_interpolation, IsCut, IsUnclosed}
 use Rattle.hcl_explain.specs.declared.scan_error.ScanExplanation.{ScanExplanation}
 use Rattle.hcl_explain.specs.declared.scan_error.ScanReason.{ScanReason}
 use Rattle.hcl_explain.specs.declared.scan_error.ScanReason.TheVariants as reason
@@ -15,10 +13,6 @@ use Rattle.hcl_explain.specs.declared.scan_error.ScanReason.TheVariants as reaso
 -- with this reason, at this byte
 abbrev pub of : ℕ → ScanReason → ScanExplanation
 of at reason = record { at = at; reason = reason }
-
--- the text before byte `at` ends in the template sequence that begins at `opened`
-abbrev pub IsOpenBefore : List ℕ → ℕ → ℕ → Type 0
-IsOpenBefore text at opened = IsFault (take at text) (fault.OpenTemplate opened)
 
 -- the first of these if no template sequence is open before byte `at`, else the second of that which
 -- is open there
@@ -32,10 +26,6 @@ abbrev pub HiddenOr : List ℕ → ℕ → ScanExplanation → Type 0 → Type 0
 HiddenOr text opened e Else =
     (IsClosedInComment (drop opened text) × (e ≡ of opened reason.Foreign))
     ⊎ ((IsClosedInComment (drop opened text) → ⊥) × Else)
-
--- the template sequence that begins at `opened` ends in a value before byte `at`
-abbrev pub IsEnded : List ℕ → ℕ → ℕ → Type 0
-IsEnded text opened at = EndsInValue (sequence_text (between text opened at))
 
 -- of a template sequence that is not closed
 abbrev pub IsSequenceExplanation : List ℕ → ℕ → ScanExplanation → Type 0
@@ -63,30 +53,50 @@ abbrev pub IsHeredocExplanation : List ℕ → ℕ → ScanExplanation → Type 
 IsHeredocExplanation text at e =
     ByOpen text (closing_place text at) (e ≡ of at reason.Heredoc) (λ opened. e ≡ of opened reason.Foreign)
 
--- of a comment that is not closed: the template sequence before it, if it does not end in a value
+-- of a comment that is not closed: the template sequence before it, if it does not end in a value,
+-- or if it is not closed without the `/*` either
+abbrev pub IsCommentAfter : List ℕ → ℕ → ℕ → ScanExplanation → Type 0
+IsCommentAfter text opened at e =
+    (IsUnclosed text opened at 2 × (e ≡ of opened reason.Sequence))
+    ⊎ ((IsUnclosed text opened at 2 → ⊥) × (e ≡ of at reason.Comment))
+
 abbrev pub IsCommentIn : List ℕ → ℕ → ℕ → ScanExplanation → Type 0
 IsCommentIn text opened at e =
-    (IsEnded text opened at × (e ≡ of at reason.Comment))
+    (IsEnded text opened at × IsCommentAfter text opened at e)
     ⊎ ((IsEnded text opened at → ⊥) × (e ≡ of opened reason.Foreign))
 
 abbrev pub IsCommentExplanation : List ℕ → ℕ → ScanExplanation → Type 0
 IsCommentExplanation text at e =
     ByOpen text at (e ≡ of at reason.Comment) (λ opened. IsCommentIn text opened at e)
 
--- the text begins with `${`
-abbrev pub is_interpolation : List ℕ → Bool
-is_interpolation text = starts_with (λ a b. a == b) text (codes "${")
+-- of a character in a template sequence: that, if it is not closed without the character either
+abbrev pub IsByUnclosed : List ℕ → ℕ → ℕ → ScanExplanation → Type 0
+IsByUnclosed text opened at e =
+    (IsUnclosed text opened at 1 × (e ≡ of opened reason.Sequence))
+    ⊎ ((IsUnclosed text opened at 1 → ⊥) × (e ≡ of at (reason.InSequence opened)))
+
+-- or if another line of it begins where it should be closed
+abbrev pub IsByCut : List ℕ → ℕ → ℕ → ScanExplanation → Type 0
+IsByCut text opened at e =
+    (IsCut text opened × (e ≡ of opened reason.Sequence))
+    ⊎ ((IsCut text opened → ⊥) × (e ≡ of at (reason.InSequence opened)))
 
 -- of a `${` in a template sequence: that, if it ends in a value before the `${`
 abbrev pub IsNestedIn : List ℕ → ℕ → ℕ → ScanExplanation → Type 0
 IsNestedIn text opened at e =
     (IsEnded text opened at × (e ≡ of opened reason.Sequence))
-    ⊎ ((IsEnded text opened at → ⊥) × (e ≡ of at (reason.InSequence opened)))
+    ⊎ ((IsEnded text opened at → ⊥) × IsByUnclosed text opened at e)
+
+-- of another character, by whether it ends in a value before that
+abbrev pub IsOtherIn : List ℕ → ℕ → ℕ → ScanExplanation → Type 0
+IsOtherIn text opened at e =
+    (IsEnded text opened at × IsByUnclosed text opened at e)
+    ⊎ ((IsEnded text opened at → ⊥) × IsByCut text opened at e)
 
 -- of a character with which no token begins, in a template sequence
 abbrev pub IsCharacterIn : List ℕ → ℕ → ℕ → ScanExplanation → Type 0
 IsCharacterIn text opened at e =
-    ((is_interpolation (drop at text) ≡ false) × (e ≡ of at (reason.InSequence opened)))
+    ((is_interpolation (drop at text) ≡ false) × IsOtherIn text opened at e)
     ⊎ ((is_interpolation (drop at text) ≡ true) × IsNestedIn text opened at e)
 
 abbrev pub IsCharacterExplanation : List ℕ → ℕ → ScanExplanation → Type 0

@@ -1,18 +1,23 @@
 -- When a template sequence that is not closed is the mistake, and not what follows it.
 use Rattle.std.specs.Prelude.{◌≡◌, ℕ, zero, suc, ◌-◌, ◌==◌, ◌||◌, ◌&&◌, Bool, true, false, not}
-use Rattle.std.specs.Prelude.{List, [], ◌∷◌, length, take, drop, slice_index, ◌⊎◌}
+use Rattle.std.specs.Prelude.{List, [], ◌∷◌, length, take, drop, slice_index, ◌⊎◌, ◌++◌, codes}
 use Rattle.std.specs.Prelude.{Option, Some, None, if◌then◌else◌}
-use Rattle.std.specs.List.{list_any}
+use Rattle.std.specs.List.{list_any, starts_with, prefix_len}
+use Rattle.std.specs.Char.{is_ascii_alphabetic}
 use Rattle.std.specs.Str.{bytes_eq, byte}
 use Rattle.hcl_token.specs.Bytes.{line_feed, carriage_return, tilde}
 use Rattle.hcl_token.specs.declared.kind.Kind.{Kind}
 use Rattle.hcl_token.specs.declared.kind.Kind.TheVariants as k
 use Rattle.hcl_token.specs.Tokens.{Pair}
 use Rattle.hcl_token.specs.TokenizedText.{kind_of, spelling_of}
+use Rattle.hcl_scan.specs.Characters.{is_whitespace}
 use Rattle.hcl_scan.specs.Tokenization.{IsTokenization}
+use Rattle.hcl_scan.specs.Fault.{IsFault}
+use Rattle.hcl_scan.specs.declared.fault.ScanFault.{ScanFault}
+use Rattle.hcl_scan.specs.declared.fault.ScanFault.TheVariants as fault
 use Rattle.hcl_grammar.specs.Tokens.{for_word, in_word, if_word}
 use Rattle.hcl_explain.specs.Openings.{innermost_open}
-use Rattle.hcl_explain.specs.Lines.{first_line}
+use Rattle.hcl_explain.specs.Lines.{first_line, after_line, line_end, closing_place}
 
 -- ---- the tokens of a template sequence
 
@@ -133,3 +138,71 @@ IsBlamed text opened at =
     (list_any (λ b. b == line_feed) (between text opened at) ≡ false)
     ⊎ (is_line_end (drop 1 (drop at text)) ≡ true)
     ⊎ EndsInValue (sequence_text (between text opened at))
+
+-- ---- a template sequence that is not closed, where another error is in it
+
+-- the text before byte `at` ends in the template sequence that begins at `opened`
+abbrev pub IsOpenBefore : List ℕ → ℕ → ℕ → Type 0
+IsOpenBefore text at opened = IsFault (take at text) (fault.OpenTemplate opened)
+
+-- the template sequence that begins at `opened` ends in a value before byte `at`
+abbrev pub IsEnded : List ℕ → ℕ → ℕ → Type 0
+IsEnded text opened at = EndsInValue (sequence_text (between text opened at))
+
+-- the text begins with `${`
+abbrev pub is_interpolation : List ℕ → Bool
+is_interpolation text = starts_with (λ a b. a == b) text (codes "${")
+
+abbrev pub is_none : Option ℕ → Bool
+is_none None = true
+is_none (Some opening) = false
+
+-- a value ends with the last of the tokens, outside of brackets
+abbrev pub has_value_alone : List Pair → Bool
+has_value_alone pairs =
+    is_none (innermost_open pairs (length pairs)) && has_value_last pairs
+
+-- a letter is the first byte that is neither a space nor a tab
+abbrev pub begins_with_letter : List ℕ → Bool
+begins_with_letter line =
+    is_ascii_alphabetic (slice_index (drop (prefix_len is_whitespace line) line) 0)
+
+-- a letter begins the line after the one in which this `${` begins
+abbrev pub is_before_letter : List ℕ → Bool
+is_before_letter sequence =
+    is_interpolation sequence && begins_with_letter (drop 1 (after_line sequence))
+
+-- The line in which the `${` at `opened` begins ends in a value, outside of brackets, and the next
+-- line begins with a letter: neither an operator nor the `}` is between these.
+abbrev pub IsCut : List ℕ → ℕ → Type 0
+IsCut text opened =
+    (is_before_letter (drop opened text) ≡ true)
+    × IsOpenBefore text (line_end text opened) opened
+    × HasTokens has_value_alone (sequence_text (first_line (drop opened text)))
+
+-- this error of the text is one that a template sequence which is not closed makes: the end of the
+-- text; a string that is not the mistake; a heredoc whose end is in it; a `${` after a value
+abbrev pub IsMadeBy : List ℕ → ℕ → ScanFault → Type 0
+IsMadeBy text opened (fault.OpenTemplate at) = at ≡ opened
+IsMadeBy text opened (fault.OpenString at) = IsOpenBefore text at opened × IsBlamed text opened at
+IsMadeBy text opened (fault.OpenHeredoc at) = IsOpenBefore text (closing_place text at) opened
+IsMadeBy text opened (fault.BadCharacter at) =
+    IsOpenBefore text at opened
+    × ((is_interpolation (drop at text) ≡ true) × IsEnded text opened at)
+IsMadeBy text opened _ = ⊥
+
+abbrev pub MakesError : List ℕ → ℕ → Type 0
+MakesError text opened = (why : ScanFault) × IsFault text why × IsMadeBy text opened why
+
+abbrev pub IsShownOpen : List ℕ → ℕ → Type 0
+IsShownOpen text opened = IsCut text opened ⊎ MakesError text opened
+
+-- the text without this many bytes from byte `at` on
+abbrev pub without : List ℕ → ℕ → ℕ → List ℕ
+without text at count = take at text ++ drop count (drop at text)
+
+-- the template sequence that begins at `opened` is shown not to be closed by the text, or by the
+-- text without the bytes at which its error is
+abbrev pub IsUnclosed : List ℕ → ℕ → ℕ → ℕ → Type 0
+IsUnclosed text opened at count =
+    IsCut text opened ⊎ IsShownOpen (without text at count) opened

@@ -24,6 +24,7 @@ mod scan_sentence;
 mod sentence;
 mod sequence;
 mod unclosed;
+mod without;
 
 pub use advice::Advice;
 pub use expected::Expected;

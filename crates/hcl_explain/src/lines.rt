@@ -45,6 +45,13 @@ pub fn first_line(text: &[u8]) -> &[u8]
     prefix(text, line_len(text))
 }
 
+/// Returns a text from its first LF on, or none of it if it has none.
+pub fn after_line(text: &[u8]) -> &[u8]
+    ensures { result.now ≡ spec.after_line text.now }
+{
+    bytes_from(text, line_len(text))
+}
+
 /// Returns where the line of a byte ends.
 pub fn line_end(text: &[u8], at: usize) -> usize
     ensures { result ≡ spec.line_end text.now at }

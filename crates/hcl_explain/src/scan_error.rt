@@ -3,16 +3,18 @@
 ghost use Rattle.std.specs.Prelude.{◌≡◌, IfOk, drop};
 ghost use Rattle.std.specs.Bool.{Decides};
 ghost use Rattle.hcl_explain.specs.Sequences as spec;
-ghost use Rattle.hcl_explain.specs.Sequences.{IsBlamed, IsClosedInComment};
+ghost use Rattle.hcl_explain.specs.Sequences.{IsBlamed, IsClosedInComment, IsEnded};
 ghost use Rattle.hcl_explain.specs.ScanExplanations.{IsScanExplanation, IsStringExplanation};
-ghost use Rattle.hcl_explain.specs.ScanExplanations.{IsStringAfter, IsStringIn, HiddenOr, IsEnded};
+ghost use Rattle.hcl_explain.specs.ScanExplanations.{IsStringAfter, IsStringIn, HiddenOr};
 ghost use Rattle.hcl_explain.specs.ScanExplanations.{IsSequenceExplanation, IsHeredocExplanation};
 ghost use Rattle.hcl_explain.specs.ScanExplanations.{IsCommentExplanation, IsCommentIn};
+ghost use Rattle.hcl_explain.specs.ScanExplanations.{IsCommentAfter, IsByUnclosed, IsByCut};
 ghost use Rattle.hcl_explain.specs.ScanExplanations.{IsCharacterExplanation, IsCharacterIn};
-ghost use Rattle.hcl_explain.specs.ScanExplanations.{IsNestedIn, of};
+ghost use Rattle.hcl_explain.specs.ScanExplanations.{IsNestedIn, IsOtherIn, of};
 
 use crate::lines::{bytes_from, closing_place, line_end, prefix};
 use crate::sequence::{ends_in_value, is_closed_in_comment, open_sequence};
+use crate::without::{is_cut, is_unclosed};
 use hcl_scan::ScanFault;
 use std::alloc::{AllocError, Global};
 
@@ -120,14 +122,30 @@ fn comment_in(
     ensures { IfOk result (IsCommentIn text.now opened at) }
 {
     if is_ended(alloc, text, opened, at)? {
-        Ok(explanation(at, ScanReason::Comment))
+        comment_after(alloc, text, opened, at)
     } else {
         Ok(explanation(opened, ScanReason::Foreign))
     }
 }
 
+/// Explains it after a value in this template sequence.
+fn comment_after(
+    alloc: Global,
+    text: &[u8],
+    opened: usize,
+    at: usize,
+) -> Result<ScanExplanation, AllocError>
+    ensures { IfOk result (IsCommentAfter text.now opened at) }
+{
+    if is_unclosed(alloc, text, opened, at, 2)? {
+        Ok(explanation(opened, ScanReason::Sequence))
+    } else {
+        Ok(explanation(at, ScanReason::Comment))
+    }
+}
+
 /// Whether the template sequence that begins at byte `opened` ends in a value before byte `at`.
-fn is_ended(alloc: Global, text: &[u8], opened: usize, at: usize) -> Result<bool, AllocError>
+pub fn is_ended(alloc: Global, text: &[u8], opened: usize, at: usize) -> Result<bool, AllocError>
     ensures { IfOk result (λ b. Decides b (IsEnded text.now opened at)) }
 {
     ends_in_value(alloc, bytes_from(prefix(text, at), opened))
@@ -203,7 +221,7 @@ fn other_string_in(
 
 /// Whether the template sequence that begins at byte `opened` is the mistake, and not the string
 /// that begins at byte `at`.
-fn is_blamed(alloc: Global, text: &[u8], opened: usize, at: usize) -> Result<bool, AllocError>
+pub fn is_blamed(alloc: Global, text: &[u8], opened: usize, at: usize) -> Result<bool, AllocError>
     ensures { IfOk result (λ b. Decides b (IsBlamed text.now opened at)) }
 {
     let sequence = bytes_from(prefix(text, at), opened);
@@ -254,7 +272,23 @@ fn other_character_in(
     if bytes_from(text, at).starts_with(b"${") {
         nested(alloc, text, opened, at)
     } else {
-        Ok(explanation(at, ScanReason::InSequence(opened)))
+        other_in(alloc, text, opened, at)
+    }
+}
+
+/// Explains that no token begins with a character that is no `${`, in this template sequence.
+fn other_in(
+    alloc: Global,
+    text: &[u8],
+    opened: usize,
+    at: usize,
+) -> Result<ScanExplanation, AllocError>
+    ensures { IfOk result (IsOtherIn text.now opened at) }
+{
+    if is_ended(alloc, text, opened, at)? {
+        by_unclosed(alloc, text, opened, at)
+    } else {
+        by_cut(alloc, text, opened, at)
     }
 }
 
@@ -268,6 +302,38 @@ fn nested(
     ensures { IfOk result (IsNestedIn text.now opened at) }
 {
     if is_ended(alloc, text, opened, at)? {
+        Ok(explanation(opened, ScanReason::Sequence))
+    } else {
+        by_unclosed(alloc, text, opened, at)
+    }
+}
+
+/// Explains it by whether this template sequence is closed without the character.
+fn by_unclosed(
+    alloc: Global,
+    text: &[u8],
+    opened: usize,
+    at: usize,
+) -> Result<ScanExplanation, AllocError>
+    ensures { IfOk result (IsByUnclosed text.now opened at) }
+{
+    if is_unclosed(alloc, text, opened, at, 1)? {
+        Ok(explanation(opened, ScanReason::Sequence))
+    } else {
+        Ok(explanation(at, ScanReason::InSequence(opened)))
+    }
+}
+
+/// Explains it by whether another line of the template sequence begins where it should be closed.
+fn by_cut(
+    alloc: Global,
+    text: &[u8],
+    opened: usize,
+    at: usize,
+) -> Result<ScanExplanation, AllocError>
+    ensures { IfOk result (IsByCut text.now opened at) }
+{
+    if is_cut(alloc, text, opened)? {
         Ok(explanation(opened, ScanReason::Sequence))
     } else {
         Ok(explanation(at, ScanReason::InSequence(opened)))

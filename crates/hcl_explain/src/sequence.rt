@@ -6,6 +6,8 @@ ghost use Rattle.hcl_scan.specs.Fault.{IsFault};
 ghost use Rattle.hcl_scan.specs.declared.fault.ScanFault.TheVariants.{OpenTemplate, Memory};
 ghost use Rattle.hcl_explain.specs.Sequences as spec;
 ghost use Rattle.hcl_explain.specs.Sequences.{EndsInValue, IsClosedInComment, sequence_text};
+ghost use Rattle.hcl_explain.specs.Sequences.{HasTokens};
+ghost use Rattle.hcl_explain.specs.Lines as lines;
 
 use crate::lines::first_line;
 use crate::near::{ends_value, is_keyword, kind_at, last_before};
@@ -64,6 +66,19 @@ pub fn ends_in_value(alloc: Global, sequence: &[u8]) -> Result<bool, AllocError>
     }
 }
 
+/// Whether the line in which the template sequence begins ends in a value, outside of brackets.
+pub fn ends_line_in_value(alloc: Global, sequence: &[u8]) -> Result<bool, AllocError>
+    ensures { IfOk result (λ b. Decides b
+        (HasTokens spec.has_value_alone (sequence_text (lines.first_line sequence.now)))) }
+{
+    hcl_scan::laws::one_tokenization();
+    hcl_scan::laws::no_tokenization_with_fault();
+    match scan(alloc, sequence_text(first_line(sequence))) {
+        Ok(scanned) => Ok(has_value_alone(&scanned)),
+        Err(fault) => no_unless_memory(fault),
+    }
+}
+
 /// Whether the first line of the template sequence that begins here ends in a comment with a `}`.
 pub fn is_closed_in_comment(alloc: Global, sequence: &[u8]) -> Result<bool, AllocError>
     ensures { IfOk result (λ b. Decides b (IsClosedInComment sequence.now)) }
@@ -106,6 +121,16 @@ fn has_value_last(scanned: &Scanned<'_>) -> bool
     match last_before(scanned, count, drops_lines_at_end(scanned)) {
         Some(last) => ends_value(scanned, last) && !is_keyword(scanned, last),
         None => false,
+    }
+}
+
+/// Whether a value ends with the last token, outside of brackets.
+fn has_value_alone(scanned: &Scanned<'_>) -> bool
+    ensures { result ≡ spec.has_value_alone scanned.now.pairs }
+{
+    match innermost_open(scanned, scanned.len()) {
+        Some(_open) => false,
+        None => has_value_last(scanned),
     }
 }
 
