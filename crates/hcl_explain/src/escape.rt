@@ -3,6 +3,10 @@
 use std::alloc::AllocError;
 use std::fmt::Write;
 
+/// What is said of a `\` that ends a line.
+const NEXT_LINE: &str =
+    "a string ends on its line, with a `\"`; text of several lines is a heredoc";
+
 /// Adds that an escape is unknown, with its character if that can be seen, and what to write.
 pub fn push_escape(out: &mut String, rest: &[u8]) -> Result<(), AllocError> {
     out.push_str("unknown escape")?;
@@ -19,6 +23,7 @@ pub fn push_escape(out: &mut String, rest: &[u8]) -> Result<(), AllocError> {
 /// Adds what is written in place of the escape with which a text begins.
 fn push_advice(out: &mut String, rest: &[u8]) -> Result<(), AllocError> {
     match rest {
+        [_, b'\n', ..] | [_, b'\r', b'\n', ..] => out.push_str(NEXT_LINE),
         [_, b'$', b'{', ..] => out.push_str("`${` as text is written `$${`"),
         [_, b'%', b'{', ..] => out.push_str("`%{` as text is written `%%{`"),
         [_, b'\'' | b'/' | b'`' | b'$', ..] => push_plain(out, rest),

@@ -3,9 +3,10 @@
 use crate::character::push_character;
 use crate::escape::push_escape;
 use crate::found::byte_of;
-use crate::lines::{bytes_from, closing_place, marker_of, prefix};
+use crate::lines::{bytes_from, closing_place, first_line, line_end, marker_of, prefix};
 use crate::near::{ends_value, is_adjacent, is_kind};
 use crate::scan_error::{ScanExplanation, ScanReason};
+use crate::sequence::sequence_text;
 use hcl_scan::{Kind, ScanFault, Scanned, scan};
 use std::alloc::{AllocError, Global};
 use std::fmt::Write;
@@ -16,6 +17,9 @@ const MAX_QUOTED: usize = 40;
 
 /// What is said of a string that is not closed.
 const OPEN_STRING: &str = "this string is not closed on its line";
+
+/// What is said of a string in whose template a comment begins, and does not end in its line.
+const COMMENT_IN_STRING: &str = "; in `${ }` and `%{ }` a `/*` begins a comment";
 
 impl ScanExplanation {
     /// Returns the sentence. It has no line end.
@@ -34,7 +38,10 @@ impl ScanExplanation {
             }
             ScanReason::Escape => push_escape(&mut out, rest)?,
             ScanReason::String => push_string(&mut out, alloc, text, self.at)?,
-            ScanReason::Sequence => out.push_str(sequence_sentence(rest))?,
+            ScanReason::Sequence => {
+                out.push_str(sequence_sentence(rest))?;
+                push_swallowed(&mut out, alloc, rest, "it")?;
+            }
             ScanReason::Foreign => out.push_str(foreign_sentence(rest))?,
             ScanReason::Heredoc => push_heredoc(&mut out, text, self.at)?,
             ScanReason::Comment => out.push_str("this `/*` is not closed")?,
@@ -68,21 +75,107 @@ fn foreign_sentence(rest: &[u8]) -> &'static str {
     }
 }
 
-/// Adds that the string at a byte is not closed, and what to write if the tokens before it show it.
-fn push_string(out: &mut String, alloc: Global, text: &[u8], at: usize) -> Result<(), AllocError> {
-    match scan(alloc, prefix(text, at)) {
-        Ok(scanned) => push_string_after(out, &scanned),
+/// Adds that a `}` after the template sequence with which a text begins is in a string of its line,
+/// if that is so. `of` is what the sequence is called.
+fn push_swallowed(
+    out: &mut String,
+    alloc: Global,
+    sequence: &[u8],
+    of: &str,
+) -> Result<(), AllocError> {
+    match scan(alloc, sequence_text(first_line(sequence))) {
+        Ok(scanned) => match string_with_brace(&scanned) {
+            Some(text) => write!(out, "; a `}}` after {of} is in the string `\"{text}\"`"),
+            None => Ok(()),
+        },
         Err(ScanFault::Memory) => Err(AllocError),
-        Err(_) => out.push_str(OPEN_STRING),
+        Err(_) => Ok(()),
     }
 }
 
-/// Adds what is said of a string that is not closed after these tokens.
+/// Returns the text of the last string that has a `}`, is short and has no template.
+fn string_with_brace<'t>(scanned: &Scanned<'t>) -> Option<&'t str> {
+    for i in (0..scanned.len()).rev() {
+        if is_kind(scanned, i.saturating_add(1), Kind::QuoteClose) {
+            match short_text(scanned, i) {
+                Some(text) if text.as_bytes().contains(&b'}') => return Some(text),
+                _ => {}
+            }
+        }
+    }
+    None
+}
+
+/// Adds that the string at a byte is not closed, and what to write if the tokens before it, or its
+/// line, show it.
+fn push_string(out: &mut String, alloc: Global, text: &[u8], at: usize) -> Result<(), AllocError> {
+    match scan(alloc, prefix(text, at)) {
+        Ok(scanned) if is_after_value(&scanned) => push_string_after(out, &scanned),
+        Err(ScanFault::Memory) => Err(AllocError),
+        _ => {
+            out.push_str(OPEN_STRING)?;
+            push_of_line(out, alloc, text, at)
+        }
+    }
+}
+
+/// Adds what in the line of a string that is not closed shows why.
+fn push_of_line(out: &mut String, alloc: Global, text: &[u8], at: usize) -> Result<(), AllocError> {
+    match scan(alloc, prefix(text, line_end(text, at))) {
+        Err(ScanFault::OpenComment { at: comment }) if comment > at => out.push_str(
+            COMMENT_IN_STRING,
+        ),
+        Err(ScanFault::OpenTemplate { at: opened }) if opened > at => {
+            let sequence = bytes_from(text, opened);
+            push_swallowed(out, alloc, sequence, its_opening(sequence))
+        }
+        Err(ScanFault::Memory) => Err(AllocError),
+        _ => push_typographic(out, first_line(bytes_from(text, at))),
+    }
+}
+
+/// Returns what the template sequence with which a text begins is called, in its string.
+fn its_opening(sequence: &[u8]) -> &'static str {
+    if sequence.starts_with(b"%") {
+        "its `%{`"
+    } else {
+        "its `${`"
+    }
+}
+
+/// Adds that the typographic quote in a line, if it has one, does not close a string.
+fn push_typographic(out: &mut String, line: &[u8]) -> Result<(), AllocError> {
+    match typographic_in(line) {
+        Some(quote) => write!(out, "; `{quote}` is no plain `\"`"),
+        None => Ok(()),
+    }
+}
+
+/// Returns the first typographic double quote of a line.
+fn typographic_in(line: &[u8]) -> Option<char> {
+    match from_utf8(line) {
+        Ok(line) => {
+            for c in line.chars() {
+                if matches!(c, '\u{201c}'..='\u{201f}') {
+                    return Some(c);
+                }
+            }
+            None
+        }
+        Err(_) => None,
+    }
+}
+
+/// Whether a value ends right before the string that follows these tokens.
+fn is_after_value(before: &Scanned<'_>) -> bool {
+    let last = before.len().saturating_sub(1);
+    ends_at_token(before, last) && ends_value(before, last)
+}
+
+/// Adds what is said of a string that is not closed after these tokens, with which a value ends.
 fn push_string_after(out: &mut String, before: &Scanned<'_>) -> Result<(), AllocError> {
     let last = before.len().saturating_sub(1);
-    if !ends_at_token(before, last) || !ends_value(before, last) {
-        out.push_str(OPEN_STRING)
-    } else if is_empty_string(before, last) {
+    if is_empty_string(before, last) {
         out.push_str(OPEN_STRING)?;
         out.push_str(": text of several lines is a heredoc, `<<-EOT`")
     } else {
