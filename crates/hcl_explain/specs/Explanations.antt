@@ -1,6 +1,5 @@
 -- What an explanation says of a text with tokens.
-use Rattle.std.specs.Prelude.{◌≡◌, ◌≢◌, ◌<◌, ℕ, List, [], length, Some, None, true}
-use Rattle.std.specs.Option.{option_map}
+use Rattle.std.specs.Prelude.{◌≡◌, ◌≢◌, ◌<◌, ℕ, List, [], length, Some, true}
 use Rattle.hcl_token.specs.declared.kind.Kind.{Kind}
 use Rattle.hcl_token.specs.TokenizedText.{TokenizedText, kind_of}
 use Rattle.hcl_token.specs.Tokens.{Pair}
@@ -8,15 +7,16 @@ use Rattle.hcl_token.specs.declared.kind.Kind.TheVariants as k
 use Rattle.hcl_text_laws.specs.Faults.{byte_offset}
 use Rattle.hcl_text_laws.specs.declared.fault.ParseFault.{ParseFault}
 use Rattle.hcl_text_laws.specs.declared.fault.ParseFault.TheVariants as fault
-use Rattle.hcl_explain.specs.Openings.{closes, open_before, innermost_open, ClosesOuter}
+use Rattle.hcl_explain.specs.Openings.{closes, open_before, innermost_open, ClosesOuter, ClosesAny}
 use Rattle.hcl_explain.specs.declared.explanation.Explanation.{Explanation}
 use Rattle.hcl_explain.specs.declared.explanation.Reason.{Reason}
 use Rattle.hcl_explain.specs.declared.explanation.Reason.TheVariants as reason
 
--- the token closes something where nothing is open
+-- the token closes something, but no opening that is not closed before it
 abbrev pub ClosesNothing : List Pair → ℕ → Type 0
 ClosesNothing pairs found =
-    (innermost_open pairs found ≡ None) × (option_map closes (kind_of pairs found) ≡ Some true)
+    (kind : Kind) × (kind_of pairs found ≡ Some kind) × (closes kind ≡ true)
+    × (ClosesAny pairs found kind → ⊥)
 
 -- the reason is one that is printed at the token that was found
 abbrev pub IsAtFound : List Pair → Reason → ℕ → Type 0

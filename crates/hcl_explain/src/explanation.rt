@@ -1,13 +1,13 @@
 //! The explanation of an error of a text that has tokens.
 
-ghost use Rattle.std.specs.Prelude.{◌≡◌, ◌<◌, ◌≤◌, Some, None, IfSome, IfNone, true, length};
-ghost use Rattle.std.specs.Option.{option_map};
+ghost use Rattle.std.specs.Prelude.{◌≡◌, ◌<◌, ◌≤◌, Some, IfSome, IfNone, true, length};
 ghost use Rattle.hcl_token.specs.TokenizedText.{kind_of};
 ghost use Rattle.hcl_token.specs.declared.kind.Kind.{Kind};
 ghost use Rattle.hcl_text_laws.specs.Faults.{byte_offset};
 ghost use Rattle.hcl_explain.specs.Openings.{closes, innermost_open, ClosesOuter};
 ghost use Rattle.hcl_explain.specs.Explanations.{IsExplanation, IsSyntaxExplanation, IsAtNoToken};
 ghost use Rattle.hcl_explain.specs.Explanations.{IsToken, IsOfFound, IsOtherExplanation};
+ghost use Rattle.hcl_explain.specs.Explanations.{ClosesNothing};
 ghost use Rattle.hcl_explain.specs.declared.explanation.Reason.TheVariants.{NotClosed};
 
 use crate::advice::{Advice, advice_for, is_else_if};
@@ -17,7 +17,7 @@ use crate::expected::{Expected, expected_after};
 use crate::found::{byte_of, token_at};
 use crate::head::label_advice;
 use crate::near::kind_at;
-use crate::openings::{closes, innermost_open};
+use crate::openings::{closes, closes_any, innermost_open};
 use crate::unclosed::is_not_closed;
 use hcl_scan::Scanned;
 use hcl_text_laws::ParseFault;
@@ -116,7 +116,7 @@ fn explain_in(scanned: &Scanned<'_>, opening: usize, found: usize) -> Explanatio
 /// Explains the error at token `found` by what was expected there, in the construct of this
 /// opening.
 fn explain_at(scanned: &Scanned<'_>, opening: Option<usize>, found: usize) -> Explanation
-    requires { innermost_open scanned.now.pairs found ≡ opening }
+    requires { found ≤ length scanned.now.pairs }
     ensures { IsOtherExplanation scanned.now.pairs found result }
 {
     let context = context_of(scanned, opening);
@@ -141,7 +141,7 @@ fn reason_at(
     opening: Option<usize>,
     found: usize,
 ) -> Reason
-    requires { innermost_open scanned.now.pairs found ≡ opening }
+    requires { found ≤ length scanned.now.pairs }
     ensures { IsOfFound scanned.now.pairs result found }
 {
     let from = first_in(opening);
@@ -152,7 +152,7 @@ fn reason_at(
         return at_directive_word(scanned, found);
     }
     let expected = expected_after(scanned, context, from, found);
-    if closes_nothing(scanned, opening, expected, found) {
+    if closes_nothing(scanned, expected, found) {
         return Reason::ClosesNothing;
     }
     match advice_for(scanned, context, expected, found) {
@@ -172,28 +172,35 @@ fn at_directive_word(scanned: &Scanned<'_>, found: usize) -> Reason
     }
 }
 
-/// Whether token `found` closes something where nothing is open.
-fn closes_nothing(
-    scanned: &Scanned<'_>,
-    opening: Option<usize>,
-    expected: Expected,
-    found: usize,
-) -> bool
-    ensures { result ≡ true
-        → (opening ≡ None) × (option_map closes (kind_of scanned.now.pairs found) ≡ Some true) }
+/// Whether token `found` closes something, but nothing that is open, where a line of a body begins
+/// or should end.
+fn closes_nothing(scanned: &Scanned<'_>, expected: Expected, found: usize) -> bool
+    requires { found ≤ length scanned.now.pairs }
+    ensures { result ≡ true → ClosesNothing scanned.now.pairs found }
 {
-    match opening {
-        Some(_) => false,
-        None => matches!(expected, Expected::Member) && is_closing(scanned, found),
+    match expected {
+        Expected::Member | Expected::MemberOrBrace | Expected::ValueEnd | Expected::BlockEnd => {
+            is_closing_nothing(scanned, found)
+        }
+        _ => false,
     }
 }
 
-/// Whether token `i` closes something.
-fn is_closing(scanned: &Scanned<'_>, i: usize) -> bool
-    ensures { result ≡ true → option_map closes (kind_of scanned.now.pairs i) ≡ Some true }
+/// Whether token `found` closes something, but nothing that is open before it.
+fn is_closing_nothing(scanned: &Scanned<'_>, found: usize) -> bool
+    requires { found ≤ length scanned.now.pairs }
+    ensures { result ≡ true → ClosesNothing scanned.now.pairs found }
 {
-    match kind_at(scanned, i) {
-        Some(kind) => closes(kind),
+    match kind_at(scanned, found) {
+        Some(kind) => {
+            if !closes(kind) {
+                return false;
+            }
+            if closes_any(scanned, found, kind) {
+                return false;
+            }
+            true
+        }
         None => false,
     }
 }
