@@ -68,6 +68,22 @@ pub enum Advice {
     QuoteInString,
     /// `*/` where no comment is open.
     CommentEnd,
+    /// A comment of another language.
+    CommentSign,
+    /// What can't be in a `${`.
+    OpenHere,
+    /// `|` and `|>` before a function.
+    Pipe,
+    /// Types with `|` between them.
+    OneType,
+    /// A type in `<` and `>`.
+    ElementType,
+    /// A type with `?` after it.
+    OptionalType,
+    /// A key with a `:`.
+    KeyColon,
+    /// A function after a `.`.
+    Method,
 }
 
 impl Advice {
@@ -109,6 +125,15 @@ impl Advice {
             Advice::ForIf => "the `if` of a `for` is after its value",
             Advice::QuoteInString => "a quote in a string is written `\\\"`",
             Advice::CommentEnd => "no `/*` is open here",
+            Advice::CommentSign => "a comment begins with `#`",
+            Advice::OpenHere => "a `${` before it is open here",
+            Advice::Pipe => "a function is called as `f(x)`; `or` is written `||`",
+            Advice::OneType => "a type is a single one, or `any`",
+            Advice::ElementType => "the type of elements is in parentheses, as in `list(string)`",
+            Advice::OptionalType =>
+                "a type has no `?`; an attribute that may be missing is `optional(TYPE)`",
+            Advice::KeyColon => "a key with a `:` is in double quotes, `\"`",
+            Advice::Method => "there are no methods: a function is called as `f(x)`",
         }
     }
 }
@@ -122,7 +147,7 @@ pub fn advice_for(
     found: usize,
 ) -> Option<Advice> {
     match kind_at(scanned, found) {
-        Some(kind) if is_marker(scanned, kind, found) => Some(Advice::ConflictMarker),
+        Some(kind) if is_in_marker(scanned, kind, found) => Some(Advice::ConflictMarker),
         Some(kind) if is_comment_end(scanned, kind, found) => Some(Advice::CommentEnd),
         Some(kind)
             if matches!(context, Context::Interpolation) && is_of_shell(scanned, kind, found) => {
@@ -137,7 +162,10 @@ pub fn advice_for(
             Expected::KeySign if is_key_with_space(scanned, found) => Some(Advice::KeySpace),
             Expected::ForColon if is_word(scanned, found, b"if") => Some(Advice::ForIf),
             Expected::SequenceEnd => at_sequence_end(scanned, kind, found, context),
-            _ => in_value(scanned, kind, found, context, expected),
+            _ => match in_type(scanned, kind, found) {
+                Some(advice) => Some(advice),
+                None => in_value(scanned, kind, found, context, expected),
+            },
         },
         None if matches!(expected, Expected::LabelOrBrace) => at_head_end(scanned, found),
         None => None,
@@ -149,6 +177,8 @@ fn at_line_start(scanned: &Scanned<'_>, kind: Kind, found: usize) -> Option<Advi
         Kind::Number => Some(Advice::Head(HeadAdvice::NameDigit)),
         Kind::QuoteOpen => Some(Advice::Head(HeadAdvice::NameQuoted)),
         Kind::OpenBrace if is_json(scanned, found) => Some(Advice::Json),
+        Kind::Minus if is_next(scanned, kind, found) => Some(Advice::CommentSign),
+        Kind::Less if is_next(scanned, Kind::Bang, found) => Some(Advice::CommentSign),
         _ if is_operator(kind) && follows_attribute(scanned, found) => Some(Advice::OperatorFirst),
         _ => None,
     }
@@ -197,6 +227,13 @@ fn is_comment_end(scanned: &Scanned<'_>, kind: Kind, found: usize) -> bool {
             && is_kind(scanned, found - 1, Kind::Star),
         _ => false,
     }
+}
+
+/// Whether a line begins as conflict markers do: with this token, or with the one before it, which
+/// continues a value where lines don't end it.
+fn is_in_marker(scanned: &Scanned<'_>, kind: Kind, found: usize) -> bool {
+    is_marker(scanned, kind, found)
+        || (found > 0 && is_kind(scanned, found - 1, kind) && is_marker(scanned, kind, found - 1))
 }
 
 /// Whether a line begins here as conflict markers do.
@@ -282,12 +319,57 @@ fn in_value(
         Some(last) => match kind {
             Kind::Less if is_next(scanned, kind, found) => heredoc(scanned, found),
             Kind::Identifier if !has_keywords(context) => after_word(scanned, last, found),
-            _ if is_word(scanned, last, b"not") => Some(Advice::Not),
+            _ if is_not(scanned, last) => Some(Advice::Not),
             _ if is_value(expected) => at_value(scanned, kind, found, last),
             _ => after_value(scanned, kind, found, last, expected),
         },
         None => None,
     }
+}
+
+/// Returns the advice for the token after a type that is written as in other languages:
+/// `list<string>`, or `map<string` before a `,`, or `string?`.
+fn in_type(scanned: &Scanned<'_>, kind: Kind, found: usize) -> Option<Advice> {
+    match last_before(scanned, found, false) {
+        Some(last) if is_kind(scanned, last, Kind::Question) => {
+            if is_type_name(scanned, last.saturating_sub(1)) && is_adjacent(scanned, last) {
+                Some(Advice::OptionalType)
+            } else {
+                None
+            }
+        }
+        Some(last) => {
+            let inner = match kind {
+                Kind::Comma => last,
+                _ if is_kind(scanned, last, Kind::Greater) => last.saturating_sub(1),
+                _ => return None,
+            };
+            if is_type_name(scanned, inner) && is_after_collection(scanned, inner) {
+                Some(Advice::ElementType)
+            } else {
+                None
+            }
+        }
+        None => None,
+    }
+}
+
+/// Whether token `i` is the name of a simple type.
+pub fn is_type_name(scanned: &Scanned<'_>, i: usize) -> bool {
+    is_word(scanned, i, b"string")
+        || is_word(scanned, i, b"number")
+        || is_word(scanned, i, b"bool")
+        || is_word(scanned, i, b"any")
+}
+
+/// Whether the name of a type of collections and a `<` are before token `i`.
+fn is_after_collection(scanned: &Scanned<'_>, i: usize) -> bool {
+    let name = i.saturating_sub(2);
+    i > 1
+        && is_kind(scanned, i - 1, Kind::Less)
+        && (is_word(scanned, name, b"list")
+            || is_word(scanned, name, b"set")
+            || is_word(scanned, name, b"map"))
 }
 
 /// Whether a value was expected.
@@ -306,8 +388,21 @@ fn at_value(scanned: &Scanned<'_>, kind: Kind, found: usize, last: usize) -> Opt
         Kind::Slash if is_next(scanned, Kind::Identifier, found) => Some(Advice::BareText),
         Kind::Greater if is_after(scanned, Kind::Less, last, found) => Some(Advice::NotEqual),
         Kind::Equal if is_after(scanned, Kind::DoubleEqual, last, found) => Some(Advice::Equal),
+        Kind::Equal if is_after(scanned, Kind::NotEqual, last, found) => Some(Advice::NotEqual),
+        _ if is_constraint(scanned, kind, found, last) => Some(Advice::BareText),
         _ => None,
     }
+}
+
+/// Whether a value begins with an operator that compares, and a number or a string after it: the
+/// constraint of a version, as `>= 1.0`.
+fn is_constraint(scanned: &Scanned<'_>, kind: Kind, found: usize, last: usize) -> bool {
+    let next = found.saturating_add(1);
+    matches!(
+        kind,
+        Kind::GreaterEqual | Kind::LessEqual | Kind::Greater | Kind::Less | Kind::NotEqual
+    ) && is_kind(scanned, last, Kind::Equal)
+        && (is_kind(scanned, next, Kind::Number) || is_kind(scanned, next, Kind::QuoteOpen))
 }
 
 /// Whether a path begins with this `.`: `./` or `..`.
@@ -332,15 +427,72 @@ fn after_value(
         Kind::Colon if is_text(expected) && is_in_text(scanned, last, found) => {
             Some(Advice::BareText)
         }
+        Kind::Comma if is_in_number(scanned, last, found, expected) => Some(Advice::Digits),
         Kind::Comma if is_after_attribute(scanned, found, expected) => {
             Some(Advice::AttributeComma)
         }
+        Kind::QuoteOpen if is_after_string(scanned, last, found, expected) => {
+            Some(Advice::QuoteInString)
+        }
+        Kind::OpenParen if is_after_dot(scanned, last) => Some(Advice::Method),
+        Kind::OpenBrace if is_after_text(scanned, last, expected) => {
+            Some(Advice::Head(HeadAdvice::BlockEqual))
+        }
+        Kind::Equal if is_key_with_colon(scanned, last, expected) => Some(Advice::KeyColon),
+        Kind::Equal if is_double_equal(scanned, found, expected) => Some(Advice::Equal),
         Kind::Equal if is_next(scanned, Kind::Bang, found) => Some(Advice::NotEqual),
         Kind::Equal if is_next(scanned, Kind::Less, found) => Some(Advice::AtMost),
         Kind::Equal if is_condition(scanned, found, expected) => Some(Advice::Equal),
         Kind::FatArrow if is_condition(scanned, found, expected) => Some(Advice::AtLeast),
         _ => None,
     }
+}
+
+/// Whether this comma is in a number: with digits right before and after it.
+fn is_in_number(scanned: &Scanned<'_>, last: usize, found: usize, expected: Expected) -> bool {
+    matches!(expected, Expected::ValueEnd)
+        && is_after(scanned, Kind::Number, last, found)
+        && is_next(scanned, Kind::Number, found)
+}
+
+/// Whether a string, the value of an attribute, ends right before token `found`.
+fn is_after_string(scanned: &Scanned<'_>, last: usize, found: usize, expected: Expected) -> bool {
+    matches!(expected, Expected::ValueEnd) && is_after(scanned, Kind::QuoteClose, last, found)
+}
+
+/// Whether token `last` is a name after a `.`.
+fn is_after_dot(scanned: &Scanned<'_>, last: usize) -> bool {
+    last > 0 && is_kind(scanned, last, Kind::Identifier) && is_kind(scanned, last - 1, Kind::Dot)
+}
+
+/// Whether the value of an attribute is a string, which ends with token `last`.
+fn is_after_text(scanned: &Scanned<'_>, last: usize, expected: Expected) -> bool {
+    matches!(expected, Expected::ValueEnd)
+        && last > 1
+        && is_kind(scanned, last, Kind::QuoteClose)
+        && is_kind(scanned, last - 1, Kind::QuoteLit)
+        && follows_sign(scanned, last - 2)
+}
+
+/// Whether an `=` is right before token `i`, but for a gap.
+fn follows_sign(scanned: &Scanned<'_>, i: usize) -> bool {
+    i > 0 && is_kind(scanned, i, Kind::QuoteOpen) && is_kind(scanned, i - 1, Kind::Equal)
+}
+
+/// Whether the element of an object before a token is two names with a `:` between, and no gap.
+fn is_key_with_colon(scanned: &Scanned<'_>, last: usize, expected: Expected) -> bool {
+    matches!(expected, Expected::ElementEnd)
+        && last > 1
+        && is_kind(scanned, last, Kind::Identifier)
+        && is_adjacent(scanned, last)
+        && is_kind(scanned, last - 1, Kind::Colon)
+        && is_adjacent(scanned, last - 1)
+        && is_kind(scanned, last - 2, Kind::Identifier)
+}
+
+/// Whether this `=` is the first of two after the value of an attribute.
+fn is_double_equal(scanned: &Scanned<'_>, found: usize, expected: Expected) -> bool {
+    matches!(expected, Expected::ValueEnd) && is_kind(scanned, found.saturating_add(1), Kind::Equal)
 }
 
 /// Whether this comma is after an attribute's value: with the end of the line, or another
@@ -414,15 +566,20 @@ fn is_between_quotes(scanned: &Scanned<'_>, last: usize, found: usize) -> bool {
         && is_adjacent(scanned, end)
 }
 
+/// Whether token `i` is the word `not`.
+fn is_not(scanned: &Scanned<'_>, i: usize) -> bool {
+    is_word(scanned, i, b"not") || is_word(scanned, i, b"NOT")
+}
+
 /// Returns the advice for a word after token `last`.
 fn after_word(scanned: &Scanned<'_>, last: usize, found: usize) -> Option<Advice> {
     if is_kind(scanned, last, Kind::Number) && is_adjacent(scanned, found) {
         Some(Advice::Digits)
-    } else if is_word(scanned, found, b"and") {
+    } else if is_word(scanned, found, b"and") || is_word(scanned, found, b"AND") {
         Some(Advice::And)
-    } else if is_word(scanned, found, b"or") {
+    } else if is_word(scanned, found, b"or") || is_word(scanned, found, b"OR") {
         Some(Advice::Or)
-    } else if is_word(scanned, last, b"not") {
+    } else if is_not(scanned, last) {
         Some(Advice::Not)
     } else if is_word(scanned, found, b"if") || is_word(scanned, last, b"if") {
         Some(Advice::Conditional)

@@ -1,10 +1,10 @@
 //! The sentence of a character with which no token begins.
 
-use crate::advice::Advice;
+use crate::advice::{Advice, is_type_name};
 use crate::context::{Context, context_of};
 use crate::expected::{Expected, expected_after};
 use crate::lines::{bytes_from, from_line_start, prefix, whitespace_len};
-use crate::near::{is_adjacent, is_kind};
+use crate::near::{is_adjacent, is_kind, is_line_start};
 use crate::openings::innermost_open;
 use crate::sequence::sequence_text;
 use hcl_scan::{Kind, ScanFault, Scanned, scan};
@@ -145,8 +145,37 @@ fn advice_after(scanned: &Scanned<'_>, found: Found<'_>) -> Option<Advice> {
             Some(Advice::HeredocQuotes)
         }
         [b'~', ..] if is_heredoc_next(scanned) => Some(Advice::HeredocTilde),
+        _ if is_after_marker(scanned) => Some(Advice::HeredocLine),
+        [b';', ..] if !found.is_in_sequence && is_line_next(scanned) => Some(Advice::CommentSign),
+        [b';', ..] if found.is_in_interpolation => Some(Advice::OpenHere),
+        [b'|', b'>', ..] => Some(Advice::Pipe),
+        [b'|', next, ..] if *next != b'|' && is_after_type(scanned) => Some(Advice::OneType),
+        [b'|', ..] if found.is_in_interpolation => Some(Advice::Pipe),
         _ => None,
     }
+}
+
+/// Whether a line of a body begins after the tokens.
+fn is_line_next(scanned: &Scanned<'_>) -> bool {
+    let count = scanned.len();
+    is_line_start(scanned, count)
+        && matches!(
+            context_of(scanned, innermost_open(scanned, count)),
+            Context::File | Context::Block
+        )
+}
+
+/// Whether the name of a simple type is the last token.
+fn is_after_type(scanned: &Scanned<'_>) -> bool {
+    is_type_name(scanned, scanned.len().saturating_sub(1))
+}
+
+/// Whether the tokens end with `<<` or `<<-` and a marker.
+fn is_after_marker(scanned: &Scanned<'_>) -> bool {
+    let last = scanned.len().saturating_sub(1);
+    is_kind(scanned, last, Kind::Identifier)
+        && is_adjacent(scanned, last)
+        && is_heredoc_at(scanned, last.saturating_sub(1))
 }
 
 /// Whether a key of an object begins after the tokens.
@@ -166,7 +195,11 @@ fn is_key_next(scanned: &Scanned<'_>) -> bool {
 
 /// Whether the last tokens are `<<` or `<<-`.
 fn is_heredoc_next(scanned: &Scanned<'_>) -> bool {
-    let last = scanned.len().saturating_sub(1);
+    is_heredoc_at(scanned, scanned.len().saturating_sub(1))
+}
+
+/// Whether `<<` or `<<-` ends with token `last`.
+fn is_heredoc_at(scanned: &Scanned<'_>, last: usize) -> bool {
     if is_kind(scanned, last, Kind::Minus) {
         is_adjacent(scanned, last) && is_double(scanned, last.saturating_sub(1))
     } else {

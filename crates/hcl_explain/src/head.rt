@@ -2,7 +2,7 @@
 
 use crate::advice::{Advice, is_operator};
 use crate::context::Context;
-use crate::near::{first_from, is_kind, is_line_end, is_line_start, kind_at, last_before};
+use crate::near::{first_from, is_kind, is_line_end, is_line_start, is_word, last_before};
 use crate::openings::closing_after;
 use hcl_scan::{Kind, Scanned};
 
@@ -23,6 +23,8 @@ pub enum HeadAdvice {
     BlockEqual,
     /// The `{` of a block, in a line after its name.
     BraceOnNextLine,
+    /// A word that declares a name in other languages.
+    Local,
 }
 
 impl HeadAdvice {
@@ -36,6 +38,7 @@ impl HeadAdvice {
             HeadAdvice::EqualOrBrace => "expected `=` after the name or `{` after the label",
             HeadAdvice::BlockEqual => "a block has no `=` before its `{`",
             HeadAdvice::BraceOnNextLine => "the `{` of a block has to be on the line of its name",
+            HeadAdvice::Local => "a value gets its name in a `locals` block, as `NAME = VALUE`",
         }
     }
 }
@@ -108,10 +111,54 @@ fn at_equal(scanned: &Scanned<'_>, context: Context, found: usize) -> Option<Adv
     if is_before_brace && (!is_name || matches!(context, Context::File)) {
         Some(Advice::Head(HeadAdvice::BlockEqual))
     } else if is_name {
-        Some(Advice::Head(HeadAdvice::NameSpace))
+        after_words_before(scanned, context, found)
     } else {
         None
     }
+}
+
+/// Returns the advice for the `=` after words: none if these are the head of a block of Terraform.
+fn after_words_before(scanned: &Scanned<'_>, context: Context, found: usize) -> Option<Advice> {
+    let first = first_word(scanned, found);
+    if !matches!(context, Context::File) {
+        Some(Advice::Head(HeadAdvice::NameSpace))
+    } else if is_block_type(scanned, first) {
+        None
+    } else if is_declaring(scanned, first) {
+        Some(Advice::Head(HeadAdvice::Local))
+    } else {
+        Some(Advice::Head(HeadAdvice::NameSpace))
+    }
+}
+
+/// Whether token `i` is the type of a block that Terraform has at top level, with labels.
+fn is_block_type(scanned: &Scanned<'_>, i: usize) -> bool {
+    is_word(scanned, i, b"variable")
+        || is_word(scanned, i, b"output")
+        || is_word(scanned, i, b"module")
+        || is_word(scanned, i, b"provider")
+        || is_word(scanned, i, b"resource")
+        || is_word(scanned, i, b"data")
+        || is_word(scanned, i, b"check")
+        || is_word(scanned, i, b"ephemeral")
+}
+
+/// Whether token `i` is a word that declares a name in other languages.
+fn is_declaring(scanned: &Scanned<'_>, i: usize) -> bool {
+    is_word(scanned, i, b"local")
+        || is_word(scanned, i, b"let")
+        || is_word(scanned, i, b"const")
+        || is_word(scanned, i, b"var")
+}
+
+/// Returns the number of the first of the words before token `i`.
+fn first_word(scanned: &Scanned<'_>, i: usize) -> usize {
+    for k in (0..i).rev() {
+        if !is_kind(scanned, k, Kind::Identifier) {
+            return k.saturating_add(1);
+        }
+    }
+    0
 }
 
 /// Whether the line of token `i` has nothing but words before it.
