@@ -5,7 +5,7 @@ use Rattle.hcl_scan.specs.declared.fault.ScanFault.{ScanFault}
 use Rattle.hcl_scan.specs.declared.fault.ScanFault.TheVariants as fault
 use Rattle.hcl_explain.specs.Lines.{line_end, closing_place}
 use Rattle.hcl_explain.specs.Sequences.{IsClosedInComment, IsOpenBefore, IsEnded, IsBlamed}
-use Rattle.hcl_explain.specs.Sequences.{is_interpolation, IsCut, IsUnclosed}
+use Rattle.hcl_explain.specs.Sequences.{is_interpolation, EndsWithLine, IsUnclosed}
 use Rattle.hcl_explain.specs.declared.scan_error.ScanExplanation.{ScanExplanation}
 use Rattle.hcl_explain.specs.declared.scan_error.ScanReason.{ScanReason}
 use Rattle.hcl_explain.specs.declared.scan_error.ScanReason.TheVariants as reason
@@ -76,10 +76,10 @@ IsByUnclosed text opened at e =
     ⊎ ((IsUnclosed text opened at 1 → ⊥) × (e ≡ of at (reason.InSequence opened)))
 
 -- or if another line of it begins where it should be closed
-abbrev pub IsByCut : List ℕ → ℕ → ℕ → ScanExplanation → Type 0
-IsByCut text opened at e =
-    (IsCut text opened × (e ≡ of opened reason.Sequence))
-    ⊎ ((IsCut text opened → ⊥) × (e ≡ of at (reason.InSequence opened)))
+abbrev pub IsByLine : List ℕ → ℕ → ℕ → ScanExplanation → Type 0
+IsByLine text opened at e =
+    (EndsWithLine text opened × (e ≡ of opened reason.Sequence))
+    ⊎ ((EndsWithLine text opened → ⊥) × (e ≡ of at (reason.InSequence opened)))
 
 -- of a `${` in a template sequence: that, if it ends in a value before the `${`
 abbrev pub IsNestedIn : List ℕ → ℕ → ℕ → ScanExplanation → Type 0
@@ -91,7 +91,7 @@ IsNestedIn text opened at e =
 abbrev pub IsOtherIn : List ℕ → ℕ → ℕ → ScanExplanation → Type 0
 IsOtherIn text opened at e =
     (IsEnded text opened at × IsByUnclosed text opened at e)
-    ⊎ ((IsEnded text opened at → ⊥) × IsByCut text opened at e)
+    ⊎ ((IsEnded text opened at → ⊥) × IsByLine text opened at e)
 
 -- of a character with which no token begins, in a template sequence
 abbrev pub IsCharacterIn : List ℕ → ℕ → ℕ → ScanExplanation → Type 0

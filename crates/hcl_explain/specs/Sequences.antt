@@ -174,8 +174,8 @@ is_before_letter sequence =
 
 -- The line in which the `${` at `opened` begins ends in a value, outside of brackets, and the next
 -- line begins with a letter: neither an operator nor the `}` is between these.
-abbrev pub IsCut : List ℕ → ℕ → Type 0
-IsCut text opened =
+abbrev pub EndsWithLine : List ℕ → ℕ → Type 0
+EndsWithLine text opened =
     (is_before_letter (drop opened text) ≡ true)
     × IsOpenBefore text (line_end text opened) opened
     × HasTokens has_value_alone (sequence_text (first_line (drop opened text)))
@@ -195,7 +195,7 @@ abbrev pub MakesError : List ℕ → ℕ → Type 0
 MakesError text opened = (why : ScanFault) × IsFault text why × IsMadeBy text opened why
 
 abbrev pub IsShownOpen : List ℕ → ℕ → Type 0
-IsShownOpen text opened = IsCut text opened ⊎ MakesError text opened
+IsShownOpen text opened = EndsWithLine text opened ⊎ MakesError text opened
 
 -- the text without this many bytes from byte `at` on
 abbrev pub without : List ℕ → ℕ → ℕ → List ℕ
@@ -205,4 +205,4 @@ without text at count = take at text ++ drop count (drop at text)
 -- text without the bytes at which its error is
 abbrev pub IsUnclosed : List ℕ → ℕ → ℕ → ℕ → Type 0
 IsUnclosed text opened at count =
-    IsCut text opened ⊎ IsShownOpen (without text at count) opened
+    EndsWithLine text opened ⊎ IsShownOpen (without text at count) opened

@@ -8,13 +8,13 @@ ghost use Rattle.hcl_explain.specs.ScanExplanations.{IsScanExplanation, IsString
 ghost use Rattle.hcl_explain.specs.ScanExplanations.{IsStringAfter, IsStringIn, HiddenOr};
 ghost use Rattle.hcl_explain.specs.ScanExplanations.{IsSequenceExplanation, IsHeredocExplanation};
 ghost use Rattle.hcl_explain.specs.ScanExplanations.{IsCommentExplanation, IsCommentIn};
-ghost use Rattle.hcl_explain.specs.ScanExplanations.{IsCommentAfter, IsByUnclosed, IsByCut};
+ghost use Rattle.hcl_explain.specs.ScanExplanations.{IsCommentAfter, IsByUnclosed, IsByLine};
 ghost use Rattle.hcl_explain.specs.ScanExplanations.{IsCharacterExplanation, IsCharacterIn};
 ghost use Rattle.hcl_explain.specs.ScanExplanations.{IsNestedIn, IsOtherIn, of};
 
 use crate::lines::{bytes_from, closing_place, line_end, prefix};
 use crate::sequence::{ends_in_value, is_closed_in_comment, open_sequence};
-use crate::without::{is_cut, is_unclosed};
+use crate::without::{ends_with_line, is_unclosed};
 use hcl_scan::ScanFault;
 use std::alloc::{AllocError, Global};
 
@@ -288,7 +288,7 @@ fn other_in(
     if is_ended(alloc, text, opened, at)? {
         by_unclosed(alloc, text, opened, at)
     } else {
-        by_cut(alloc, text, opened, at)
+        by_line(alloc, text, opened, at)
     }
 }
 
@@ -325,15 +325,15 @@ fn by_unclosed(
 }
 
 /// Explains it by whether another line of the template sequence begins where it should be closed.
-fn by_cut(
+fn by_line(
     alloc: Global,
     text: &[u8],
     opened: usize,
     at: usize,
 ) -> Result<ScanExplanation, AllocError>
-    ensures { IfOk result (IsByCut text.now opened at) }
+    ensures { IfOk result (IsByLine text.now opened at) }
 {
-    if is_cut(alloc, text, opened)? {
+    if ends_with_line(alloc, text, opened)? {
         Ok(explanation(opened, ScanReason::Sequence))
     } else {
         Ok(explanation(at, ScanReason::InSequence(opened)))

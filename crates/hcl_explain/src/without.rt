@@ -8,7 +8,7 @@ ghost use Rattle.hcl_scan.specs.declared.fault.ScanFault.TheVariants.{OpenTempla
 ghost use Rattle.hcl_scan.specs.declared.fault.ScanFault.TheVariants.{BadCharacter};
 ghost use Rattle.hcl_explain.specs.Lines.{closing_place};
 ghost use Rattle.hcl_explain.specs.Sequences as spec;
-ghost use Rattle.hcl_explain.specs.Sequences.{IsCut, IsMadeBy, MakesError, IsShownOpen, IsUnclosed};
+ghost use Rattle.hcl_explain.specs.Sequences.{EndsWithLine, IsMadeBy, MakesError, IsShownOpen, IsUnclosed};
 ghost use Rattle.hcl_explain.specs.Sequences.{IsOpenBefore, IsBlamed, IsEnded};
 
 use crate::lines::{after_line, bytes_from, closing_place, line_end, prefix, whitespace_len};
@@ -28,7 +28,7 @@ pub fn is_unclosed(
 ) -> Result<bool, AllocError>
     ensures { IfOk result (λ b. Decides b (IsUnclosed text.now opened at count)) }
 {
-    if is_cut(alloc, text, opened)? {
+    if ends_with_line(alloc, text, opened)? {
         return Ok(true);
     }
     is_unclosed_without(alloc, text, opened, at, count)
@@ -63,15 +63,15 @@ fn without(alloc: Global, text: &[u8], at: usize, count: usize) -> Result<Vec<u8
 fn is_shown_open(alloc: Global, text: &[u8], opened: usize) -> Result<bool, AllocError>
     ensures { IfOk result (λ b. Decides b (IsShownOpen text.now opened)) }
 {
-    if is_cut(alloc, text, opened)? {
+    if ends_with_line(alloc, text, opened)? {
         return Ok(true);
     }
     makes_error(alloc, text, opened)
 }
 
 /// Whether a line of the `${` at byte `opened` ends in a value, and the next begins with a letter.
-pub fn is_cut(alloc: Global, text: &[u8], opened: usize) -> Result<bool, AllocError>
-    ensures { IfOk result (λ b. Decides b (IsCut text.now opened)) }
+pub fn ends_with_line(alloc: Global, text: &[u8], opened: usize) -> Result<bool, AllocError>
+    ensures { IfOk result (λ b. Decides b (EndsWithLine text.now opened)) }
 {
     if !is_before_letter(bytes_from(text, opened)) {
         return Ok(false);

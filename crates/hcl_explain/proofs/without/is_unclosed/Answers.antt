@@ -3,5 +3,5 @@ use Rattle.hcl_explain.proofs.without.is_unclosed.Goals as goal
 
 pub returns-then-branch : goal.returns-then-branch
 returns-then-branch c =
-    let is : c.in_ok-is_cut.field-0 ≡ true = first_of (cc, search rules) in
-    ((λ yes. inl (c.in_ok-is_cut.ensures.0 is)), (λ h. refl))
+    let is : c.in_ok-ends_with_line.field-0 ≡ true = first_of (cc, search rules) in
+    ((λ yes. inl (c.in_ok-ends_with_line.ensures.0 is)), (λ h. refl))

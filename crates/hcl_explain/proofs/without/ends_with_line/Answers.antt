@@ -6,7 +6,7 @@ use Rattle.hcl_explain.specs.Lines.{line_end, first_line}
 use Rattle.hcl_explain.specs.Sequences.{IsOpenBefore, HasTokens, has_value_alone, sequence_text}
 use Rattle.hcl_explain.specs.Sequences.{is_before_letter}
 use Rattle.hcl_explain.proofs.WithoutLemmas.{all_of}
-use Rattle.hcl_explain.proofs.without.is_cut.Goals as goal
+use Rattle.hcl_explain.proofs.without.ends_with_line.Goals as goal
 
 pub returns : goal.returns
 returns c =
