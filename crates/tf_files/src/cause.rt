@@ -154,7 +154,8 @@ impl Trouble {
 
     /// Returns this error if it is one of files, else that a file can't be read.
     pub fn of_files(self) -> Trouble
-        ensures { is_file_fault result.fault ≡ true }
+        ensures fault { is_file_fault result.fault ≡ true }
+        ensures kept { is_file_fault self.fault ≡ true → result ≡ self }
     {
         match self.fault {
             RunFault::Memory | RunFault::Read | RunFault::Endless | RunFault::Write { .. } => self,
@@ -222,7 +223,7 @@ impl fmt::Display for Cause {
             Reason::System(number) => { write!(f, "{}", io::Error::from_raw_os_error(number)) }
             Reason::Changed => f.write_str("changed by another program"),
             Reason::OfAnotherUser => f.write_str(
-                "another user may have written it: look whose it is, and delete it",
+                "another user may have written it: delete it, or chmod go-w it if it is yours",
             ),
             Reason::NotRegular => f.write_str("no regular file"),
             Reason::Link => f.write_str("a link that is not followed"),
