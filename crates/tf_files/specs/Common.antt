@@ -52,6 +52,7 @@ HaveCommon ours others =
     ⊎ IsSomeFileOf ours.new_journal others
 
 -- one of the files may be one of the others: it is not known which these are, or one is
-abbrev pub MayHaveCommon : Option FoundFiles → FoundFiles → Type 0
+abbrev pub MayHaveCommon : Option FoundFiles → Option FoundFiles → Type 0
 MayHaveCommon None others = Unit {0}
-MayHaveCommon (Some ours) others = HaveCommon ours others
+MayHaveCommon (Some ours) None = Unit {0}
+MayHaveCommon (Some ours) (Some others) = HaveCommon ours others

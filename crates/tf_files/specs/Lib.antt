@@ -3,8 +3,8 @@ pub mod Handles
 pub mod Paths
 pub mod Reading
 pub mod Snapshots
-pub mod FileEffects
 pub mod Ends
 pub mod Opening
 pub mod Modes
 pub mod Trust
+pub mod Stores

@@ -10,6 +10,7 @@ use crate::folder::SystemFiles;
 use crate::leftovers::{Found, open_found, refusal};
 use crate::look::{Look, look_for};
 use crate::snapshot::{Snapshot, Snapshots};
+use crate::store::ReadFile;
 use crate::trust::Access;
 use std::alloc::Global;
 use std::fs::{self, File, Metadata, OpenFile};
@@ -42,6 +43,19 @@ pub struct ReadContents {
     pub journal: Vec<u8>,
     /// Both files from before they were read; none if the system does not say.
     pub seen: Option<Snapshots>,
+}
+
+impl ReadContents {
+    /// Returns the bytes of both.
+    pub fn without_snapshots(self) -> ReadFile
+        ensures text { result.text ≡ self.text }
+        ensures journal { result.journal ≡ self.journal }
+    {
+        ReadFile {
+            text: self.text,
+            journal: self.journal,
+        }
+    }
 }
 
 /// Reads a text and its journal. What they were is found out by the handles that are read, since

@@ -1,11 +1,12 @@
 pub mod Answering
 pub mod Fixing
 pub mod Holding
+pub mod Keeping
 pub mod Listing
 pub mod Locating
-pub mod Naming
+pub mod Making
 pub mod PrintedParts
 pub mod Refusing
+pub mod Reporting
 pub mod Running
 pub mod ShortMessages
-pub mod Waiting

@@ -1,6 +1,8 @@
 -- What an action that changes no file makes of a text, prints, and returns.
 use Rattle.std.specs.Prelude.{◌≡◌, ◌<◌, ◌⊎◌, ℕ, Bool, true, false, List, [], ◌++◌, codes}
 use Rattle.std.specs.Prelude.{if◌then◌else◌, Option, None, Result, Ok, Err}
+use Rattle.edit_record.specs.Lists.Journal.{JournalEntry}
+use Rattle.edit_record.specs.Text.{IsJournalText}
 use Rattle.hcl_layout.specs.Layouts.{IsLayout, IsTooLong}
 use Rattle.tf_rules.specs.declared.rule_set.RuleSet.{RuleSet}
 use Rattle.tf_cli.specs.Arguments.{is_dash}
@@ -12,14 +14,16 @@ use Rattle.tf_session.specs.declared.command.Done.{Done}
 use Rattle.tf_session.specs.declared.command.Fault.{Fault}
 use Rattle.tf_session.specs.declared.fault.RunFault.{RunFault}
 use Rattle.tf_session.specs.Faults.{run_fault_of}
-use Rattle.tf_session.specs.Invocations.{AreReportLines}
+use Rattle.tf_session.specs.declared.fault.RunFault.TheVariants.{Memory}
+use Rattle.tf_session.specs.Invocations.{AreReportLines, FileContents}
+use Rattle.tf_session.specs.Journals.{BadJournalFault}
 use Rattle.tf_session.specs.LintStream.{AreLines}
 use Rattle.tf_session.specs.Parsing.{DoesParse}
 use Rattle.tf_session.specs.Records.{DoesStep, RefusesStep, StepsTo}
 use Rattle.tf_session.specs.Rewrites.{RefusesText, IsSyntaxFault}
-use Rattle.tf_session.specs.Session.{SessionContents, without_records}
+use Rattle.tf_session.specs.Session.{SessionContents, with_records, without_records}
 use Rattle.tf_session.specs.Streams.{ReadsText, IsReadStreamFault}
-use Rattle.tf_files.specs.Opening.{is_file_fault}
+use Rattle.tf_files.specs.Stores.{Files, HasContents, HasTextOf, MayFail}
 use Rattle.tf_program.specs.Lines.{AreRecordLines}
 use Rattle.tf_program.specs.Location.{IsLocatedIn}
 use Rattle.tf_program.specs.Printing.{Console, PrintsAll, FailsToPrint}
@@ -149,42 +153,60 @@ AnswersStream action locate name met source old new =
 
 -- ---- the records of a journal
 
--- a line for each record of some text and journal was printed
-abbrev pub ListsRecords : Result FileOutcome FileError → Console → Console → Type 0
-ListsRecords (Ok met) old new =
-    (met ≡ FileOutcome.Nothing) × (contents : SessionContents) × (lines : List ℕ)
+-- a line for each record of a session was printed
+abbrev pub ListsRecords : SessionContents → Result FileOutcome FileError → Console → Console → Type 0
+ListsRecords contents (Ok met) old new =
+    (met ≡ FileOutcome.Nothing) × (lines : List ℕ)
     × AreRecordLines contents 1 contents.records lines
     × PrintsAll lines old.output new.output × (new.errors ≡ old.errors)
-ListsRecords (Err error) old new =
+ListsRecords contents (Err error) old new =
     (error.location ≡ None) × (new.errors ≡ old.errors)
-    × ((new.output ≡ old.output)
-    ⊎ ((contents : SessionContents) × (lines : List ℕ)
-    × AreRecordLines contents 1 contents.records lines
+    × (((error.fault ≡ Memory) × (new.output ≡ old.output))
+    ⊎ ((lines : List ℕ) × AreRecordLines contents 1 contents.records lines
     × FailsToPrint lines error.fault old.output new.output))
 
--- ---- a name: standard input, or a file, of which nothing is stated
+-- why there is no list: an error that the file may have, or the journal can't be decoded
+abbrev pub IsUnlisted : List ℕ → Option Files → Result FileOutcome FileError → Type 0
+IsUnlisted name files (Ok met) = ⊥
+IsUnlisted name files (Err error) =
+    (error.location ≡ None)
+    × (MayFail files name error.fault
+    ⊎ ((contents : FileContents) × HasContents files name contents
+    × BadJournalFault contents.journal error.fault))
 
--- an error of a file that can't be opened
-abbrev pub IsNotOpened : Result FileOutcome FileError → Type 0
-IsNotOpened (Ok met) = ⊥
-IsNotOpened (Err error) = (is_file_fault error.fault ≡ true) × (error.location ≡ None)
+-- the records of the journal of the file of this name were listed, or nothing was printed
+abbrev pub ListsFile : List ℕ → Option Files → Result FileOutcome FileError → Console → Console → Type 0
+ListsFile name files met old new =
+    ((contents : FileContents) × HasContents files name contents
+    × (records : List JournalEntry) × IsJournalText contents.journal records
+    × ListsRecords (with_records contents.text records) met old new)
+    ⊎ (IsUnlisted name files met × KeepsOutputs old new)
+
+-- ---- a name: standard input, or a file
+
+-- the file of this name was not read, for an error that it may have
+abbrev pub IsNotOpened : List ℕ → Option Files → Result FileOutcome FileError → Type 0
+IsNotOpened name files (Ok met) = ⊥
+IsNotOpened name files (Err error) = MayFail files name error.fault × (error.location ≡ None)
 
 abbrev pub is_list : Action → Bool
 is_list Action.List = true
 is_list action = false
 
--- the records of its journal for a list; for any other action its text, or it can't be opened
-abbrev pub AnswersFile : Action → Bool → List ℕ → Result FileOutcome FileError → Console → Console → Type 0
-AnswersFile action locate name met old new =
-    (is_list action ≡ true → ListsRecords met old new)
+-- the records of its journal for a list; for any other action its text
+abbrev pub AnswersFile : Action → Bool → List ℕ → Option Files → Result FileOutcome FileError
+    → Console → Console → Type 0
+AnswersFile action locate name files met old new =
+    (is_list action ≡ true → ListsFile name files met old new)
     × (is_list action ≡ false
-    → ((source : Source) × AnswersStream action locate name met source old new)
-    ⊎ (IsNotOpened met × KeepsOutputs old new))
+    → ((text : List ℕ) × HasTextOf files name text × AnswersText action locate name text met old new)
+    ⊎ (IsNotOpened name files met × KeepsOutputs old new))
 
 -- the action on standard input, or on the file of this name, which leaves standard input as it was
-abbrev pub AnswersName : Action → Bool → List ℕ → Result FileOutcome FileError → Console → Console → Type 0
-AnswersName action locate name met old new =
+abbrev pub AnswersName : Action → Bool → List ℕ → Option Files → Result FileOutcome FileError
+    → Console → Console → Type 0
+AnswersName action locate name files met old new =
     (is_dash name ≡ true
     → AnswersStream action locate name met (record { before = old.unread; after = new.unread }) old new)
     × (is_dash name ≡ false
-    → AnswersFile action locate name met old new × (new.unread ≡ old.unread))
+    → AnswersFile action locate name files met old new × (new.unread ≡ old.unread))

@@ -3,5 +3,6 @@ pub mod Location
 pub mod Printing
 pub mod Answers
 pub mod Work
-pub mod Batches
+pub mod Tasks
 pub mod Runs
+pub mod Inner

@@ -15,7 +15,7 @@ use hcl_explain::{Said, say_parse_fault, say_scan_fault};
 use std::alloc::{AllocError, Global};
 use std::fmt::Write as _;
 use std::io::Write;
-use tf_files::{Cause, FileFault, Trouble};
+use tf_files::{Cause, Trouble};
 use tf_session::{Command, RunFault, Told};
 
 /// The most bytes of a message that is printed where memory has run out. No error has one of more.
@@ -107,40 +107,38 @@ impl FileError {
         }
     }
 
-    /// Returns the error of a command that did nothing to a file, located if `locate` says so.
+    /// Returns the error of a command that did nothing to the file of this text, located if `locate`
+    /// says so.
     pub fn of_refused(
         alloc: Global,
         command: Command,
-        refused: &FileFault,
+        fault: RunFault,
+        text: &[u8],
         locate: bool,
     ) -> FileError
-        ensures fault { result.fault ≡ refused.now.fault }
-        ensures location { IsLocatedIn refused.now.text.items locate result }
+        ensures fault { result.fault ≡ fault }
+        ensures location { IsLocatedIn text.now locate result }
     {
         if locate {
-            let hint = hint_of(command, &refused.fault, refused.text.len());
-            FileError::located(alloc, refused.fault, &refused.text, hint)
+            let hint = hint_of(command, &fault, text.len());
+            FileError::located(alloc, fault, text, hint)
         } else {
-            FileError::from(refused.fault)
+            FileError::from(fault)
         }
     }
 
-    /// Returns the error of a file that was not read with its journal, with what it means if
-    /// `locate` says so.
-    pub fn of_unread(trouble: Trouble, locate: bool) -> FileError
-        ensures fault { result.fault ≡ trouble.fault }
+    /// Returns the error of a journal that can't be decoded, or that memory ran out for that, with
+    /// what it means if `locate` says so.
+    pub fn of_journal(fault: RunFault, locate: bool) -> FileError
+        ensures fault { result.fault ≡ fault }
         ensures location { result.location ≡ None }
     {
         FileError {
-            fault: trouble.fault,
+            fault,
             location: None,
             explained: None,
-            cause: trouble.cause,
-            hint: if locate {
-                hint_of_unread(&trouble.fault)
-            } else {
-                None
-            },
+            cause: None,
+            hint: if locate { hint_of_unread(&fault) } else { None },
         }
     }
 

@@ -13,5 +13,5 @@ mod record_list;
 mod run;
 mod streams;
 
-pub use run::work;
+pub use run::{work, work_in};
 pub use streams::Streams;

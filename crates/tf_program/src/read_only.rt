@@ -1,11 +1,11 @@
 //! What changes no file: all on standard input, and check, lint and list on a file.
 
 ghost use Rattle.std.specs.Prelude.{◌≡◌, IfOk, IfErr, string_bytes};
-ghost use Rattle.tf_stream.specs.Streams.{Source, source_of};
-ghost use Rattle.tf_session.specs.Streams.{ReadsText, IsReadStreamFault};
+ghost use Rattle.tf_stream.specs.Streams.{source_of};
 ghost use Rattle.tf_program.specs.Answers.{AnswersName, AnswersFile, AnswersStream, AnswersText};
+ghost use Rattle.tf_program.specs.Answers.{ListsFile, ListsRecords};
 ghost use Rattle.tf_session.specs.Session.{contents_of, records_of};
-ghost use Rattle.tf_program.specs.Answers.{is_list, PrintsAnswer, HasNoAnswer, ListsRecords};
+ghost use Rattle.tf_program.specs.Answers.{is_list, PrintsAnswer, HasNoAnswer};
 ghost use Rattle.tf_program.specs.Lines.{AreRecordLines};
 ghost use Rattle.tf_program.specs.Printing.{console_of};
 
@@ -17,8 +17,8 @@ use crate::streams::Streams;
 use std::alloc::Global;
 use std::io::{Read, Write};
 use tf_cli::{Action, FileOutcome, Task};
-use tf_files::{SystemFiles, Trouble, load_read_only, open_to_read};
-use tf_session::{RunFault, Session, Told, take_text};
+use tf_files::{ReadFile, Store, Trouble};
+use tf_session::{RunFault, Session, take_text};
 
 /// Does an action that changes no file on standard input, or on the file of this name.
 ///
@@ -26,21 +26,21 @@ use tf_session::{RunFault, Session, Told, take_text};
 ///
 /// `Read` for a file that can't be opened, and those of the action. One of a text is located if the
 /// task says so.
-pub fn run_read_only<R: SystemFiles, I: Read, O: Write, F: Write>(
-    rt: &R,
+pub fn run_read_only<S: Store, I: Read, O: Write, F: Write>(
+    store: &S,
     alloc: Global,
     task: &Task<'_>,
     name: &str,
     streams: &mut Streams<I, O, F>,
 ) -> Result<FileOutcome, FileError>
-    ensures { AnswersName task.now.action task.now.locate name.now result
+    ensures { AnswersName task.now.action task.now.locate name.now (S.known store.now) result
         (console_of I.remaining O.contents F.contents streams.old)
         (console_of I.remaining O.contents F.contents streams.new) }
 {
     if name == STANDARD_INPUT {
         return answer_input(alloc, task, name, streams);
     }
-    answer_file(rt, alloc, task, name, streams)
+    answer_file(store, alloc, task, name, streams)
 }
 
 /// Does a task that changes no file on the file of this name.
@@ -48,43 +48,23 @@ pub fn run_read_only<R: SystemFiles, I: Read, O: Write, F: Write>(
 /// # Errors
 ///
 /// `Read` for a file that can't be opened, and those of the task.
-fn answer_file<R: SystemFiles, I: Read, O: Write, F: Write>(
-    rt: &R,
+fn answer_file<S: Store, I: Read, O: Write, F: Write>(
+    store: &S,
     alloc: Global,
     task: &Task<'_>,
     name: &str,
     streams: &mut Streams<I, O, F>,
 ) -> Result<FileOutcome, FileError>
-    ensures answer { AnswersFile task.now.action task.now.locate name.now result
+    ensures answer { AnswersFile task.now.action task.now.locate name.now (S.known store.now) result
         (console_of I.remaining O.contents F.contents streams.old)
         (console_of I.remaining O.contents F.contents streams.new) }
     ensures input { streams.new.input ≡ streams.old.input }
 {
     if is_list(task.action) {
-        return list_file(rt, alloc, name, task.locate, streams);
+        return list_file(store, alloc, name, task.locate, streams);
     }
-    let file = match open_to_read(rt, name) {
-        Ok(file) => file,
-        Err(trouble) => return Err(FileError::from(trouble)),
-    };
-    let text = match read_whole(alloc, file) {
-        Ok(text) => text,
-        Err(fault) => return Err(FileError::from(Trouble::of_text(fault))),
-    };
+    let text = store.read_text(alloc, name)?;
     answer_text(alloc, task, name, &text, streams)
-}
-
-/// Reads the text of a reader, up to its end.
-///
-/// # Errors
-///
-/// Those of `take_text`.
-fn read_whole<T: Read + Drop>(alloc: Global, reader: T) -> Result<Vec<u8>, RunFault>
-    ensures text { IfOk result (λ text. (source : Source) × ReadsText source text.items) }
-    ensures fault { IfErr result (λ fault. (source : Source) × IsReadStreamFault fault source) }
-{
-    let mut reader = Told::new(reader);
-    take_text(alloc, &mut reader)
 }
 
 /// Returns whether the action lists the recorded commands.
@@ -173,21 +153,22 @@ fn print_answer<I: Read, O: Write, F: Write>(
 /// # Errors
 ///
 /// Those of reading both files, and of printing; `Memory`.
-fn list_file<R: SystemFiles, I: Read, O: Write, F: Write>(
-    rt: &R,
+fn list_file<S: Store, I: Read, O: Write, F: Write>(
+    store: &S,
     alloc: Global,
     name: &str,
     locate: bool,
     streams: &mut Streams<I, O, F>,
 ) -> Result<FileOutcome, FileError>
-    ensures lists { ListsRecords result
+    ensures lists { ListsFile name.now (S.known store.now) result
         (console_of I.remaining O.contents F.contents streams.old)
         (console_of I.remaining O.contents F.contents streams.new) }
     ensures input { streams.new.input ≡ streams.old.input }
 {
-    match load_read_only(rt, alloc, name) {
+    let ReadFile { text, journal } = store.read_only(alloc, name)?;
+    match Session::from_texts(alloc, text, journal) {
         Ok(session) => list_session(alloc, &session, streams),
-        Err(trouble) => Err(FileError::of_unread(trouble, locate)),
+        Err(fault) => Err(FileError::of_journal(fault, locate)),
     }
 }
 
@@ -201,7 +182,7 @@ fn list_session<I: Read, O: Write, F: Write>(
     session: &Session,
     streams: &mut Streams<I, O, F>,
 ) -> Result<FileOutcome, FileError>
-    ensures lists { ListsRecords result
+    ensures lists { ListsRecords (contents_of session.now) result
         (console_of I.remaining O.contents F.contents streams.old)
         (console_of I.remaining O.contents F.contents streams.new) }
     ensures input { streams.new.input ≡ streams.old.input }
@@ -213,8 +194,9 @@ fn list_session<I: Read, O: Write, F: Write>(
 
 /// Returns a line for each recorded command of a session.
 fn list_lines(alloc: Global, session: &Session) -> Result<String, RunFault>
-    ensures { IfOk result (λ lines. AreRecordLines (contents_of session.now) 1
+    ensures lines { IfOk result (λ lines. AreRecordLines (contents_of session.now) 1
         (records_of session.now) (string_bytes lines)) }
+    ensures memory { IfErr result (λ fault. fault ≡ RunFault.Memory) }
 {
     Ok(record_lines(alloc, session)?)
 }

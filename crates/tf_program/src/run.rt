@@ -1,12 +1,12 @@
 //! The work that the arguments ask for.
 
-ghost use Rattle.std.specs.Prelude.{◌≡◌, ℕ, List, ◌++◌, map, OnOk, OnErr, string_bytes};
+ghost use Rattle.std.specs.Prelude.{◌≡◌, ℕ, List, ◌++◌, map, None, OnOk, OnErr, string_bytes};
 ghost use Rattle.tf_cli.specs.Arguments.{all_normalized};
 ghost use Rattle.tf_cli.specs.Reading.{arguments_of};
-ghost use Rattle.tf_program.specs.Batches.{HasNext, ReportsRest, DoesFile, RunsTask, holding};
+ghost use Rattle.tf_program.specs.Inner.Entries.{HasNext, IsWaitingIn, PutsIn, progress};
 ghost use Rattle.tf_program.specs.Printing.{channel_of, console_of, IsLineEnd, PrintsAll, PrintsPart};
 ghost use Rattle.tf_program.specs.Printing.{PrintsExit, PrintsFault, PrintsHelp};
-ghost use Rattle.tf_program.specs.Runs.{Works};
+ghost use Rattle.tf_program.specs.Runs.{RunsTask, Works, world_of};
 ghost use Rattle.tf_program.specs.Work.{command_of, file_command};
 
 use crate::answer::STANDARD_INPUT;
@@ -17,16 +17,16 @@ use crate::streams::Streams;
 use std::alloc::Global;
 use std::io::{Read, Write};
 use tf_cli::{Action, CommandLine, Exit, RunOutcome, Task};
-use tf_files::SystemFiles;
+use tf_files::{Disk, Store, SystemFiles};
 use tf_session::{Command, RunFault, Told};
 
 const OUT_OF_MEMORY: &str = "tfk: out of memory\n";
 
 const CANNOT_WRITE: &str = "tfk: cannot write standard output\n";
 
-/// Does what the arguments ask for, without the name of the program, and returns the exit status: 1
-/// after any error, else 2 if an issue is left, else 3 if a file that was to be checked is not
-/// formatted, else 0. Reports are written to the output, errors to `faults`.
+/// Does what the arguments ask for, without the name of the program, on the files of the system, and
+/// returns the exit status: 1 after any error, else 2 if an issue is left, else 3 if a file that was
+/// to be checked is not formatted, else 0. Reports are written to the output, errors to `faults`.
 pub fn work<R: SystemFiles, I: Read, O: Write, F: Write>(
     rt: &R,
     alloc: Global,
@@ -34,29 +34,43 @@ pub fn work<R: SystemFiles, I: Read, O: Write, F: Write>(
     streams: &mut Streams<I, O, F>,
 ) -> u8
     ensures { Works (all_normalized (map string_bytes words.now)) result
-        (console_of I.remaining O.contents F.contents streams.old)
-        (console_of I.remaining O.contents F.contents streams.new) }
+        (world_of None (console_of I.remaining O.contents F.contents streams.old))
+        (world_of None (console_of I.remaining O.contents F.contents streams.new)) }
+{
+    work_in(&mut Disk::new(rt), alloc, words, streams)
+}
+
+/// Does what the arguments ask for on the files of a store, as [`work`] does on those of the system.
+pub fn work_in<S: Store, I: Read, O: Write, F: Write>(
+    store: &mut S,
+    alloc: Global,
+    words: &[String],
+    streams: &mut Streams<I, O, F>,
+) -> u8
+    ensures { Works (all_normalized (map string_bytes words.now)) result
+        (world_of (S.known store.old) (console_of I.remaining O.contents F.contents streams.old))
+        (world_of (S.known store.new) (console_of I.remaining O.contents F.contents streams.new)) }
 {
     match CommandLine::new(alloc, words) {
-        Ok(line) => run_command_line(rt, alloc, &line, streams),
+        Ok(line) => run_command_line(store, alloc, &line, streams),
         Err(_) => exit_with_fault(OUT_OF_MEMORY, streams),
     }
 }
 
 /// Does the task of a command line, or prints why there is none, and returns the exit status. For
 /// the proof: the command line is lent to a function that has its ways out.
-fn run_command_line<R: SystemFiles, I: Read, O: Write, F: Write>(
-    rt: &R,
+fn run_command_line<S: Store, I: Read, O: Write, F: Write>(
+    store: &mut S,
     alloc: Global,
     line: &CommandLine<'_>,
     streams: &mut Streams<I, O, F>,
 ) -> u8
     ensures { Works (arguments_of line.now) result
-        (console_of I.remaining O.contents F.contents streams.old)
-        (console_of I.remaining O.contents F.contents streams.new) }
+        (world_of (S.known store.old) (console_of I.remaining O.contents F.contents streams.old))
+        (world_of (S.known store.new) (console_of I.remaining O.contents F.contents streams.new)) }
 {
     match line.task(alloc) {
-        Ok(task) => run_task(rt, alloc, &task, streams).status(),
+        Ok(task) => run_task(store, alloc, &task, streams).status(),
         Err(stop) => exit_with(&stop, streams),
     }
 }
@@ -122,46 +136,49 @@ fn line_end(text: &str) -> &'static str
 
 /// Does a task on one file after another, in the order given; an error on one does not stop the
 /// next. A file that changes may be saved after the next is read.
-fn run_task<R: SystemFiles, I: Read, O: Write, F: Write>(
-    rt: &R,
+fn run_task<S: Store, I: Read, O: Write, F: Write>(
+    store: &mut S,
     alloc: Global,
     task: &Task<'_>,
     streams: &mut Streams<I, O, F>,
 ) -> RunOutcome
     ensures left { result.left ≡ 0 }
-    ensures runs { RunsTask task.now.action task.now.locate task.now.files.items result
-        (console_of I.remaining O.contents F.contents streams.old)
-        (console_of I.remaining O.contents F.contents streams.new) }
+    ensures runs { RunsTask task.now result
+        (world_of (S.known store.old) (console_of I.remaining O.contents F.contents streams.old))
+        (world_of (S.known store.new) (console_of I.remaining O.contents F.contents streams.new)) }
 {
     let mut batch = Batch::new(alloc, task);
     for name in &task.files {
-        run_on_file(rt, alloc, task, name, &mut batch, streams);
+        run_on_file(store, alloc, task, name, &mut batch, streams);
     }
-    batch.finish(rt, streams);
+    batch.finish(store, streams);
     batch.outcome
 }
 
 /// Does a task on one file.
-fn run_on_file<'a, R: SystemFiles, I: Read, O: Write, F: Write>(
-    rt: &R,
+fn run_on_file<'a, S: Store, I: Read, O: Write, F: Write>(
+    store: &mut S,
     alloc: Global,
     task: &Task<'_>,
     name: &'a str,
-    batch: &mut Batch<'a>,
+    batch: &mut Batch<'a, S::Place>,
     streams: &mut Streams<I, O, F>,
 )
-    requires { HasNext batch.old }
-    ensures reported { ReportsRest 1 batch.old batch.new }
-    ensures does { batch.old.locate ≡ task.now.locate
-        → DoesFile task.now.action task.now.locate name.now
-        (holding batch.old (console_of I.remaining O.contents F.contents streams.old))
-        (holding batch.new (console_of I.remaining O.contents F.contents streams.new)) }
-    ensures locate { batch.new.locate ≡ batch.old.locate }
+    requires next { HasNext batch.old }
+    requires action { batch.old.action ≡ task.now.action }
+    requires locate { batch.old.locate ≡ task.now.locate }
+    requires waiting { IsWaitingIn S.spot batch.old (S.known store.old) }
+    ensures { PutsIn S.spot name.entry batch.old
+        (progress batch.old (console_of I.remaining O.contents F.contents streams.old)
+        (S.known store.old)) batch.new
+        (progress batch.new (console_of I.remaining O.contents F.contents streams.new)
+        (S.known store.new)) }
 {
     match file_command(task.action, name) {
-        Some(command) => batch.change(rt, command, name, streams),
+        Some(command) => batch.change(store, command, name, streams),
         None => {
-            let met = run_read_only(rt, alloc, task, name, streams);
+            batch.finish(store, streams);
+            let met = run_read_only(store, alloc, task, name, streams);
             batch.note(name, met, streams);
         }
     }

@@ -1,25 +1,21 @@
--- One entry more shares no file; or it shares one, and so not all are apart.
-use Rattle.std.proofs.Common.{◌∙◌, List, take, refl, rules, subst, sym}
+-- One entry more shares nothing; or it may share something, and the answer is no.
+use Rattle.std.proofs.Common.{List, refl, rules, subst, sym, take}
 use Rattle.std.proofs.lemmas.Bool.{false≢true}
 use Rattle.std.proofs.lemmas.List.{take_all}
 use Rattle.tf_program.specs.declared.batch.Entry.{Entry}
-use Rattle.tf_program.specs.Batches.{NoneMayShare}
-use Rattle.tf_program.proofs.Holding.{taken_item}
-use Rattle.tf_program.proofs.Waiting.{one_more_apart, one_apart}
+use Rattle.tf_program.specs.Inner.Entries.{ArePlacedApart}
+use Rattle.tf_program.proofs.Keeping.{placed_one_more, taken_entry}
 use Rattle.tf_program.proofs.batch.none_may_share.Goals as goal
 
 pub loop-entry-preserved : goal.loop-entry-preserved
-loop-entry-preserved c =
-    let more = taken_item c.args.entries.now c.loop-entry.entry-index c.entry-item.result c.loop-entry-test.true c.entry-item.is in
+loop-entry-preserved g c =
     let before = take c.loop-entry.entry-index c.args.entries.now in
-    rw more (one_more_apart before c.entry-item.result c.args.found.now c.loop-entry.invariant (λ shares. false≢true (sym c.if-shares.false ∙ c.shares.ensures.1 shares)))
+    rw (taken_entry c.args.entries.now c.loop-entry.entry-index c.entry-item.result c.loop-entry-test.true c.entry-item.is)
+    (placed_one_more _ _ _ before c.entry-item.result c.loop-entry.invariant (c.may_share.ensures c.if-may_share.false))
 
-pub returns-then-shares : goal.returns-then-shares
-returns-then-shares c =
-    let other = one_apart c.args.entries.now c.loop-entry.entry-index c.entry-item.result c.args.found.now c.loop-entry-test.true c.entry-item.is in
-    (λ off. absurd (false≢true off), λ apart. absurd (other apart (c.shares.ensures.0 c.if-shares.true)))
+pub returns-then-may_share : goal.returns-then-may_share
+returns-then-may_share g c = λ off. absurd (false≢true off)
 
 pub returns : goal.returns
-returns c =
-    let all = take_all c.loop-entry.entry-index c.args.entries.now (search rules) in
-    (λ _. subst (λ (es : List Entry). NoneMayShare es c.args.found.now) all c.loop-entry.invariant, λ _. refl)
+returns g c =
+    λ _. rw (sym (take_all c.loop-entry.entry-index c.args.entries.now (search rules))) c.loop-entry.invariant

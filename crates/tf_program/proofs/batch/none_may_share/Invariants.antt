@@ -1,7 +1,8 @@
--- None of the entries up to here shares a file.
+-- None of the entries up to here may share anything.
 use Rattle.std.proofs.Common.{take}
-use Rattle.tf_program.specs.Batches.{NoneMayShare}
+use Rattle.tf_program.specs.Inner.Entries.{ArePlacedApart}
 use Rattle.tf_program.proofs.batch.none_may_share.Given as goal
 
 abbrev pub invariant-loop-entry : goal.invariant-loop-entry
-invariant-loop-entry l = NoneMayShare (take l.entry-index l.entries) l.found
+invariant-loop-entry g l =
+    ArePlacedApart g.S.Store.spot (g.S.Store.known l.store) (take l.entry-index l.entries) l.other

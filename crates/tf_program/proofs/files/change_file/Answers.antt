@@ -1,23 +1,13 @@
--- The file at these paths has this name.
-use Rattle.std.proofs.Common.{◌≡◌, ◌∙◌, Err, None, ap, inl, refl, rules, string_bytes}
-use Rattle.tf_files.specs.declared.file_paths.FilePaths.{FilePaths}
-use Rattle.tf_program.proofs.Naming.{made_of, not_made_of}
+-- What the command makes of the file that was found and read.
+use Rattle.std.proofs.Common.{Result, Ok, subst}
+use Rattle.tf_files.specs.Stores.{contents_read}
+use Rattle.tf_files.specs.declared.cause.Trouble.{Trouble}
+use Rattle.tf_program.specs.Inner.Entries.{IsFoundIn}
+use Rattle.tf_program.proofs.Making.{made_of_read}
 use Rattle.tf_program.proofs.files.change_file.Goals as goal
-
-pub returns-in_err-file-clause-fault : goal.returns-in_err-file-clause-fault
-returns-in_err-file-clause-fault g c =
-    let trouble = c.in_err-file.field-0.0 in
-    let answer : c.from_residual-in_err-file.result ≡ Err (record { fault = trouble.fault; location = None; explained = None; cause = trouble.cause; hint = None }) = search rules in
-    rw answer (inl (c.in_err-file.ensures.fault, refl))
 
 pub returns-clause-made : goal.returns-clause-made
 returns-clause-made g c =
-    let found : string_bytes c.in_ok-paths.field-0.name ≡ c.args.name.now = search rules in
-    let name = ap (λ (paths : FilePaths). string_bytes paths.name) c.in_ok-file.ensures.paths ∙ found in
-    made_of c.args.command _ c.in_ok-file.file _ name c.change_opened.ensures.made
-
-pub returns-clause-fault : goal.returns-clause-fault
-returns-clause-fault g c =
-    let found : string_bytes c.in_ok-paths.field-0.name ≡ c.args.name.now = search rules in
-    let name = ap (λ (paths : FilePaths). string_bytes paths.name) c.in_ok-file.ensures.paths ∙ found in
-    not_made_of c.args.command _ c.args.locate c.in_ok-file.file _ name c.change_opened.ensures.fault c.change_opened.ensures.location
+    let found : IsFoundIn g.S.Store.spot (g.S.Store.known c.args.store.now) c.args.name.now (Ok c.in_ok-place.place) =
+    subst (λ (p : Result g.row.S-Place.Denot Trouble). IsFoundIn g.S.Store.spot (g.S.Store.known c.args.store.now) c.args.name.now p) c.in_ok-place.was c.requires in
+    made_of_read _ _ _ _ _ c.in_ok-place.place c.read.new.place (contents_read c.in_ok-read.read) c.change_read.result found.0 c.read.ensures.place c.in_ok-read.ensures.contents c.change_read.ensures

@@ -1,8 +1,7 @@
--- The action was done on the text of the file.
-use Rattle.std.proofs.Common.{◌∙◌, sym}
-use Rattle.tf_program.proofs.Answering.{answered}
+-- The action was done on the text of the file, or on its records.
+use Rattle.std.proofs.Common.{◌≡◌, ◌∙◌, Err, None, refl, rules, sym}
+use Rattle.tf_program.proofs.Answering.{answered, unanswered, listed}
 use Rattle.tf_program.proofs.read_only.answer_file.Goals as goal
 
-pub returns-clause-answer : goal.returns-clause-answer
-returns-clause-answer g c =
-    answered c.args.task.now.action c.args.task.now.locate c.args.name.now c.answer_text.result c.in-Ok-read_whole.ensures.text.0 c.in-Ok-read_whole.text.items _ _ _ (sym c.is_list.ensures ∙ c.if-is_list.false) c.in-Ok-read_whole.ensures.text.1 c.deref.ensures.value c.answer_text.ensures.answer
+pub returns-then-is_list-clause-answer : goal.returns-then-is_list-clause-answer
+returns-then-is_list-clause-answer g c = listed _ _ _ _ _ _ _ (sym c.is_list.ensures ∙ c.if-is_list.true) c.list_file.ensures.lists

@@ -1,19 +1,24 @@
 -- The lines of the records were printed, as far as no call failed.
-use Rattle.std.proofs.Common.{◌≡◌, Err, None, inr, refl, rules}
+use Rattle.std.proofs.Common.{◌≡◌, Err, None, inl, inr, refl, rules}
 use Rattle.std.specs.Prelude.{string_bytes}
-use Rattle.tf_session.specs.Session.{contents_of}
 use Rattle.tf_program.specs.Printing.{channel_of}
 use Rattle.tf_program.proofs.PrintedParts.{prints_here, fails_here}
 use Rattle.tf_program.proofs.read_only.list_session.Goals as goal
+
+pub returns-in_err-lines-clause-lists : goal.returns-in_err-lines-clause-lists
+returns-in_err-lines-clause-lists g c =
+    let fault = c.in_err-lines.field-0.0 in
+    let answer : c.from_residual.result ≡ Err (record { fault = fault; location = None; explained = None; cause = None; hint = None }) = search rules in
+    rw answer (refl, refl, inl (c.in_err-lines.ensures.memory, refl))
 
 pub returns-in_err-print-clause-lists : goal.returns-in_err-print-clause-lists
 returns-in_err-print-clause-lists g c =
     let fault = c.in_err-print.field-0.0 in
     let answer : c.from_residual-in_err-print.result ≡ Err (record { fault = fault; location = None; explained = None; cause = None; hint = None }) = search rules in
     let lines = string_bytes c.in_ok-lines.lines in
-    rw answer (refl, refl, inr (contents_of c.args.session.now, lines, c.in_ok-lines.ensures, fails_here lines c.as_bytes.result.now fault (channel_of g.O.Write.contents c.args.streams.now.output) (channel_of g.O.Write.contents c.print.new.stream) (search rules) c.in_err-print.ensures.fault))
+    rw answer (refl, refl, inr (lines, c.in_ok-lines.ensures.lines, fails_here lines c.as_bytes.result.now fault (channel_of g.O.Write.contents c.args.streams.now.output) (channel_of g.O.Write.contents c.print.new.stream) (search rules) c.in_err-print.ensures.fault))
 
 pub returns-clause-lists : goal.returns-clause-lists
 returns-clause-lists g c =
     let lines = string_bytes c.in_ok-lines.lines in
-    (refl, contents_of c.args.session.now, lines, c.in_ok-lines.ensures, prints_here lines _ _ _ (search rules) c.in_ok-print.ensures.done, refl)
+    (refl, lines, c.in_ok-lines.ensures.lines, prints_here lines _ _ _ (search rules) c.in_ok-print.ensures.done, refl)

@@ -1,5 +1,5 @@
 -- What was done on the task; or what was printed of the reason why there is none.
-use Rattle.std.proofs.Common.{inl, inr}
+use Rattle.std.proofs.Common.{inl, inr, refl}
 use Rattle.tf_program.proofs.run.run_command_line.Goals as goal
 
 pub returns-in-Ok : goal.returns-in-Ok
@@ -12,4 +12,4 @@ returns-in-Ok g c =
     )
 
 pub returns-in-Err : goal.returns-in-Err
-returns-in-Err g c = inr (c.in-Err.stop, c.in-Err.ensures.fault, c.exit_with.ensures)
+returns-in-Err g c = inr (c.in-Err.stop, c.in-Err.ensures.fault, c.exit_with.ensures, refl)

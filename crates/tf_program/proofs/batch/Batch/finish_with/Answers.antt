@@ -1,7 +1,9 @@
--- The entry is reported after all that was held.
-use Rattle.tf_program.proofs.Holding.{last_reported}
+-- The entry is done after all that was held.
+use Rattle.tf_program.proofs.Holding.{entry_then, finished_one}
 use Rattle.tf_program.proofs.batch.Batch.finish_with.Goals as goal
 
-pub returns-clause-notes : goal.returns-clause-notes
-returns-clause-notes g c =
-    last_reported _ _ _ _ _ _ _ _ _ c.finish.ensures.locate c.finish.ensures.notes c.finish.ensures.entries c.finish_entry.ensures.entries c.finish_entry.ensures.noted
+pub finish_entry-requires-clause-made : goal.finish_entry-requires-clause-made
+finish_entry-requires-clause-made g c = entry_then _ c.args.next.now _ _ _ _ c.finish.ensures.step c.requires.apart c.requires.made
+
+pub returns : goal.returns
+returns g c = finished_one _ _ _ _ _ _ _ _ c.finish.ensures.step c.finish.ensures.none c.finish_entry.ensures.same c.finish_entry.ensures.does
