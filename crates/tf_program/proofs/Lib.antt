@@ -6,6 +6,7 @@ pub mod Listing
 pub mod Locating
 pub mod Making
 pub mod PrintedParts
+pub mod ProgramRuns
 pub mod Refusing
 pub mod Reporting
 pub mod Running

@@ -5,4 +5,5 @@ pub mod Answers
 pub mod Work
 pub mod Tasks
 pub mod Runs
+pub mod ProgramRuns
 pub mod Inner

@@ -6,6 +6,7 @@ mod batch;
 mod file_error;
 mod files;
 mod hint;
+pub mod laws;
 mod location;
 mod printing;
 mod read_only;
