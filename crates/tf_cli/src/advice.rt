@@ -1,7 +1,7 @@
 //! What is said before clap's text on arguments that it refuses. clap's tip is to take an unknown
 //! option for a FILE, and a FILE in a command's place for another command: then it is left out.
 
-use crate::counterparts::{Place, SEVERAL, SEVERAL_LISTS, line_of};
+use crate::counterparts::{Place, SEVERAL, SEVERAL_LISTS, folders_line_of, line_of};
 use crate::options::{Flag, Subcommand};
 use clap::error::ErrorKind;
 
@@ -20,6 +20,11 @@ const NAME: &str =
 
 const ALL_LISTED: &str = "revert takes one FILE; tfk revert --list -- FILE lists all its commands";
 
+const LIST_OR_TAKE: &str =
+    "revert takes one FILE, and --list or --take N, not both; see tfk revert --help";
+
+const AFTER_RULES: &str = "name the files after the rules: -- FILE; see tfk lint --help";
+
 const NO_COMMAND: &str =
     "name a command first: tfk fmt -- FILE formats, tfk lint -- FILE lints; see tfk --help";
 
@@ -35,6 +40,10 @@ pub enum Advice<'a> {
     TakenForRule { file: &'a str, option: &'a str },
     /// The number of a command, beside FILE.
     Number(&'a str),
+    /// No FILE after this number of `--take`.
+    NoFile(&'a str),
+    /// Several FILEs after this number of `--take`.
+    Several(&'a str),
     Line(&'static str),
 }
 
@@ -70,31 +79,85 @@ fn command_at(args: &[&str], at: usize) -> Option<Subcommand> {
     }
 }
 
-/// Returns the command that is typed after the first option, or after its value. If both name one
-/// it is unknown which is meant, and there is none.
-fn command_after_option(args: &[&str]) -> Option<Subcommand> {
+/// Returns where the command may be that is typed after the first option, or after its value. If
+/// both name one it is unknown which is meant: then it returns 0, where none is.
+fn command_index(args: &[&str]) -> usize {
     match command_at(args, 2) {
-        Some(subcommand) if command_at(args, 3).is_none() => Some(subcommand),
-        Some(_) => None,
-        None => command_at(args, 3),
+        Some(_) if command_at(args, 3).is_none() => 2,
+        Some(_) => 0,
+        None => 3,
     }
 }
 
 /// Returns where options of a command are given.
 fn place_of(subcommand: Subcommand, args: &[&str]) -> Place {
     match subcommand {
-        Subcommand::Fmt if args.contains(&"--check") || args.contains(&"-check") => Place::Check,
+        Subcommand::Fmt if is_given(args, "--check") || is_given(args, "-check") => Place::Check,
         Subcommand::Fmt => Place::Fmt,
         Subcommand::Lint => Place::Lint,
         Subcommand::Fix => Place::Fix,
-        Subcommand::Revert if is_list(args) => Place::List,
+        Subcommand::Revert if is_given(args, "--list") || is_given(args, "-list") => Place::List,
+        Subcommand::Revert if has_take(args) => Place::Take,
         Subcommand::Revert => Place::Revert,
     }
 }
 
-/// Returns whether `revert` is to list commands.
-fn is_list(args: &[&str]) -> bool {
-    args.contains(&"--list") || args.contains(&"-list")
+/// Returns whether a word is an argument before `--`, after which each is a FILE.
+fn is_given(args: &[&str], word: &str) -> bool {
+    for arg in args {
+        if *arg == "--" {
+            return false;
+        }
+        if *arg == word {
+            return true;
+        }
+    }
+    false
+}
+
+/// Returns whether `revert` is to undo the command of a number.
+fn has_take(args: &[&str]) -> bool {
+    for arg in args {
+        if *arg == "--" {
+            return false;
+        }
+        if is_take(option_word(arg)) {
+            return true;
+        }
+    }
+    false
+}
+
+/// Returns whether a word is the option with the number of a command.
+fn is_take(word: &str) -> bool {
+    word == "--take" || word == "-take"
+}
+
+/// Returns an option without its value.
+fn option_word(arg: &str) -> &str {
+    match arg.split_once('=') {
+        Some(parts) => parts.0,
+        None => arg,
+    }
+}
+
+/// Returns the number of `--take`, or `N` if digits are not what follows it.
+fn taken_number<'a>(args: &[&'a str]) -> &'a str {
+    let mut last: &'a str = "";
+    for arg in args {
+        if *arg == "--" {
+            return "N";
+        }
+        let (option, number) = match arg.split_once('=') {
+            Some(parts) => parts,
+            None => (last, *arg),
+        };
+        if is_take(option) && is_number(number) {
+            return number;
+        }
+        last = *arg;
+    }
+    "N"
 }
 
 /// Returns whether a word is a name of a file rather than one of a command or of a rule.
@@ -107,8 +170,12 @@ fn advice_on_missing<'a>(args: &[&'a str]) -> Option<Advice<'a>> {
     if let Some(advice) = advice_on_taken_file(args) {
         return Some(advice);
     }
-    let line = line_on_missing(args)?;
-    Some(Advice::Line(line))
+    let subcommand = command_at(args, 1)?;
+    match place_of(subcommand, args) {
+        Place::Take => Some(Advice::NoFile(taken_number(args))),
+        Place::List if has_take(args) => Some(Advice::Line(LIST_OR_TAKE)),
+        place => Some(Advice::Line(line_on_missing(place, args))),
+    }
 }
 
 /// Returns what is said of a FILE that is the value of an option, which is a rule.
@@ -119,7 +186,7 @@ fn advice_on_taken_file<'a>(args: &[&'a str]) -> Option<Advice<'a>> {
             Some(parts) => parts,
             None => (last, *arg),
         };
-        if (option == "--disable-rule" || option == "--enable-rule") && is_like_file(file) {
+        if is_rule_option(option) && is_like_file(file) {
             return Some(Advice::TakenForRule { file, option });
         }
         last = *arg;
@@ -128,16 +195,25 @@ fn advice_on_taken_file<'a>(args: &[&'a str]) -> Option<Advice<'a>> {
 }
 
 /// Returns the line for a command with no FILE; it writes no file if the arguments write none.
-fn line_on_missing(args: &[&str]) -> Option<&'static str> {
-    let subcommand = command_at(args, 1)?;
-    let line = match place_of(subcommand, args) {
+fn line_on_missing(place: Place, args: &[&str]) -> &'static str {
+    match place {
         Place::Check => "name the files: tfk fmt --check -- *.tf; see tfk fmt --help",
         Place::Fmt => "name the files: tfk fmt -- *.tf; see tfk fmt --help",
+        Place::Lint | Place::Fix if has_rules(args) => AFTER_RULES,
         Place::Lint => "name the files: tfk lint -- *.tf; see tfk lint --help",
         Place::Fix => "name the files: tfk fix -- *.tf; see tfk fix --help",
         _ => "name the file: tfk revert --list -- FILE lists its commands; see tfk revert --help",
-    };
-    Some(line)
+    }
+}
+
+/// Returns whether an argument enables or disables a rule.
+fn has_rules(args: &[&str]) -> bool {
+    args.iter().any(|arg| is_rule_option(option_word(arg)))
+}
+
+/// Returns whether a word is an option that has a rule.
+fn is_rule_option(word: &str) -> bool {
+    word == "--disable-rule" || word == "--enable-rule"
 }
 
 /// Returns what is said of a word that is no command: one of another program, a FILE, or any other
@@ -176,44 +252,89 @@ fn advice_on_unknown<'a>(text: &str, args: &[&'a str]) -> Option<Advice<'a>> {
 /// Returns what is said of the first argument, which clap refuses if it is an option.
 fn advice_on_start<'a>(args: &[&'a str]) -> Option<Advice<'a>> {
     let option = *args.get(1)?;
-    match command_after_option(args) {
-        Some(subcommand) => match advice_on_option(place_of(subcommand, args), option) {
+    let at = command_index(args);
+    match command_at(args, at) {
+        Some(subcommand) => match advice_on_option(place_of(subcommand, args), option, args, at) {
             Some(advice) => Some(advice),
-            None => advice_on_option(Place::Start, option),
+            None => advice_on_option(Place::Start, option, args, 0),
         },
-        None => advice_on_option(Place::Start, option),
+        None => advice_on_option(Place::Start, option, args, 0),
     }
 }
 
 /// Returns what is said of an argument that `revert` doesn't take: a FILE more, a number below 0.
 fn advice_on_revert<'a>(text: &str, args: &[&'a str]) -> Option<Advice<'a>> {
     let argument = text.strip_prefix(UNKNOWN_ARGUMENT)?;
+    let is_option = argument.starts_with('-') && has_unknown_option(args);
     match argument.as_bytes() {
-        [b'-', b'0'..=b'9', ..] => Some(Advice::Line(NUMBER)),
-        [b'-', ..] => None,
+        [b'-', b'0'..=b'9', ..] if is_option => Some(Advice::Line(NUMBER)),
+        _ if is_option => None,
         _ => match advice_on_numbers(args) {
             Some(advice) => Some(advice),
-            None if is_list(args) => Some(Advice::Line(SEVERAL_LISTS)),
-            None => Some(Advice::Line(SEVERAL)),
+            None => Some(advice_on_files(args)),
         },
+    }
+}
+
+/// Returns whether an argument before `--` begins with a dash and is no option of `revert`. If none
+/// does, clap has refused a FILE.
+fn has_unknown_option(args: &[&str]) -> bool {
+    for arg in args {
+        if *arg == "--" {
+            return false;
+        }
+        if arg.starts_with('-') && !is_option_of(Subcommand::Revert, option_word(arg)) {
+            return true;
+        }
+    }
+    false
+}
+
+/// Returns whether a word is an option of this command.
+fn is_option_of(subcommand: Subcommand, word: &str) -> bool {
+    for flag in Flag::ALL {
+        if flag.is_of(subcommand) && word.strip_prefix("--") == Some(flag.name()) {
+            return true;
+        }
+    }
+    false
+}
+
+/// Returns what is said of several FILEs of `revert`. It names none of them, since a shell may read
+/// more in a name than the name.
+fn advice_on_files<'a>(args: &[&'a str]) -> Advice<'a> {
+    match place_of(Subcommand::Revert, args) {
+        Place::List if has_take(args) => Advice::Line(LIST_OR_TAKE),
+        Place::List => Advice::Line(SEVERAL_LISTS),
+        Place::Take => Advice::Several(taken_number(args)),
+        _ => Advice::Line(SEVERAL),
     }
 }
 
 /// Returns what is said of the first of these that may be the number or the name of a command that
 /// is to be reverted; none with `--take`, which is followed by one.
 fn advice_on_numbers<'a>(args: &[&'a str]) -> Option<Advice<'a>> {
-    if args.contains(&"--take") {
+    if has_take(args) {
         return None;
     }
+    let is_list = is_given(args, "--list");
     for arg in args {
         match Subcommand::by_name(arg) {
             Some(Subcommand::Fmt | Subcommand::Fix) => return Some(Advice::Line(NAME)),
-            _ if is_number(arg) && is_list(args) => return Some(Advice::Line(ALL_LISTED)),
-            _ if is_number(arg) => return Some(Advice::Number(*arg)),
+            _ if is_number(arg) && is_list => return Some(Advice::Line(ALL_LISTED)),
+            _ if is_number(arg) && is_number_with_file(args) => return Some(Advice::Number(*arg)),
             _ => {}
         }
     }
     None
+}
+
+/// Returns whether `revert` is given a number and a FILE, and nothing else.
+fn is_number_with_file(args: &[&str]) -> bool {
+    match args {
+        [_, _, first, second] => is_number(first) != is_number(second),
+        _ => false,
+    }
 }
 
 /// Returns whether a word is digits alone.
@@ -229,7 +350,7 @@ fn advice_on_options<'a>(subcommand: Subcommand, args: &[&'a str]) -> Option<Adv
         if *arg == "--" {
             return None;
         }
-        if let Some(advice) = advice_on_option(place, *arg) {
+        if let Some(advice) = advice_on_option(place, *arg, args, 1) {
             return Some(advice);
         }
         if let Some(advice) = advice_on_one_dash(subcommand, *arg) {
@@ -241,10 +362,7 @@ fn advice_on_options<'a>(subcommand: Subcommand, args: &[&'a str]) -> Option<Adv
 
 /// Returns what is said of an option of this command with one dash, with its value or without.
 fn advice_on_one_dash<'a>(subcommand: Subcommand, arg: &'a str) -> Option<Advice<'a>> {
-    let word = match arg.split_once('=') {
-        Some(parts) => parts.0,
-        None => arg,
-    };
+    let word = option_word(arg);
     let name = word.strip_prefix('-')?;
     for flag in Flag::ALL {
         if flag.is_of(subcommand) && name == flag.name() {
@@ -257,8 +375,17 @@ fn advice_on_one_dash<'a>(subcommand: Subcommand, arg: &'a str) -> Option<Advice
     None
 }
 
-/// Returns what is said of an option, with its value or without.
-fn advice_on_option<'a>(place: Place, arg: &'a str) -> Option<Advice<'a>> {
+/// Returns what is said of an option, with its value or without, among arguments of which that at
+/// `command` is the command; 0 if there is none.
+fn advice_on_option<'a>(
+    place: Place,
+    arg: &'a str,
+    args: &[&'a str],
+    command: usize,
+) -> Option<Advice<'a>> {
+    if let Some(line) = line_for_folders(place, arg, args, command) {
+        return Some(Advice::Unknown { word: arg, line });
+    }
     let name = option_name(arg)?;
     match advice_on_word(place, arg, name) {
         Some(advice) => Some(advice),
@@ -267,6 +394,35 @@ fn advice_on_option<'a>(place: Place, arg: &'a str) -> Option<Advice<'a>> {
             advice_on_word(place, option, option_name(option)?)
         }
     }
+}
+
+/// Returns the line with the command for all files that git tracks, if the option is for folders and
+/// no argument but the command and `--check` chooses what is done.
+fn line_for_folders(
+    place: Place,
+    arg: &str,
+    args: &[&str],
+    command: usize,
+) -> Option<&'static str> {
+    let name = option_name(arg)?;
+    let line = folders_line_of(place, name)?;
+    if is_for_all(arg, args, command) {
+        Some(line)
+    } else {
+        None
+    }
+}
+
+/// Returns whether the arguments are this option, the command, the current folder and `--check`
+/// alone. The first is the name of the program.
+fn is_for_all(option: &str, args: &[&str], command: usize) -> bool {
+    for i in 1..args.len() {
+        let arg = args[i];
+        if i != command && arg != option && !matches!(arg, "." | "--check" | "-check") {
+            return false;
+        }
+    }
+    true
 }
 
 /// Returns an option without the dash or two that it begins with; none if it begins with none.

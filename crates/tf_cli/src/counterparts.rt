@@ -1,6 +1,8 @@
 //! Tables of the options and commands of other programs, and of options of tfk that are written
 //! otherwise, with what there is in their place.
 
+use crate::tracked::on_tracked_files;
+
 /// Where a word is given.
 #[derive(Clone, Copy, PartialEq)]
 pub enum Place {
@@ -17,6 +19,8 @@ pub enum Place {
     Check,
     /// An option of `revert --list`, which reads FILE alone.
     List,
+    /// An option of `revert --take`, which undoes one command.
+    Take,
 }
 
 /// A row of a table.
@@ -44,6 +48,7 @@ const ANY: &[Place] = &[
     Place::Lint,
     Place::Fix,
     Place::Revert,
+    Place::Take,
     Place::List,
 ];
 
@@ -54,6 +59,7 @@ const COMMANDS: &[Place] = &[
     Place::Lint,
     Place::Fix,
     Place::Revert,
+    Place::Take,
     Place::List,
 ];
 
@@ -71,14 +77,38 @@ const FORMATTER: &[Place] = &[Place::Start, Place::Fmt, Place::Check];
 /// The options of TFLint, and of other linters.
 const LINTER: &[Place] = &[Place::Start, Place::Lint, Place::Fix];
 
-const REVERT: &[Place] = &[Place::Revert, Place::List];
+const REVERT: &[Place] = &[Place::Revert, Place::Take, Place::List];
+
+/// The options of `revert` that undoes a command.
+const UNDO: &[Place] = &[Place::Revert, Place::Take];
+
+/// Options for folders.
+const FOLDERS: &[&str] = &["recursive", "r", "R", "all"];
 
 /// What `revert` takes, and how it is run for several files.
-pub const SEVERAL: &str =
-    "revert takes one FILE; for several: for f in *.tf; do tfk revert -- \"$f\"; done";
+pub const SEVERAL: &str = "revert takes one FILE; for several, one at a time: tfk revert -- FILE";
 
 pub const SEVERAL_LISTS: &str =
-    "revert takes one FILE; for several: for f in *.tf; do tfk revert --list -- \"$f\"; done";
+    "revert takes one FILE; for several, one at a time: tfk revert --list -- FILE";
+
+const ONE_FILE: &str = "revert takes one FILE; see tfk revert --help";
+
+/// Makes the line of an option for folders, which ends in this command.
+macro_rules! for_folders {
+    ($command:literal) => {
+        on_tracked_files!(
+            "folders are not searched; for the files that git tracks: ",
+            " ",
+            $command
+        )
+    };
+}
+
+/// Returns what is said after this option for folders at a place, if nothing else is given that
+/// chooses what is done; none if no row has it.
+pub fn folders_line_of(place: Place, word: &str) -> Option<&'static str> {
+    line_in(tracked_rows(), place, word)
+}
 
 /// Returns what is said after this word at a place; none if no row has it.
 pub fn line_of(place: Place, word: &str) -> Option<&'static str> {
@@ -117,6 +147,10 @@ fn format_rows() -> &'static [Counterpart] {
     FORMAT_ROWS
 }
 
+fn tracked_rows() -> &'static [Counterpart] {
+    TRACKED_ROWS
+}
+
 fn folder_rows() -> &'static [Counterpart] {
     FOLDER_ROWS
 }
@@ -149,8 +183,10 @@ fn command_rows() -> &'static [Counterpart] {
     COMMAND_ROWS
 }
 
-// The tables. At each place a word is in one row at most, of all tables. If the arguments are to
-// read FILE alone, no line names a command that writes it, except that of `lint --fix`.
+// The tables. At each place a word is in one row at most, of all tables but that of tracked files.
+// If the arguments are to read FILE alone, no line names a command that writes it, except that of
+// `lint --fix`. A line that changes files if it is pasted has all that the arguments choose: FILEs,
+// rules and the command to undo. If they are not in it, it names the help.
 
 /// The options of `terraform fmt`, gofmt, prettier and black.
 const FORMAT_ROWS: &[Counterpart] = &[
@@ -226,61 +262,76 @@ const FORMAT_ROWS: &[Counterpart] = &[
     },
 ];
 
-/// Options for folders, and for what is left out of them.
+/// Options for folders: the line for all files that git tracks.
+const TRACKED_ROWS: &[Counterpart] = &[
+    Counterpart {
+        words: FOLDERS,
+        places: &[Place::Start],
+        line: on_tracked_files!(
+            "folders are not searched, and a command comes first: ",
+            " ",
+            "lint --"
+        ),
+    },
+    Counterpart {
+        words: FOLDERS,
+        places: &[Place::Fmt],
+        line: for_folders!("fmt --"),
+    },
+    Counterpart {
+        words: FOLDERS,
+        places: &[Place::Check],
+        line: for_folders!("fmt --check --"),
+    },
+    Counterpart {
+        words: FOLDERS,
+        places: &[Place::Lint],
+        line: for_folders!("lint --"),
+    },
+    Counterpart {
+        words: FOLDERS,
+        places: &[Place::Fix],
+        line: for_folders!("fix --"),
+    },
+];
+
+/// Options for folders, if more is given, and for what is left out of them.
 const FOLDER_ROWS: &[Counterpart] = &[
     Counterpart {
-        words: &["recursive", "r", "R", "all"],
-        places: &[Place::Start],
-        line: "folders are not searched, and a command comes first: \
-            git ls-files -z '*.tf' '*.tfvars' | xargs -0 -r tfk lint --",
+        words: FOLDERS,
+        places: &[Place::Fmt, Place::Check],
+        line: "folders are not searched; \
+            tfk fmt --help has a line for the files of a folder that git tracks",
     },
     Counterpart {
-        words: &["recursive", "r", "R", "all"],
-        places: &[Place::Fmt],
-        line: "folders are not searched; for the files that git tracks: \
-            git ls-files -z '*.tf' '*.tfvars' | xargs -0 -r tfk fmt --",
+        words: FOLDERS,
+        places: &[Place::Start, Place::Lint],
+        line: "folders are not searched; \
+            tfk lint --help has a line for the files of a folder that git tracks",
     },
     Counterpart {
-        words: &["recursive", "r", "R", "all"],
-        places: &[Place::Check],
-        line: "folders are not searched; for the files that git tracks: \
-            git ls-files -z '*.tf' '*.tfvars' | xargs -0 -r tfk fmt --check --",
-    },
-    Counterpart {
-        words: &["recursive", "r", "R", "all"],
-        places: &[Place::Lint],
-        line: "folders are not searched; for the files that git tracks: \
-            git ls-files -z '*.tf' '*.tfvars' | xargs -0 -r tfk lint --",
-    },
-    Counterpart {
-        words: &["recursive", "r", "R", "all"],
+        words: FOLDERS,
         places: &[Place::Fix],
-        line: "folders are not searched; for the files that git tracks: \
-            git ls-files -z '*.tf' '*.tfvars' | xargs -0 -r tfk fix --",
+        line: "folders are not searched; \
+            tfk fix --help has a line for the files of a folder that git tracks",
     },
     Counterpart {
         words: &["exclude"],
-        places: &[Place::Fmt],
-        line: "name the files without PATH: \
-            git ls-files -z '*.tf' ':!:PATH' | xargs -0 -r tfk fmt --",
-    },
-    Counterpart {
-        words: &["exclude"],
-        places: &[Place::Check],
-        line: "name the files without PATH: \
-            git ls-files -z '*.tf' ':!:PATH' | xargs -0 -r tfk fmt --check --",
+        places: &[Place::Fmt, Place::Check],
+        line: "name the files; \
+            ':!:PATH' before the | of the line in tfk fmt --help leaves out PATH",
     },
     Counterpart {
         words: &["exclude"],
         places: &[Place::Start, Place::Lint],
-        line: "name the files without PATH: \
-            git ls-files -z '*.tf' ':!:PATH' | xargs -0 -r tfk lint --",
+        line: "name the files; \
+            ':!:PATH' before the | of the line in tfk lint --help leaves out PATH",
     },
     Counterpart {
         words: &["exclude"],
         places: &[Place::Fix],
-        line: "name the files without PATH: \
-            git ls-files -z '*.tf' ':!:PATH' | xargs -0 -r tfk fix --",
+        line: "name the files; \
+            ':!:PATH' before the | of the line in tfk fix --help leaves out PATH",
     },
 ];
 
@@ -288,7 +339,12 @@ const FOLDER_ROWS: &[Counterpart] = &[
 const LINT_ROWS: &[Counterpart] = &[
     Counterpart {
         words: &["fix"],
-        places: &[Place::Start, Place::Fmt, Place::Lint, Place::Fix],
+        places: &[Place::Start, Place::Lint],
+        line: "tfk fix has the options of tfk lint, and fixes what it can; see tfk fix --help",
+    },
+    Counterpart {
+        words: &["fix"],
+        places: &[Place::Fmt],
         line: "tfk fix -- FILE fixes what it can; see tfk fix --help",
     },
     Counterpart {
@@ -376,7 +432,7 @@ const CHANGE_ROWS: &[Counterpart] = &[
         line: "tfk fix - < FILE | diff -u -- FILE - shows the changes; see tfk fix --help",
     },
     Counterpart {
-        words: &["write", "w", "in-place", "i"],
+        words: &["write", "w", "in-place", "i", "fix"],
         places: &[Place::Fix],
         line: "fix writes FILE without it; see tfk fix --help",
     },
@@ -392,7 +448,7 @@ const CHANGE_ROWS: &[Counterpart] = &[
     },
     Counterpart {
         words: &["write", "w", "in-place", "i"],
-        places: &[Place::Revert],
+        places: UNDO,
         line: "revert writes FILE without it; see tfk revert --help",
     },
     Counterpart {
@@ -415,9 +471,14 @@ const REVERT_ROWS: &[Counterpart] = &[
         line: SEVERAL_LISTS,
     },
     Counterpart {
+        words: &["recursive", "r", "R"],
+        places: &[Place::Take],
+        line: ONE_FILE,
+    },
+    Counterpart {
         words: &["exclude"],
         places: REVERT,
-        line: "revert takes one FILE; see tfk revert --help",
+        line: ONE_FILE,
     },
     Counterpart {
         words: &["force", "f"],
@@ -436,12 +497,17 @@ const REVERT_ROWS: &[Counterpart] = &[
     },
     Counterpart {
         words: &["all", "to"],
+        places: &[Place::Take],
+        line: "--take N undoes command N alone; see tfk revert --help",
+    },
+    Counterpart {
+        words: &["all", "to"],
         places: &[Place::List],
         line: "tfk revert --list -- FILE lists all commands; see tfk revert --help",
     },
     Counterpart {
         words: &["quiet", "q", "silent", "s"],
-        places: &[Place::Revert],
+        places: UNDO,
         line: "revert prints nothing but errors; see tfk revert --help",
     },
     Counterpart {
@@ -594,7 +660,13 @@ const OWN_ROWS: &[Counterpart] = &[
     },
     Counterpart {
         words: &["disable-rule", "enable-rule"],
-        places: &[Place::Fmt, Place::Check, Place::Revert, Place::List],
+        places: &[
+            Place::Fmt,
+            Place::Check,
+            Place::Revert,
+            Place::Take,
+            Place::List,
+        ],
         line: "only lint and fix have it; see tfk lint --help",
     },
 ];
@@ -614,7 +686,7 @@ const COMMAND_ROWS: &[Counterpart] = &[
     Counterpart {
         words: &["format"],
         places: &[Place::Command],
-        line: "tfk fmt -- FILE formats it; see tfk fmt --help",
+        line: "the command is fmt; see tfk fmt --help",
     },
     Counterpart {
         words: &["undo"],
@@ -624,8 +696,9 @@ const COMMAND_ROWS: &[Counterpart] = &[
             Place::Fmt,
             Place::Fix,
             Place::Revert,
+            Place::Take,
         ],
-        line: "tfk revert -- FILE undoes the last command that changed it; see tfk revert --help",
+        line: "tfk revert undoes what fmt and fix changed; see tfk revert --help",
     },
     Counterpart {
         words: &["list"],

@@ -115,6 +115,15 @@ fn advised_text(alloc: Global, advice: Advice<'_>, text: &str) -> Result<String,
             "tfk: revert takes one FILE; for its command {number} alone: \
                 tfk revert --take {number} -- FILE\n{before}{after}"
         ),
+        Advice::NoFile(number) => format!(in alloc;
+            "tfk: name the file: tfk revert --take {number} -- FILE; \
+                see tfk revert --help\n{before}{after}"
+        ),
+        Advice::Several(number) => format!(in alloc;
+            "tfk: revert takes one FILE; for several, one at a time: \
+                tfk revert --take {number} -- FILE; \
+                tfk revert --list -- FILE prints its numbers\n{before}{after}"
+        ),
         Advice::Line(line) => format!(in alloc; "tfk: {line}\n{before}{after}"),
     }
 }

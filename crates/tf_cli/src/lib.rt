@@ -13,6 +13,7 @@ mod outcome;
 mod rule_choice;
 mod similar;
 mod tasks;
+mod tracked;
 
 pub use command_line::CommandLine;
 pub use exits::Exit;
