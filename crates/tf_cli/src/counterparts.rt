@@ -82,6 +82,15 @@ const REVERT: &[Place] = &[Place::Revert, Place::Take, Place::List];
 /// The options of `revert` that undoes a command.
 const UNDO: &[Place] = &[Place::Revert, Place::Take];
 
+/// The options of commands that have no rules.
+const WITHOUT_RULES: &[Place] = &[
+    Place::Fmt,
+    Place::Check,
+    Place::Revert,
+    Place::Take,
+    Place::List,
+];
+
 /// Options for folders.
 const FOLDERS: &[&str] = &["recursive", "r", "R", "all"];
 
@@ -92,6 +101,10 @@ pub const SEVERAL_LISTS: &str =
     "revert takes one FILE; for several, one at a time: tfk revert --list -- FILE";
 
 const ONE_FILE: &str = "revert takes one FILE; see tfk revert --help";
+
+const VERSION: &str = "tfk --version prints it";
+
+const PLANS: &str = "nothing is planned or applied, so leave it out; see tfk --help";
 
 /// Makes the line of an option for folders, which ends in this command.
 macro_rules! for_folders {
@@ -120,6 +133,7 @@ pub fn line_of(place: Place, word: &str) -> Option<&'static str> {
         revert_rows(),
         stream_rows(),
         general_rows(),
+        plan_rows(),
         own_rows(),
         command_rows(),
     ];
@@ -175,6 +189,10 @@ fn general_rows() -> &'static [Counterpart] {
     GENERAL_ROWS
 }
 
+fn plan_rows() -> &'static [Counterpart] {
+    PLAN_ROWS
+}
+
 fn own_rows() -> &'static [Counterpart] {
     OWN_ROWS
 }
@@ -216,12 +234,12 @@ const FORMAT_ROWS: &[Counterpart] = &[
         line: "fmt --check writes nothing; see tfk fmt --help",
     },
     Counterpart {
-        words: &["list"],
+        words: &["list", "format", "output-format", "f", "json"],
         places: &[Place::Fmt],
         line: "fmt prints the names of the files that it changes; see tfk fmt --help",
     },
     Counterpart {
-        words: &["list"],
+        words: &["list", "format", "output-format", "f", "json"],
         places: &[Place::Check],
         line: "fmt --check prints the names of the files that are not formatted",
     },
@@ -384,12 +402,12 @@ const LINT_ROWS: &[Counterpart] = &[
     },
     Counterpart {
         words: &["var-file", "var"],
-        places: ANY_BUT_REVERT,
+        places: ANY,
         line: "nothing is evaluated, so no values are read",
     },
     Counterpart {
         words: &["call-module-type", "module", "no-module", "ignore-module"],
-        places: LINTER,
+        places: ANY,
         line: "modules are not followed: each FILE is read by itself",
     },
     Counterpart {
@@ -476,7 +494,7 @@ const REVERT_ROWS: &[Counterpart] = &[
         line: ONE_FILE,
     },
     Counterpart {
-        words: &["exclude"],
+        words: &["exclude", "filter"],
         places: REVERT,
         line: ONE_FILE,
     },
@@ -506,7 +524,15 @@ const REVERT_ROWS: &[Counterpart] = &[
         line: "tfk revert --list -- FILE lists all commands; see tfk revert --help",
     },
     Counterpart {
-        words: &["quiet", "q", "silent", "s"],
+        words: &[
+            "quiet",
+            "q",
+            "silent",
+            "s",
+            "format",
+            "output-format",
+            "json",
+        ],
         places: UNDO,
         line: "revert prints nothing but errors; see tfk revert --help",
     },
@@ -514,6 +540,16 @@ const REVERT_ROWS: &[Counterpart] = &[
         words: &["quiet", "q", "silent", "s"],
         places: &[Place::List],
         line: "for no list add > /dev/null; see tfk revert --help",
+    },
+    Counterpart {
+        words: &["format", "output-format", "json"],
+        places: &[Place::List],
+        line: "the list has one format; see tfk revert --help",
+    },
+    Counterpart {
+        words: &["fix"],
+        places: REVERT,
+        line: "fix is a command of its own; see tfk fix --help",
     },
 ];
 
@@ -546,17 +582,17 @@ const STREAM_ROWS: &[Counterpart] = &[
     },
     Counterpart {
         words: &["init", "enable-plugin"],
-        places: LINTER,
+        places: ANY,
         line: "there are no plugins: all rules are built in; tfk lint --help lists them",
     },
     Counterpart {
-        words: &["max-workers", "no-parallel-runners"],
-        places: LINTER,
+        words: &["max-workers", "no-parallel-runners", "parallelism"],
+        places: ANY,
         line: "there are no workers: one file is processed after the other",
     },
     Counterpart {
         words: &["langserver"],
-        places: LINTER,
+        places: ANY,
         line: "there is no language server; docs/INTEGRATING.md says how editors run tfk",
     },
 ];
@@ -584,7 +620,7 @@ const GENERAL_ROWS: &[Counterpart] = &[
         line: "there is no configuration file; see tfk --help",
     },
     Counterpart {
-        words: &["verbose"],
+        words: &["verbose", "loglevel"],
         places: ANY,
         line: "--locate says where each error is, and why; see tfk --help",
     },
@@ -592,6 +628,45 @@ const GENERAL_ROWS: &[Counterpart] = &[
         words: &["v"],
         places: COMMANDS,
         line: "--locate says where each error is, and why; tfk --version is the version",
+    },
+];
+
+/// The options of `terraform validate`, `plan` and `apply`, of what tfk doesn't do.
+const PLAN_ROWS: &[Counterpart] = &[
+    Counterpart {
+        words: &[
+            "target",
+            "out",
+            "auto-approve",
+            "lock",
+            "lock-timeout",
+            "state",
+        ],
+        places: ANY,
+        line: PLANS,
+    },
+    Counterpart {
+        words: &[
+            "refresh",
+            "refresh-only",
+            "replace",
+            "destroy",
+            "input",
+            "backend",
+            "upgrade",
+        ],
+        places: ANY,
+        line: PLANS,
+    },
+    Counterpart {
+        words: &["detailed-exitcode", "compact-warnings"],
+        places: ANY,
+        line: PLANS,
+    },
+    Counterpart {
+        words: &["no-tests", "test-directory"],
+        places: ANY,
+        line: "files of tests are read only if they are named; see tfk --help",
     },
 ];
 
@@ -659,15 +734,14 @@ const OWN_ROWS: &[Counterpart] = &[
         line: "only revert has it; see tfk revert --help",
     },
     Counterpart {
-        words: &["disable-rule", "enable-rule"],
-        places: &[
-            Place::Fmt,
-            Place::Check,
-            Place::Revert,
-            Place::Take,
-            Place::List,
+        words: &[
+            "disable-rule",
+            "enable-rule",
+            "only",
+            "minimum-failure-severity",
         ],
-        line: "only lint and fix have it; see tfk lint --help",
+        places: WITHOUT_RULES,
+        line: "only lint and fix have rules; see tfk lint --help",
     },
 ];
 
@@ -676,7 +750,12 @@ const COMMAND_ROWS: &[Counterpart] = &[
     Counterpart {
         words: &["version", "v"],
         places: &[Place::Command, Place::Start],
-        line: "tfk --version prints it",
+        line: VERSION,
+    },
+    Counterpart {
+        words: &["version"],
+        places: COMMANDS,
+        line: VERSION,
     },
     Counterpart {
         words: &["check", "c"],
