@@ -2,11 +2,12 @@
 
 use crate::context::{Context, has_keywords};
 use crate::expected::Expected;
-use crate::head::{HeadAdvice, at_head_end, in_head};
+use crate::head::{HeadAdvice, at_head_end, in_head, quoted_name};
 use crate::near::{
     after_words, ends_value, first_from, is_adjacent, is_kind, is_line_end, is_line_start, is_word,
     kind_at, last_before,
 };
+use crate::openings::innermost_open;
 use hcl_grammar::operators::binary_operator;
 use hcl_scan::{Kind, Scanned};
 
@@ -19,7 +20,7 @@ pub enum Advice {
     OperatorFirst,
     /// A mistake before the `=` of an attribute or the `{` of a block.
     Head(HeadAdvice),
-    /// A text that begins with `{`.
+    /// A text that begins with `{`, or with `[` and `{`.
     Json,
     /// A space in a key.
     KeySpace,
@@ -29,8 +30,10 @@ pub enum Advice {
     And,
     Or,
     Not,
-    /// `if` in a value.
+    /// `if`, `then` or `else` in a value.
     Conditional,
+    /// `then` after a condition in a `for` or a directive.
+    NoThen,
     /// A name right after a number, as in `0x1F` or `1_000`.
     Digits,
     /// Text after the marker of a heredoc.
@@ -70,8 +73,9 @@ pub enum Advice {
     CommentEnd,
     /// A comment of another language.
     CommentSign,
-    /// What can't be in a `${`.
+    /// What can't be in a `${`, or in a `%{`.
     OpenHere,
+    DirectiveHere,
     /// `|` and `|>` before a function.
     Pipe,
     /// Types with `|` between them.
@@ -84,6 +88,9 @@ pub enum Advice {
     KeyColon,
     /// A function after a `.`.
     Method,
+    /// `\` at the end of a line: in brackets, and elsewhere.
+    FreeNewline,
+    NoContinuation,
 }
 
 impl Advice {
@@ -126,7 +133,9 @@ impl Advice {
             Advice::QuoteInString => "a quote in a string is written `\\\"`",
             Advice::CommentEnd => "no `/*` is open here",
             Advice::CommentSign => "a comment begins with `#`",
+            Advice::NoThen => "there is no `then`",
             Advice::OpenHere => "a `${` before it is open here",
+            Advice::DirectiveHere => "a `%{` before it is open here",
             Advice::Pipe => "a function is called as `f(x)`; `or` is written `||`",
             Advice::OneType => "a type is a single one, or `any`",
             Advice::ElementType => "the type of elements is in parentheses, as in `list(string)`",
@@ -134,6 +143,9 @@ impl Advice {
                 "a type has no `?`; an attribute that may be missing is `optional(TYPE)`",
             Advice::KeyColon => "a key with a `:` is in double quotes, `\"`",
             Advice::Method => "there are no methods: a function is called as `f(x)`",
+            Advice::FreeNewline => "a newline here needs no `\\`",
+            Advice::NoContinuation =>
+                "it continues no line; a value in parentheses can have several",
         }
     }
 }
@@ -159,6 +171,9 @@ pub fn advice_for(
                 in_head(scanned, context, kind, found)
             }
             Expected::OneLineEqual => None,
+            Expected::OneLineMember if kind == Kind::QuoteOpen => {
+                Some(Advice::Head(quoted_name(scanned, found)))
+            }
             Expected::KeySign if is_key_with_space(scanned, found) => Some(Advice::KeySpace),
             Expected::ForColon if is_word(scanned, found, b"if") => Some(Advice::ForIf),
             Expected::SequenceEnd => at_sequence_end(scanned, kind, found, context),
@@ -175,8 +190,8 @@ pub fn advice_for(
 fn at_line_start(scanned: &Scanned<'_>, kind: Kind, found: usize) -> Option<Advice> {
     match kind {
         Kind::Number => Some(Advice::Head(HeadAdvice::NameDigit)),
-        Kind::QuoteOpen => Some(Advice::Head(HeadAdvice::NameQuoted)),
-        Kind::OpenBrace if is_json(scanned, found) => Some(Advice::Json),
+        Kind::QuoteOpen => Some(Advice::Head(quoted_name(scanned, found))),
+        Kind::OpenBrace | Kind::OpenBracket if is_json(scanned, found) => Some(Advice::Json),
         Kind::Minus if is_next(scanned, kind, found) => Some(Advice::CommentSign),
         Kind::Less if is_next(scanned, Kind::Bang, found) => Some(Advice::CommentSign),
         _ if is_operator(kind) && follows_attribute(scanned, found) => Some(Advice::OperatorFirst),
@@ -184,15 +199,22 @@ fn at_line_start(scanned: &Scanned<'_>, kind: Kind, found: usize) -> Option<Advi
     }
 }
 
-/// Whether token `found` is the first, and a name in quotes or `}` follows it.
+/// Whether token `found` is the first, and begins a text of JSON: a `{` with a name in quotes or `}`
+/// after it, or a `[` before such a one.
 fn is_json(scanned: &Scanned<'_>, found: usize) -> bool {
     let start = if is_kind(scanned, 0, Kind::Mark) {
         1
     } else {
         0
     };
-    let next = first_from(scanned, found.saturating_add(1), true);
+    let brace = if is_kind(scanned, found, Kind::OpenBracket) {
+        first_from(scanned, found.saturating_add(1), true)
+    } else {
+        found
+    };
+    let next = first_from(scanned, brace.saturating_add(1), true);
     first_from(scanned, start, true) == found
+        && is_kind(scanned, brace, Kind::OpenBrace)
         && (is_kind(scanned, next, Kind::QuoteOpen) || is_kind(scanned, next, Kind::CloseBrace))
 }
 
@@ -319,8 +341,11 @@ fn in_value(
         Some(last) => match kind {
             Kind::Less if is_next(scanned, kind, found) => heredoc(scanned, found),
             Kind::Identifier if !has_keywords(context) => after_word(scanned, last, found),
+            _ if is_if_before_value(scanned, context, last) => Some(Advice::ForIf),
+            Kind::Identifier => word_in_for(scanned, last, found, expected),
             _ if is_not(scanned, last) => Some(Advice::Not),
             _ if is_value(expected) => at_value(scanned, kind, found, last),
+            _ if is_value_after_if(scanned, context, kind, last) => Some(Advice::Conditional),
             _ => after_value(scanned, kind, found, last, expected),
         },
         None => None,
@@ -571,8 +596,112 @@ fn is_not(scanned: &Scanned<'_>, i: usize) -> bool {
     is_word(scanned, i, b"not") || is_word(scanned, i, b"NOT")
 }
 
-/// Returns the advice for a word after token `last`.
+/// Returns the number of the `if` that is token `last`, or after which a condition in parentheses
+/// ends with that token.
+fn if_before(scanned: &Scanned<'_>, last: usize) -> Option<usize> {
+    if is_word(scanned, last, b"if") {
+        return Some(last);
+    }
+    if last >= scanned.len() || !is_kind(scanned, last, Kind::CloseParen) {
+        return None;
+    }
+    match innermost_open(scanned, last) {
+        Some(open) if is_word(scanned, open.saturating_sub(1), b"if") => {
+            Some(open.saturating_sub(1))
+        }
+        _ => None,
+    }
+}
+
+/// Whether the `if` of a `for` is before the value of that, and ends with token `last`.
+fn is_if_before_value(scanned: &Scanned<'_>, context: Context, last: usize) -> bool {
+    if !matches!(context, Context::TupleFor | Context::ObjectFor) {
+        return false;
+    }
+    match if_before(scanned, last) {
+        Some(word) => match last_before(scanned, word, true) {
+            Some(k) => is_kind(scanned, k, Kind::Colon) || is_kind(scanned, k, Kind::FatArrow),
+            None => false,
+        },
+        None => false,
+    }
+}
+
+/// Whether a value begins with a token of this kind, which is no word, after an `if` that has no
+/// meaning.
+fn is_value_after_if(scanned: &Scanned<'_>, context: Context, kind: Kind, last: usize) -> bool {
+    !has_keywords(context)
+        && matches!(
+            kind,
+            Kind::Number | Kind::QuoteOpen | Kind::HereOpen | Kind::OpenBrace | Kind::Bang
+        )
+        && if_before(scanned, last).is_some()
+}
+
+/// Returns the advice for a word after token `last`, in a `for` or a directive.
+fn word_in_for(
+    scanned: &Scanned<'_>,
+    last: usize,
+    found: usize,
+    expected: Expected,
+) -> Option<Advice> {
+    if !is_after_part(expected) {
+        return None;
+    }
+    match operator_word(scanned, last, found) {
+        Some(advice) => Some(advice),
+        None => after_condition(scanned, found, expected),
+    }
+}
+
+/// Whether a value in a `for` or a directive ends where this was expected.
+fn is_after_part(expected: Expected) -> bool {
+    matches!(
+        expected,
+        Expected::Else
+            | Expected::ForColon
+            | Expected::ForArrow
+            | Expected::ForBracket
+            | Expected::ForEllipsis
+            | Expected::Bracket
+            | Expected::Brace
+            | Expected::SequenceEnd
+    )
+}
+
+/// Returns the advice for a word after the condition of a `for`, or in a directive.
+fn after_condition(scanned: &Scanned<'_>, found: usize, expected: Expected) -> Option<Advice> {
+    match expected {
+        Expected::Bracket | Expected::Brace if is_word(scanned, found, b"else") => {
+            Some(Advice::Conditional)
+        }
+        Expected::Bracket | Expected::Brace | Expected::SequenceEnd
+            if is_word(scanned, found, b"then") => { Some(Advice::NoThen) }
+        _ => None,
+    }
+}
+
+/// Whether this word is one of a conditional in another language, or follows its `if`.
+fn is_of_conditional(scanned: &Scanned<'_>, last: usize, found: usize) -> bool {
+    is_word(scanned, found, b"if")
+        || is_word(scanned, found, b"then")
+        || is_word(scanned, found, b"else")
+        || if_before(scanned, last).is_some()
+}
+
+/// Returns the advice for a word after token `last`, where `if` has no meaning.
 fn after_word(scanned: &Scanned<'_>, last: usize, found: usize) -> Option<Advice> {
+    match operator_word(scanned, last, found) {
+        Some(advice) => Some(advice),
+        None if is_of_conditional(scanned, last, found) => Some(Advice::Conditional),
+        None if is_between_quotes(scanned, last, found) => Some(Advice::QuoteInString),
+        None => None,
+    }
+}
+
+/// Returns the advice for a word after token `last` that is an operator in another language, or
+/// follows one, or continues a number.
+fn operator_word(scanned: &Scanned<'_>, last: usize, found: usize) -> Option<Advice> {
     if is_kind(scanned, last, Kind::Number) && is_adjacent(scanned, found) {
         Some(Advice::Digits)
     } else if is_word(scanned, found, b"and") || is_word(scanned, found, b"AND") {
@@ -581,10 +710,6 @@ fn after_word(scanned: &Scanned<'_>, last: usize, found: usize) -> Option<Advice
         Some(Advice::Or)
     } else if is_not(scanned, last) {
         Some(Advice::Not)
-    } else if is_word(scanned, found, b"if") || is_word(scanned, last, b"if") {
-        Some(Advice::Conditional)
-    } else if is_between_quotes(scanned, last, found) {
-        Some(Advice::QuoteInString)
     } else {
         None
     }

@@ -1,9 +1,10 @@
 //! The sentence of a character with which no token begins.
 
 use crate::advice::{Advice, is_type_name};
-use crate::context::{Context, context_of};
+use crate::context::{Context, context_of, drops_lines};
 use crate::expected::{Expected, expected_after};
-use crate::lines::{bytes_from, from_line_start, prefix, whitespace_len};
+use crate::head::HeadAdvice;
+use crate::lines::{bytes_from, from_line_start, is_at_line_end_or_eof, prefix, whitespace_len};
 use crate::near::{is_adjacent, is_kind, is_line_start};
 use crate::openings::innermost_open;
 use crate::sequence::sequence_text;
@@ -146,8 +147,13 @@ fn advice_after(scanned: &Scanned<'_>, found: Found<'_>) -> Option<Advice> {
         }
         [b'~', ..] if is_heredoc_next(scanned) => Some(Advice::HeredocTilde),
         _ if is_after_marker(scanned) => Some(Advice::HeredocLine),
-        [b';', ..] if !found.is_in_sequence && is_line_next(scanned) => Some(Advice::CommentSign),
+        [b'\\', rest @ ..] if is_line_end_next(rest) => Some(at_backslash(scanned, found)),
+        [b'$', next, ..] if is_name_start(*next) && is_line_of_body(scanned, found) => {
+            Some(Advice::Head(HeadAdvice::NameDollar))
+        }
+        [b';', ..] if is_line_of_body(scanned, found) => Some(Advice::CommentSign),
         [b';', ..] if found.is_in_interpolation => Some(Advice::OpenHere),
+        [b';', ..] if found.is_in_sequence => Some(Advice::DirectiveHere),
         [b'|', b'>', ..] => Some(Advice::Pipe),
         [b'|', next, ..] if *next != b'|' && is_after_type(scanned) => Some(Advice::OneType),
         [b'|', ..] if found.is_in_interpolation => Some(Advice::Pipe),
@@ -155,10 +161,29 @@ fn advice_after(scanned: &Scanned<'_>, found: Found<'_>) -> Option<Advice> {
     }
 }
 
-/// Whether a line of a body begins after the tokens.
-fn is_line_next(scanned: &Scanned<'_>) -> bool {
+/// Whether nothing but spaces and tabs is before the end of the line.
+fn is_line_end_next(rest: &[u8]) -> bool {
+    is_at_line_end_or_eof(bytes_from(rest, whitespace_len(rest)))
+}
+
+/// Returns the advice for a `\` with which the line ends, after these tokens.
+fn at_backslash(scanned: &Scanned<'_>, found: Found<'_>) -> Advice {
+    let is_free = match innermost_open(scanned, scanned.len()) {
+        Some(open) => drops_lines(context_of(scanned, Some(open))),
+        None => found.is_in_sequence,
+    };
+    if is_free {
+        Advice::FreeNewline
+    } else {
+        Advice::NoContinuation
+    }
+}
+
+/// Whether a line of a body begins with what was found after the tokens.
+fn is_line_of_body(scanned: &Scanned<'_>, found: Found<'_>) -> bool {
     let count = scanned.len();
-    is_line_start(scanned, count)
+    !found.is_in_sequence
+        && is_line_start(scanned, count)
         && matches!(
             context_of(scanned, innermost_open(scanned, count)),
             Context::File | Context::Block

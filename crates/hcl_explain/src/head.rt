@@ -3,7 +3,7 @@
 use crate::advice::{Advice, is_operator};
 use crate::context::Context;
 use crate::near::{first_from, is_kind, is_line_end, is_line_start, is_word, last_before};
-use crate::openings::closing_after;
+use crate::openings::{closing_after, innermost_open};
 use hcl_scan::{Kind, Scanned};
 
 /// A mistake in such a line, by what is written in its place.
@@ -13,6 +13,10 @@ pub enum HeadAdvice {
     NameDigit,
     /// A name in quotes.
     NameQuoted,
+    /// A name in quotes in a block, which may be meant as a map.
+    MapEqual,
+    /// A name that begins with `$`.
+    NameDollar,
     /// A name with a space.
     NameSpace,
     /// A value after a name, with no `=` between.
@@ -33,6 +37,10 @@ impl HeadAdvice {
         match self {
             HeadAdvice::NameDigit => "a name can't begin with a digit",
             HeadAdvice::NameQuoted => "the name of an attribute or of a block has no quotes",
+            HeadAdvice::MapEqual => {
+                "a name in a block has no quotes; a map has an `=` before its `{`"
+            }
+            HeadAdvice::NameDollar => "the name of an attribute or of a block has no `$`",
             HeadAdvice::NameSpace => "a name can't have a space",
             HeadAdvice::NoEqual => "an attribute is written `NAME = VALUE`",
             HeadAdvice::EqualOrBrace => "expected `=` after the name or `{` after the label",
@@ -192,6 +200,35 @@ fn has_brace(scanned: &Scanned<'_>, i: usize) -> bool {
         }
     }
     false
+}
+
+/// Returns the advice for a string with which a line of a body begins.
+pub fn quoted_name(scanned: &Scanned<'_>, found: usize) -> HeadAdvice {
+    if is_in_plain_block(scanned, found) && is_before_sign(scanned, found) {
+        HeadAdvice::MapEqual
+    } else {
+        HeadAdvice::NameQuoted
+    }
+}
+
+/// Whether token `found` is in a block that has no labels and is no `locals`.
+fn is_in_plain_block(scanned: &Scanned<'_>, found: usize) -> bool {
+    if found >= scanned.len() {
+        return false;
+    }
+    match innermost_open(scanned, found) {
+        Some(open) => {
+            is_after_name(scanned, open) && !is_word(scanned, open.saturating_sub(1), b"locals")
+        }
+        None => false,
+    }
+}
+
+/// Whether `=` or `:` follows the string that begins with token `found`.
+fn is_before_sign(scanned: &Scanned<'_>, found: usize) -> bool {
+    let end = closing_after(scanned, found.saturating_add(1));
+    let next = first_from(scanned, end.saturating_add(1), false);
+    is_kind(scanned, next, Kind::Equal) || is_kind(scanned, next, Kind::Colon)
 }
 
 /// Returns the advice for a template in a string after the name of a block or an attribute, whose

@@ -100,7 +100,7 @@ pub fn whitespace_len(text: &[u8]) -> usize
 }
 
 /// Whether a text begins with a line end, or is empty.
-fn is_at_line_end_or_eof(text: &[u8]) -> bool
+pub fn is_at_line_end_or_eof(text: &[u8]) -> bool
     ensures { result ≡ closing.is_at_line_end_or_eof text.now }
 {
     match text {
