@@ -76,18 +76,25 @@ fn foreign_sentence(rest: &[u8]) -> &'static str {
 }
 
 /// Adds that a `}` after the template sequence with which a text begins is in a string of its line,
-/// if that is so. `of` is what the sequence is called.
+/// or after a quote there that has no partner, if that is so. `of` is what the sequence is called.
 fn push_swallowed(
     out: &mut String,
     alloc: Global,
     sequence: &[u8],
     of: &str,
 ) -> Result<(), AllocError> {
-    match scan(alloc, sequence_text(first_line(sequence))) {
+    let line = sequence_text(first_line(sequence));
+    match scan(alloc, line) {
         Ok(scanned) => match string_with_brace(&scanned) {
             Some(text) => write!(out, "; a `}}` after {of} is in the string `\"{text}\"`"),
             None => Ok(()),
         },
+        Err(ScanFault::OpenString { at: quote }) if bytes_from(line, quote).contains(&b'}') => {
+            write!(
+                out,
+                "; a `}}` after {of} is after a `\"` that has no partner"
+            )
+        }
         Err(ScanFault::Memory) => Err(AllocError),
         Err(_) => Ok(()),
     }

@@ -47,6 +47,9 @@ fn begins_outside(scanned: &Scanned<'_>, opening: usize, found: usize) -> bool {
         Context::Object => {
             is_block_in_object(scanned, found) && is_open_at_end(scanned, opening, found)
         }
+        Context::ObjectFor => {
+            is_member(scanned, found) && is_open_at_end(scanned, opening, found)
+        }
         Context::Interpolation => is_word_alone(scanned, found),
         Context::Tuple
         | Context::TupleFor
