@@ -1,5 +1,6 @@
 -- What an explanation says of a text with tokens.
-use Rattle.std.specs.Prelude.{◌≡◌, ◌≢◌, ◌<◌, ℕ, List, [], length, Some, true}
+use Rattle.std.specs.Prelude.{◌≡◌, ◌≢◌, ◌<◌, ◌≤◌, ℕ, zero, suc, Bool, true, false}
+use Rattle.std.specs.Prelude.{if◌then◌else◌, List, [], length, Option, Some}
 use Rattle.hcl_token.specs.declared.kind.Kind.{Kind}
 use Rattle.hcl_token.specs.TokenizedText.{TokenizedText, kind_of}
 use Rattle.hcl_token.specs.Tokens.{Pair}
@@ -11,6 +12,19 @@ use Rattle.hcl_explain.specs.Openings.{closes, open_before, innermost_open, Clos
 use Rattle.hcl_explain.specs.declared.explanation.Explanation.{Explanation}
 use Rattle.hcl_explain.specs.declared.explanation.Reason.{Reason}
 use Rattle.hcl_explain.specs.declared.explanation.Reason.TheVariants as reason
+
+-- a line begins after a token of this kind
+abbrev pub is_before_line : Option Kind → Bool
+is_before_line (Some k.LineEnd) = true
+is_before_line (Some k.LineComment) = true
+is_before_line (Some k.Mark) = true
+is_before_line _ = false
+
+-- the first token of the line in which token n is, or which it ends
+abbrev pub first_in_line : List Pair → ℕ → ℕ
+first_in_line pairs zero = zero
+first_in_line pairs (suc i) =
+    if is_before_line (kind_of pairs i) then suc i else first_in_line pairs i
 
 -- the token closes something, but no opening that is not closed before it
 abbrev pub ClosesNothing : List Pair → ℕ → Type 0
@@ -26,13 +40,14 @@ IsAtFound pairs reason.TooDeep found = ⊥
 IsAtFound pairs (reason.Expected expected) found = Unit {0}
 IsAtFound pairs reason.ClosesNothing found = ClosesNothing pairs found
 IsAtFound pairs (reason.Advice advice) found = Unit {0}
+IsAtFound pairs (reason.Before advice) found = ⊥
 
 -- and none that says of an opening that it is not closed
 abbrev pub IsOfFound : List Pair → Reason → ℕ → Type 0
 IsOfFound pairs why found = (why ≢ reason.NotClosed) × IsAtFound pairs why found
 
 -- the token to be printed: the innermost opening that is not closed before the token that was
--- found; the opening of a directive before it; or that token itself
+-- found; the opening of a directive before it; a token before it in its line; or that token itself
 abbrev pub IsToken : List Pair → Reason → ℕ → ℕ → Type 0
 IsToken pairs reason.NotClosed token found = innermost_open pairs found ≡ Some token
 IsToken pairs reason.NoEnd token found =
@@ -41,6 +56,8 @@ IsToken pairs reason.TooDeep token found = ⊥
 IsToken pairs (reason.Expected expected) token found = token ≡ found
 IsToken pairs reason.ClosesNothing token found = (token ≡ found) × ClosesNothing pairs found
 IsToken pairs (reason.Advice advice) token found = token ≡ found
+IsToken pairs (reason.Before advice) token found =
+    (first_in_line pairs found ≤ token) × (token < found)
 
 -- an explanation at this token that says of no opening that it is not closed
 abbrev pub IsOtherExplanation : List Pair → ℕ → Explanation → Type 0

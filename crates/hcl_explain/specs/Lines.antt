@@ -1,7 +1,8 @@
 -- Lines of a text: where one ends, and the one that should close a heredoc.
-use Rattle.std.specs.Prelude.{ℕ, ◌-◌, ◌==◌, ◌&&◌, ◌||◌, Bool, not, if◌then◌else◌}
+use Rattle.std.specs.Prelude.{ℕ, zero, suc, ◌-◌, ◌==◌, ◌&&◌, ◌||◌, Bool, not, if◌then◌else◌}
 use Rattle.std.specs.Prelude.{List, [], ◌∷◌, length, take, drop, slice_index}
 use Rattle.std.specs.List.{prefix_len}
+use Rattle.std.specs.Str.{byte}
 use Rattle.hcl_token.specs.Bytes.{line_feed, carriage_return, minus}
 use Rattle.hcl_scan.specs.Modes.{marker_of}
 use Rattle.hcl_scan.specs.Closing.{is_closing_line}
@@ -23,6 +24,20 @@ after_line text = drop (prefix_len is_not_line_feed text) text
 -- where the line of a byte ends
 abbrev pub line_end : List ℕ → ℕ → ℕ
 line_end text at = length text - length (after_line (drop at text))
+
+-- where the line of a byte begins
+abbrev pub line_start : List ℕ → ℕ → ℕ
+line_start text zero = zero
+line_start text (suc i) = if slice_index text i == line_feed then suc i else line_start text i
+
+-- the signs of the lines that git writes where a merge has a conflict
+abbrev pub is_marker_sign : ℕ → Bool
+is_marker_sign b = b == byte "<" || b == byte "|" || b == byte "=" || b == byte ">"
+
+-- the text begins with seven of one of these, and not with eight
+abbrev pub is_conflict_marker : List ℕ → Bool
+is_conflict_marker line =
+    is_marker_sign (slice_index line 0) && prefix_len (λ b. b == slice_index line 0) line == 7
 
 -- what follows the `<<` or `<<-` of a heredoc
 abbrev pub after_opening : List ℕ → List ℕ

@@ -3,7 +3,7 @@ use Rattle.std.specs.Prelude.{◌≡◌, ℕ, ◌⊎◌, true, false, List, drop
 use Rattle.std.specs.Prelude.{Option, Some, None}
 use Rattle.hcl_scan.specs.declared.fault.ScanFault.{ScanFault}
 use Rattle.hcl_scan.specs.declared.fault.ScanFault.TheVariants as fault
-use Rattle.hcl_explain.specs.Lines.{line_end, closing_place}
+use Rattle.hcl_explain.specs.Lines.{line_start, line_end, closing_place, is_conflict_marker}
 use Rattle.hcl_explain.specs.Sequences.{IsClosedInComment, IsOpenBefore, IsEnded, IsBlamed}
 use Rattle.hcl_explain.specs.Sequences.{is_interpolation, EndsWithLine, IsUnclosed}
 use Rattle.hcl_explain.specs.declared.scan_error.ScanExplanation.{ScanExplanation}
@@ -103,6 +103,15 @@ abbrev pub IsCharacterExplanation : List ℕ → ℕ → ScanExplanation → Typ
 IsCharacterExplanation text at e = ByOpen text at (e ≡ of at reason.Character)
     (λ opened. HiddenOr text opened e (IsCharacterIn text opened at e))
 
+-- of a character with which no token begins: the line in which it is, if that begins as one that git
+-- writes where a merge has a conflict
+abbrev pub IsMarkerOr : List ℕ → ℕ → ScanExplanation → Type 0
+IsMarkerOr text at e =
+    ((is_conflict_marker (drop (line_start text at) text) ≡ true)
+    × (e ≡ of (line_start text at) reason.Marker))
+    ⊎ ((is_conflict_marker (drop (line_start text at) text) ≡ false)
+    × IsCharacterExplanation text at e)
+
 -- of any other error: its byte, if it is at one
 abbrev pub explanation_of : ScanFault → Option ScanExplanation
 explanation_of (fault.NotUtf8 at) = Some (of at reason.NotUtf8)
@@ -119,5 +128,5 @@ IsScanExplanation text (fault.OpenString at) o = IsSomeOf (IsStringExplanation t
 IsScanExplanation text (fault.OpenTemplate at) o = IsSomeOf (IsSequenceExplanation text at) o
 IsScanExplanation text (fault.OpenHeredoc at) o = IsSomeOf (IsHeredocExplanation text at) o
 IsScanExplanation text (fault.OpenComment at) o = IsSomeOf (IsCommentExplanation text at) o
-IsScanExplanation text (fault.BadCharacter at) o = IsSomeOf (IsCharacterExplanation text at) o
+IsScanExplanation text (fault.BadCharacter at) o = IsSomeOf (IsMarkerOr text at) o
 IsScanExplanation text error o = o ≡ explanation_of error

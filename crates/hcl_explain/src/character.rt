@@ -4,7 +4,7 @@ use crate::advice::{Advice, is_type_name};
 use crate::context::{Context, context_of, drops_lines};
 use crate::expected::{Expected, expected_after};
 use crate::head::HeadAdvice;
-use crate::lines::{bytes_from, from_line_start, is_at_line_end_or_eof, prefix, whitespace_len};
+use crate::lines::{bytes_from, is_at_line_end_or_eof, line_start, prefix, whitespace_len};
 use crate::near::{is_adjacent, is_kind, is_line_start};
 use crate::openings::innermost_open;
 use crate::sequence::sequence_text;
@@ -12,9 +12,6 @@ use hcl_scan::{Kind, ScanFault, Scanned, scan};
 use std::alloc::{AllocError, Global};
 use std::fmt::Write;
 use std::str::from_utf8;
-
-/// How many characters a conflict marker of a merge has.
-const MARKER_LEN: usize = 7;
 
 /// What is said of three backquotes with which a line begins.
 const FENCE: &str = "this line is a fence of Markdown: delete it";
@@ -38,9 +35,6 @@ pub fn push_character(
     at: usize,
     opened: Option<usize>,
 ) -> Result<(), AllocError> {
-    if is_conflict_marker(from_line_start(text, at)) {
-        return out.push_str(Advice::ConflictMarker.sentence());
-    }
     if is_fence(text, at) {
         return out.push_str(FENCE);
     }
@@ -108,29 +102,11 @@ fn first_character(rest: &[u8]) -> Option<char> {
     }
 }
 
-/// Whether the line with which a text begins is one that git writes where a merge has a conflict.
-fn is_conflict_marker(line: &[u8]) -> bool {
-    match line.first() {
-        Some(b'<' | b'=' | b'>' | b'|') => repeated(line) == MARKER_LEN,
-        _ => false,
-    }
-}
-
 /// Whether a fence of Markdown is at this byte: three backquotes with which a line begins.
 fn is_fence(text: &[u8], at: usize) -> bool {
-    let line = from_line_start(text, at);
+    let line = bytes_from(text, line_start(text, at));
     bytes_from(text, at).starts_with(b"```")
         && bytes_from(line, whitespace_len(line)).starts_with(b"```")
-}
-
-/// Returns how often a text repeats its first byte at its start.
-fn repeated(text: &[u8]) -> usize {
-    for (i, byte) in text.iter().enumerate() {
-        if Some(byte) != text.first() {
-            return i;
-        }
-    }
-    text.len()
 }
 
 /// Returns the advice that these tokens show, of the template sequence or of the text in which this

@@ -8,9 +8,10 @@ ghost use Rattle.hcl_explain.specs.Openings.{closes, innermost_open, ClosesOuter
 ghost use Rattle.hcl_explain.specs.Explanations.{IsExplanation, IsSyntaxExplanation, IsAtNoToken};
 ghost use Rattle.hcl_explain.specs.Explanations.{IsToken, IsOfFound, IsOtherExplanation};
 ghost use Rattle.hcl_explain.specs.Explanations.{ClosesNothing};
-ghost use Rattle.hcl_explain.specs.declared.explanation.Reason.TheVariants.{NotClosed};
+ghost use Rattle.hcl_explain.specs.declared.explanation.Reason.TheVariants.{NotClosed, Before};
 
 use crate::advice::{Advice, advice_for, is_else_if};
+use crate::beginning::beginning_of;
 use crate::context::{Context, context_of};
 use crate::directives::{directive_advice, end_word, open_directive};
 use crate::expected::{Expected, expected_after};
@@ -37,6 +38,8 @@ pub enum Reason {
     ClosesNothing,
     /// A mistake that is often made.
     Advice(Advice),
+    /// One that begins in the line before the token which was found.
+    Before(Advice),
 }
 
 /// Why a text does not parse, and where that is to be printed. Tokens are numbered from 0.
@@ -123,7 +126,33 @@ fn explain_at(scanned: &Scanned<'_>, opening: Option<usize>, found: usize) -> Ex
     if matches!(context, Context::Template) {
         return in_template(scanned, first_in(opening), found);
     }
-    of_found(found, reason_at(scanned, context, opening, found))
+    let reason = reason_at(scanned, context, opening, found);
+    match reason {
+        Reason::Advice(advice) => advised(scanned, advice, found),
+        _ => of_found(found, reason),
+    }
+}
+
+/// Returns an explanation with this advice: at the token with which the mistake begins, or at the
+/// one that was found.
+fn advised(scanned: &Scanned<'_>, advice: Advice, found: usize) -> Explanation
+    ensures { IsOtherExplanation scanned.now.pairs found result }
+{
+    match beginning_of(scanned, advice, found) {
+        Some(token) => of_beginning(token, found, advice),
+        None => of_found(found, Reason::Advice(advice)),
+    }
+}
+
+/// Returns an explanation that is printed at the token with which the mistake begins.
+fn of_beginning(token: usize, found: usize, advice: Advice) -> Explanation
+    ensures { result ≡ record { token = token; found = found; reason = Before advice } }
+{
+    Explanation {
+        token,
+        found,
+        reason: Reason::Before(advice),
+    }
 }
 
 /// Returns the number of the first token after an opening, or of the text.

@@ -6,6 +6,7 @@
 #![tactic(auto)]
 
 mod advice;
+mod beginning;
 mod character;
 mod context;
 mod directives;
@@ -16,6 +17,7 @@ mod found;
 mod head;
 mod indents;
 mod lines;
+mod marker;
 mod near;
 mod openings;
 mod said;

@@ -1,7 +1,8 @@
 //! Lines of a text: where one ends, and the one that should close a heredoc.
 
-ghost use Rattle.std.specs.Prelude.{◌≡◌, drop, take};
+ghost use Rattle.std.specs.Prelude.{◌≡◌, ◌==◌, drop, take, slice_index};
 ghost use Rattle.std.specs.List.{prefix_len};
+ghost use Rattle.hcl_token.specs.Bytes.{line_feed};
 ghost use Rattle.hcl_scan.specs.Characters as scanner;
 ghost use Rattle.hcl_scan.specs.Closing as closing;
 ghost use Rattle.hcl_scan.specs.Modes as modes;
@@ -72,14 +73,29 @@ pub fn line_number(text: &[u8], at: usize) -> usize {
     line
 }
 
-/// Returns the line of a byte from its start on, with all that follows it.
-pub fn from_line_start(text: &[u8], at: usize) -> &[u8] {
-    for i in (0..at.min(text.len())).rev() {
-        if matches!(text.get(i), Some(b'\n')) {
-            return bytes_from(text, i.saturating_add(1));
-        }
+/// Whether this byte of a text is a LF.
+fn is_line_feed_at(text: &[u8], i: usize) -> bool
+    ensures { result ≡ (slice_index text.now i == line_feed) }
+{
+    match bytes_from(text, i) {
+        [first, ..] => *first == b'\n',
+        [] => false,
     }
-    text
+}
+
+/// Returns where the line of a byte begins.
+pub fn line_start(text: &[u8], at: usize) -> usize
+    ensures { result ≡ spec.line_start text.now at }
+{
+    let mut start = at;
+    while start > 0 {
+        let before = start - 1;
+        if is_line_feed_at(text, before) {
+            return start;
+        }
+        start = before;
+    }
+    0
 }
 
 fn is_whitespace(b: u8) -> bool

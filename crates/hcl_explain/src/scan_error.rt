@@ -10,9 +10,10 @@ ghost use Rattle.hcl_explain.specs.ScanExplanations.{IsSequenceExplanation, IsHe
 ghost use Rattle.hcl_explain.specs.ScanExplanations.{IsCommentExplanation, IsCommentIn};
 ghost use Rattle.hcl_explain.specs.ScanExplanations.{IsCommentAfter, IsByUnclosed, IsByLine};
 ghost use Rattle.hcl_explain.specs.ScanExplanations.{IsCharacterExplanation, IsCharacterIn};
-ghost use Rattle.hcl_explain.specs.ScanExplanations.{IsNestedIn, IsOtherIn, of};
+ghost use Rattle.hcl_explain.specs.ScanExplanations.{IsNestedIn, IsOtherIn, IsMarkerOr, of};
 
-use crate::lines::{bytes_from, closing_place, line_end, prefix};
+use crate::lines::{bytes_from, closing_place, line_end, line_start, prefix};
+use crate::marker::is_conflict_marker;
 use crate::sequence::{ends_in_value, is_closed_in_comment, open_sequence};
 use crate::without::{ends_with_line, is_unclosed};
 use hcl_scan::ScanFault;
@@ -26,6 +27,8 @@ pub enum ScanReason {
     Character,
     /// One in the template sequence that begins at this byte.
     InSequence(usize),
+    /// One in a line that git writes where a merge has a conflict.
+    Marker,
     Escape,
     /// A string that is not closed in its line.
     String,
@@ -66,7 +69,7 @@ pub fn explain_scan(
         ScanFault::OpenTemplate { at } => return Ok(Some(open_template(alloc, text, at)?)),
         ScanFault::OpenHeredoc { at } => return Ok(Some(open_heredoc(alloc, text, at)?)),
         ScanFault::OpenComment { at } => return Ok(Some(open_comment(alloc, text, at)?)),
-        ScanFault::BadCharacter { at } => return Ok(Some(character(alloc, text, at)?)),
+        ScanFault::BadCharacter { at } => return Ok(Some(bad_character(alloc, text, at)?)),
         ScanFault::NotUtf8 { at } => (at, ScanReason::NotUtf8),
         ScanFault::BadEscape { at } => (at, ScanReason::Escape),
         ScanFault::TooLong | ScanFault::Memory => return Ok(None),
@@ -232,6 +235,18 @@ pub fn is_blamed(alloc: Global, text: &[u8], opened: usize, at: usize) -> Result
         return Ok(true);
     }
     ends_in_value(alloc, sequence)
+}
+
+/// Explains that no token begins at a byte, by the line of it if that shows a conflict of a merge.
+fn bad_character(alloc: Global, text: &[u8], at: usize) -> Result<ScanExplanation, AllocError>
+    ensures { IfOk result (IsMarkerOr text.now at) }
+{
+    let start = line_start(text, at);
+    if is_conflict_marker(bytes_from(text, start)) {
+        Ok(explanation(start, ScanReason::Marker))
+    } else {
+        character(alloc, text, at)
+    }
 }
 
 /// Explains that no token begins at a byte.

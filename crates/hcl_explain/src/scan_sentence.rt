@@ -1,5 +1,6 @@
 //! The sentence of an error of a text that has no tokens, in one line.
 
+use crate::advice::Advice;
 use crate::character::push_character;
 use crate::escape::push_escape;
 use crate::found::byte_of;
@@ -36,6 +37,7 @@ impl ScanExplanation {
             ScanReason::InSequence(opened) => {
                 push_character(&mut out, alloc, text, self.at, Some(opened))?
             }
+            ScanReason::Marker => out.push_str(Advice::ConflictMarker.sentence())?,
             ScanReason::Escape => push_escape(&mut out, rest)?,
             ScanReason::String => push_string(&mut out, alloc, text, self.at)?,
             ScanReason::Sequence => {

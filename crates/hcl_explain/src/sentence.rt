@@ -40,7 +40,7 @@ impl Explanation {
                 push_closes_nothing(&mut out, scanned, self.found)?;
                 push_braces(&mut out, scanned, late_braces(alloc, scanned, self.found)?)?;
             }
-            Reason::Advice(advice) => out.push_str(advice.sentence())?,
+            Reason::Advice(advice) | Reason::Before(advice) => out.push_str(advice.sentence())?,
         }
         Ok(out)
     }

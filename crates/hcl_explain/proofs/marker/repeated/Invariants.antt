@@ -1,0 +1,12 @@
+use Rattle.std.proofs.Common.{length, ◌-◌, ◌≡◌, ◌+◌, ◌≤◌, ◌==◌, drop}
+use Rattle.std.specs.List.{prefix_len}
+use Rattle.hcl_explain.proofs.marker.repeated.Given as goal
+
+abbrev pub invariant-loop-at : goal.invariant-loop-at
+invariant-loop-at l =
+    (l.at + prefix_len (λ b. b == l.byte) (drop l.at l.text)
+    ≡ prefix_len (λ b. b == l.byte) l.text)
+    × (l.at ≤ length l.text)
+
+abbrev pub decreases-loop-at : goal.decreases-loop-at
+decreases-loop-at l = length l.text - l.at
