@@ -201,6 +201,23 @@ IsShownOpen text opened = EndsWithLine text opened ⊎ MakesError text opened
 abbrev pub without : List ℕ → ℕ → ℕ → List ℕ
 without text at count = take at text ++ drop count (drop at text)
 
+-- a line without the `$` of each `${`
+abbrev pub plain_line : List ℕ → List ℕ
+plain_line [] = []
+plain_line (b ∷ rest) =
+    if is_interpolation (b ∷ rest) then plain_line rest else b ∷ plain_line rest
+
+-- the text without the `$` of each `${` in the line of byte `at`, from there on
+abbrev pub in_plain : List ℕ → ℕ → List ℕ
+in_plain text at =
+    (take at text ++ plain_line (first_line (drop at text))) ++ after_line (drop at text)
+
+-- the template sequence that begins at `opened` is shown not to be closed by the text, or by the
+-- text without these
+abbrev pub IsUnclosedInPlain : List ℕ → ℕ → ℕ → Type 0
+IsUnclosedInPlain text opened at =
+    EndsWithLine text opened ⊎ IsShownOpen (in_plain text at) opened
+
 -- the template sequence that begins at `opened` is shown not to be closed by the text, or by the
 -- text without the bytes at which its error is
 abbrev pub IsUnclosed : List ℕ → ℕ → ℕ → ℕ → Type 0

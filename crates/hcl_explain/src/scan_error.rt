@@ -10,12 +10,13 @@ ghost use Rattle.hcl_explain.specs.ScanExplanations.{IsSequenceExplanation, IsHe
 ghost use Rattle.hcl_explain.specs.ScanExplanations.{IsCommentExplanation, IsCommentIn};
 ghost use Rattle.hcl_explain.specs.ScanExplanations.{IsCommentAfter, IsByUnclosed, IsByLine};
 ghost use Rattle.hcl_explain.specs.ScanExplanations.{IsCharacterExplanation, IsCharacterIn};
-ghost use Rattle.hcl_explain.specs.ScanExplanations.{IsNestedIn, IsOtherIn, IsMarkerOr, of};
+ghost use Rattle.hcl_explain.specs.ScanExplanations.{IsNestedIn, IsOtherIn, IsByPlain, IsMarkerOr};
+ghost use Rattle.hcl_explain.specs.ScanExplanations.{of};
 
 use crate::lines::{bytes_from, closing_place, line_end, line_start, prefix};
 use crate::marker::is_conflict_marker;
 use crate::sequence::{ends_in_value, is_closed_in_comment, open_sequence};
-use crate::without::{ends_with_line, is_unclosed};
+use crate::without::{ends_with_line, is_unclosed, is_unclosed_in_plain};
 use hcl_scan::ScanFault;
 use std::alloc::{AllocError, Global};
 
@@ -319,7 +320,7 @@ fn nested(
     if is_ended(alloc, text, opened, at)? {
         Ok(explanation(opened, ScanReason::Sequence))
     } else {
-        by_unclosed(alloc, text, opened, at)
+        by_plain(alloc, text, opened, at)
     }
 }
 
@@ -333,6 +334,22 @@ fn by_unclosed(
     ensures { IfOk result (IsByUnclosed text.now opened at) }
 {
     if is_unclosed(alloc, text, opened, at, 1)? {
+        Ok(explanation(opened, ScanReason::Sequence))
+    } else {
+        Ok(explanation(at, ScanReason::InSequence(opened)))
+    }
+}
+
+/// Explains it by whether this template sequence is closed without the `$` of each `${` in the line.
+fn by_plain(
+    alloc: Global,
+    text: &[u8],
+    opened: usize,
+    at: usize,
+) -> Result<ScanExplanation, AllocError>
+    ensures { IfOk result (IsByPlain text.now opened at) }
+{
+    if is_unclosed_in_plain(alloc, text, opened, at)? {
         Ok(explanation(opened, ScanReason::Sequence))
     } else {
         Ok(explanation(at, ScanReason::InSequence(opened)))

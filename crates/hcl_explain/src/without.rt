@@ -1,7 +1,7 @@
 //! Whether a template sequence is not closed, where another error is in it: by its lines, and by
 //! the text without the bytes at which the error is.
 
-ghost use Rattle.std.specs.Prelude.{◌≡◌, IfOk, IsErr, drop, true};
+ghost use Rattle.std.specs.Prelude.{◌≡◌, ◌++◌, ◌+◌, ◌<◌, IfOk, OnOk, IsErr, drop, length, true};
 ghost use Rattle.std.specs.Bool.{Decides};
 ghost use Rattle.hcl_scan.specs.Fault.{IsFault};
 ghost use Rattle.hcl_scan.specs.declared.fault.ScanFault.TheVariants.{OpenTemplate, Memory};
@@ -10,8 +10,11 @@ ghost use Rattle.hcl_explain.specs.Lines.{closing_place};
 ghost use Rattle.hcl_explain.specs.Sequences as spec;
 ghost use Rattle.hcl_explain.specs.Sequences.{EndsWithLine, IsMadeBy, MakesError, IsShownOpen, IsUnclosed};
 ghost use Rattle.hcl_explain.specs.Sequences.{IsOpenBefore, IsBlamed, IsEnded};
+ghost use Rattle.hcl_explain.specs.Sequences.{IsUnclosedInPlain};
 
-use crate::lines::{after_line, bytes_from, closing_place, line_end, prefix, whitespace_len};
+use crate::lines::{
+    after_line, bytes_from, closing_place, first_line, line_end, prefix, whitespace_len,
+};
 use crate::scan_error::{is_blamed, is_ended};
 use crate::sequence::ends_line_in_value;
 use hcl_scan::{ScanFault, scan};
@@ -57,6 +60,80 @@ fn without(alloc: Global, text: &[u8], at: usize, count: usize) -> Result<Vec<u8
     shorter.extend_from_slice(prefix(text, at))?;
     shorter.extend_from_slice(bytes_from(bytes_from(text, at), count))?;
     Ok(shorter)
+}
+
+/// Whether the template sequence that begins at byte `opened` is not closed, by the text, or by the
+/// text without the `$` of each `${` in the line of byte `at`, from there on.
+pub fn is_unclosed_in_plain(
+    alloc: Global,
+    text: &[u8],
+    opened: usize,
+    at: usize,
+) -> Result<bool, AllocError>
+    ensures { IfOk result (λ b. Decides b (IsUnclosedInPlain text.now opened at)) }
+{
+    if ends_with_line(alloc, text, opened)? {
+        return Ok(true);
+    }
+    is_shown_in_plain(alloc, text, opened, at)
+}
+
+/// Whether it is not, by the text without these.
+fn is_shown_in_plain(
+    alloc: Global,
+    text: &[u8],
+    opened: usize,
+    at: usize,
+) -> Result<bool, AllocError>
+    ensures { IfOk result (λ b. Decides b (IsShownOpen (spec.in_plain text.now at) opened)) }
+{
+    let plain = in_plain(alloc, text, at)?;
+    is_shown_open(alloc, plain.as_slice(), opened)
+}
+
+/// Returns a text without these.
+fn in_plain(alloc: Global, text: &[u8], at: usize) -> Result<Vec<u8>, AllocError>
+    ensures { IfOk result (λ plain. plain.items ≡ spec.in_plain text.now at) }
+{
+    let rest = bytes_from(text, at);
+    let mut plain = Vec::with_capacity(alloc, text.len())?;
+    plain.extend_from_slice(prefix(text, at))?;
+    push_plain(&mut plain, first_line(rest))?;
+    plain.extend_from_slice(after_line(rest))?;
+    Ok(plain)
+}
+
+/// Adds a line without the `$` of each `${`.
+fn push_plain(out: &mut Vec<u8>, line: &[u8]) -> Result<(), AllocError>
+    ensures { OnOk result (out.new.items ≡ out.old.items ++ spec.plain_line line.now) }
+{
+    let mut at = 0usize;
+    while at < line.len() {
+        push_plain_byte(out, line, at)?;
+        at += 1;
+    }
+    Ok(())
+}
+
+/// Adds this byte of a line, if it is not the `$` of a `${`.
+#[tactic(auto, using(crate::proofs::PlainLemmas::skipped, crate::proofs::PlainLemmas::added))]
+fn push_plain_byte(out: &mut Vec<u8>, line: &[u8], at: usize) -> Result<(), AllocError>
+    requires { at < length line.now }
+    ensures { OnOk result (out.new.items ++ spec.plain_line (drop (at + 1) line.now)
+        ≡ out.old.items ++ spec.plain_line (drop at line.now)) }
+{
+    if is_interpolation_at(line, at) {
+        return Ok(());
+    }
+    out.push(line[at])?;
+    Ok(())
+}
+
+/// Whether a `${` is at this byte of a line.
+fn is_interpolation_at(line: &[u8], at: usize) -> bool
+    ensures { result ≡ spec.is_interpolation (drop at line.now) }
+{
+    bytes_from(line, at).starts_with(b"${")
 }
 
 /// Whether a text shows that the template sequence which begins at byte `opened` is not closed.
