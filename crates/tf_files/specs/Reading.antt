@@ -1,5 +1,5 @@
 -- What is read of a text and of its journal, by what their readers had left.
-use Rattle.std.specs.Prelude.{◌≡◌, ◌⊎◌, ℕ, List, Option, IfSome}
+use Rattle.std.specs.Prelude.{◌≡◌, ℕ, List, Option, IfSome}
 use Rattle.tf_stream.specs.Streams.{Source}
 use Rattle.tf_session.specs.declared.fault.RunFault.{RunFault}
 use Rattle.tf_session.specs.declared.loader.TheConstants.{MAX_JOURNAL}

@@ -22,8 +22,7 @@ pub record Files : Type 0 where
   pub bytes : ℕ → List ℕ
   pub refuses : Spot → RunFault → Bool
 
--- the bytes of a text and a journal
--- what is at a place
+-- the bytes of the text and of the journal at a place
 abbrev pub contents_at : Files → Spot → FileContents
 contents_at files spot =
     record { text = files.bytes spot.text; journal = files.bytes spot.journal }
@@ -82,8 +81,8 @@ pub record HasSaved (spot : Spot) (contents : FileContents) (old new : Files) : 
   pub names : new.spot ≡ old.spot
   pub refuses : new.refuses ≡ old.refuses
 
--- Both were saved; after an error nothing has changed, or both were saved all the same, as where the
--- system doesn't say whether they last.
+-- Both were saved. After an error nothing has changed, or both were saved all the same, as where a
+-- folder can't be synced.
 abbrev pub SavesIn : Spot → FileContents → Result (Unit {0}) Trouble → Files → Files → Type 0
 SavesIn spot contents (Ok saved) old new = HasSaved spot contents old new
 SavesIn spot contents (Err error) old new = (new ≡ old) ⊎ HasSaved spot contents old new

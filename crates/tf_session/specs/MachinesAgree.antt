@@ -7,7 +7,7 @@ use Rattle.tf_lint.specs.Steps.{texts_differ}
 use Rattle.tf_session.specs.Layers.{Layer, History, initial_history, HistoryRun}
 use Rattle.tf_session.specs.Machine.{StackEntry, Stack, initial_stack, StackRun, WithoutTake}
 
--- the texts of the layers are those of the stack, and neighbours differ
+-- the texts of the layers are those of the stack, and neighbors differ
 abbrev pub LayersMatchStack : List ℕ → List Layer → List ℕ → List StackEntry → Type 0
 LayersMatchStack first layers top [] = (layers ≡ []) × (top ≡ first)
 LayersMatchStack first layers top (under ∷ rest) =

@@ -31,7 +31,7 @@ pub record IsRecordOf (command : Command) (text : List ℕ) (made : Rewrite) (r 
   pub edits : r.edits ≡ made.edits
   pub transforms : record_transforms r text made.text
 
--- There is one record for each two neighbours, the oldest first: that of the command that made the
+-- There is one record for each two neighbors, the oldest first: that of the command that made the
 -- upper of the lower. Neighbours differ.
 abbrev pub IsJournalOfStack : List JournalEntry → List ℕ → List StackEntry → Type 0
 IsJournalOfStack records top [] = records ≡ []

@@ -1,5 +1,5 @@
 -- One more file is saved, and its result is kept.
-use Rattle.std.proofs.Common.{List, None, ◌++◌, [], ◌∷◌, Result, map, take, subst, sym, rules}
+use Rattle.std.proofs.Common.{List, None, ◌++◌, [], ◌∷◌, Result, map, take, subst, sym}
 use Rattle.tf_files.specs.Stores.{Spot, SavesEach}
 use Rattle.tf_files.specs.declared.cause.Trouble.{Trouble}
 use Rattle.tf_files.specs.declared.disk.DiskFile.{DiskFile}
