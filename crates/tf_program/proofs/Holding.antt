@@ -1,5 +1,5 @@
 -- Names that are done one after another, and those whose entries are held.
-use Rattle.std.proofs.Common.{◌≡◌, ℕ, Bool, ◌+◌, length, ◌∙◌, List, [], ◌∷◌, ◌++◌, Option, Some, None, refl, sym, ap, subst, append_assoc, append-nil, arith, vec_len, map}
+use Rattle.std.proofs.Common.{◌≡◌, ℕ, Bool, ◌+◌, length, ◌∙◌, List, [], ◌∷◌, ◌++◌, Option, Some, refl, sym, ap, subst, append_assoc, append-nil, arith, vec_len}
 use Rattle.std.proofs.lemmas.List.{map-append}
 use Rattle.std.specs.Borrow.{Bor}
 use Rattle.tf_cli.specs.declared.options.Action.{Action}
@@ -7,7 +7,7 @@ use Rattle.tf_cli.specs.declared.outcome.RunOutcome.{RunOutcome}
 use Rattle.tf_files.specs.Stores.{Files, Spot}
 use Rattle.tf_program.specs.declared.batch.Batch.{Batch}
 use Rattle.tf_program.specs.declared.batch.Entry.{Entry}
-use Rattle.tf_program.specs.Inner.Entries.{Advances, MayFinish, PutsIn, KeepsBatch, KeepsName, KeepsNames, IsWaitingIn, IsEntryIn, IsResultIn, AreWaiting, AreApartFrom, IsApartFromAll, IsApartFromName, names_of, file_of, progress}
+use Rattle.tf_program.specs.Inner.Entries.{Advances, MayFinish, PutsIn, KeepsBatch, KeepsNames, IsWaitingIn, IsEntryIn, IsResultIn, AreWaiting, AreApartFrom, IsApartFromAll, IsApartFromName, names_of, file_of, progress}
 use Rattle.tf_program.specs.Printing.{Console}
 use Rattle.tf_program.specs.Work.{file_command}
 use Rattle.tf_session.specs.declared.command.Command.{Command}

@@ -1,6 +1,6 @@
 -- What a save leaves as it was: the files that it is apart from.
 use Rattle.std.proofs.lemmas.List.{take_more, drop_more, map-append}
-use Rattle.std.proofs.Common.{◌≡◌, ◌⊎◌, ℕ, ◌+◌, ◌<◌, zero, suc, Bool, true, List, [], ◌∷◌, ◌++◌, length, get_or, take, drop, Option, Some, None, Result, Ok, Err, ◌∙◌, refl, sym, ap, ap₂, subst, inl, inr, arith, map, append-nil}
+use Rattle.std.proofs.Common.{◌≡◌, ℕ, ◌+◌, ◌<◌, zero, suc, Bool, List, [], ◌∷◌, ◌++◌, length, get_or, take, drop, Option, Some, None, Result, Ok, Err, ◌∙◌, refl, sym, ap, ap₂, subst, inl, inr, arith, map, append-nil}
 use Rattle.std.specs.Borrow.{Bor}
 use Rattle.tf_cli.specs.declared.options.Action.{Action}
 use Rattle.tf_session.specs.Invocations.{FileContents}
@@ -12,7 +12,6 @@ use Rattle.tf_files.specs.declared.store.ChangedFile.{ChangedFile}
 use Rattle.tf_program.specs.declared.batch.Entry.{Entry}
 use Rattle.tf_program.specs.declared.file_error.FileError.{FileError}
 use Rattle.tf_program.specs.declared.files.Made.{Made}
-use Rattle.tf_program.specs.Tasks.{HasEffectIn, HasNoEffectIn}
 use Rattle.tf_program.specs.Inner.Entries.{KeepsName, IsResultIn, IsEntryIn, IsApartFrom, IsApartFromName, IsApartFromAll, AreApartFrom, AreWaiting, IsPlacedApart, ArePlacedApart, TakesResult, WasSaved, file_of, files_of, with_file, IsBorrowed}
 
 -- ---- one name

@@ -1,5 +1,5 @@
 -- What a command makes of a file that was found and read.
-use Rattle.std.proofs.Common.{◌≡◌, ℕ, Bool, List, Option, Some, None, Result, Ok, Err, ◌∙◌, refl, sym, ap, subst, inl, inr}
+use Rattle.std.proofs.Common.{◌≡◌, ℕ, Bool, List, Option, Some, None, Result, Ok, Err, ◌∙◌, sym, ap, subst, inr}
 use Rattle.tf_session.specs.Invocations.{FileContents}
 use Rattle.tf_session.specs.declared.command.Command.{Command}
 use Rattle.tf_files.specs.Stores.{Files, Spot, IsSpotOf, HasContents, HasContentsAt, contents_at}

@@ -1,11 +1,10 @@
 -- Runs of the program do to a file what their commands do to it: by induction on files and runs.
-use Rattle.std.proofs.Common.{◌≡◌, ◌⊎◌, ℕ, Bool, true, false, List, [], ◌∷◌, ◌++◌, Option, Some, None, Result, Ok, Err, ◌∙◌, refl, sym, ap, ap₂, subst, inl, inr}
+use Rattle.std.proofs.Common.{◌≡◌, ◌⊎◌, ℕ, Bool, true, List, [], ◌∷◌, ◌++◌, Option, Some, None, Result, Ok, Err, ◌∙◌, refl, sym, ap, ap₂, subst, inl, inr}
 use Rattle.std.specs.Borrow.{Bor}
 use Rattle.std.specs.Prelude.{unwrap_or, length}
 use Rattle.tf_cli.specs.Reading.{IsTaskOfArguments}
 use Rattle.tf_cli.specs.declared.options.Action.{Action}
 use Rattle.tf_cli.specs.declared.outcome.FileOutcome.{FileOutcome}
-use Rattle.tf_cli.specs.declared.outcome.RunOutcome.{RunOutcome}
 use Rattle.tf_cli.specs.declared.tasks.Task.{Task}
 use Rattle.tf_session.specs.Invocations.{FileContents, HasEffect, HasNoEffect, Invokes, InvokesAll, InvocationsAreStackRun, InvocationsAreHistoryRun, contents_after}
 use Rattle.tf_session.specs.declared.command.Command.{Command}
@@ -15,10 +14,10 @@ use Rattle.tf_session.specs.declared.invocation.Effect.{Effect}
 use Rattle.tf_session.specs.declared.saver.SavedTexts.{SavedTexts}
 use Rattle.tf_files.specs.Stores.{Files, Spot, AreApart, SavesIn, contents_at}
 use Rattle.tf_files.specs.declared.cause.Trouble.{Trouble}
-use Rattle.tf_program.specs.Printing.{Console, Channel}
+use Rattle.tf_program.specs.Printing.{Channel}
 use Rattle.tf_program.specs.ProgramRuns.{ProgramRun, RunsInTurn, LeadToBothOrNeither, NameBothOrNeither, AreCommandsBy, AreCommandsOfRun, AreCommandsOf, ProgramRunsAreOneRun}
-use Rattle.tf_program.specs.Runs.{Works, IsStatusOfOutcome, world_of}
-use Rattle.tf_program.specs.Tasks.{Progress, DoesCommand, DoesFile, DoesEach, DoesEffect, HasError, HasEffectIn, HasNoEffectIn, IsReadError, IsMet, PrintsLines, SavesTexts, contents_saved, outcome_of_files, with_output}
+use Rattle.tf_program.specs.Runs.{Works, world_of}
+use Rattle.tf_program.specs.Tasks.{Progress, DoesCommand, DoesEach, DoesEffect, HasError, HasEffectIn, HasNoEffectIn, IsReadError, IsMet, PrintsLines, SavesTexts, contents_saved, outcome_of_files, with_output}
 use Rattle.tf_program.specs.Work.{file_command}
 use Rattle.tf_program.specs.declared.file_error.FileError.{FileError}
 

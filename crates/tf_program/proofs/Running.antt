@@ -1,5 +1,5 @@
 -- The files of a task, one after another.
-use Rattle.std.proofs.Common.{◌≡◌, ℕ, Bool, List, [], ◌∷◌, ◌++◌, Option, Some, None, Result, ◌∙◌, refl, sym, ap, subst, append_assoc, append-nil}
+use Rattle.std.proofs.Common.{◌≡◌, ℕ, Bool, List, [], ◌++◌, Option, None, Result, ◌∙◌, refl, sym, ap, subst, append_assoc, append-nil}
 use Rattle.std.specs.Borrow.{Bor}
 use Rattle.tf_cli.specs.declared.options.Action.{Action}
 use Rattle.tf_cli.specs.declared.outcome.FileOutcome.{FileOutcome}
@@ -62,7 +62,7 @@ answer_in action other locate off name here after met console same located none 
     (subst (λ (l : Bool). DoesFile action l name here after) (sym located)
     (answer_does action locate name here after met console none answers (subst (λ (l : Bool). IsMet name l met (with_console here console) after) located is)))
 
--- ---- what is equal stands for what it is equal to
+-- ---- the same of what is equal
 
 pub does_here : (names others : List (Bor (List ℕ))) (action : Action) (locate : Bool) (start here : Progress) → names ≡ others → DoesEach action locate names start here → DoesEach action locate others start here
 does_here names others action locate start here same = subst (λ (ns : List (Bor (List ℕ))). DoesEach action locate ns start here) same

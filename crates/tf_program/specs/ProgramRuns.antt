@@ -1,5 +1,5 @@
 -- Runs of the program one after another over the files of a store: what they do to one file.
-use Rattle.std.specs.Prelude.{◌≡◌, ◌⊎◌, ℕ, List, [], ◌∷◌, ◌++◌, Option, Some, None, Result, Ok, Err}
+use Rattle.std.specs.Prelude.{◌≡◌, ◌⊎◌, ℕ, List, [], ◌∷◌, ◌++◌, Some, None, Result, Ok}
 use Rattle.std.specs.Borrow.{Bor}
 use Rattle.tf_cli.specs.Reading.{IsTaskOfArguments, IsArgumentsFault}
 use Rattle.tf_cli.specs.declared.exits.Exit.{Exit}

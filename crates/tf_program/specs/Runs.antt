@@ -34,7 +34,7 @@ RunsTask task outcome old new =
     (record { outcome = outcome_of_files (length task.files.items); console = old.console; files = old.files })
     (record { outcome = outcome; console = new.console; files = new.files })
 
--- and the status is that of what they have met
+-- the task was done on its files, and the status is that of what they have met
 abbrev pub WorksOnTask : Task → ℕ → World → World → Type 0
 WorksOnTask task status old new =
     (outcome : RunOutcome) × RunsTask task outcome old new × IsStatusOfOutcome outcome status

@@ -146,8 +146,8 @@ impl<'a, P: Drop> Batch<'a, P> {
         }
     }
 
-    /// Does a command on a file. If memory runs out while others are held, or it can't be read, which
-    /// may be for want of handles, these are saved, and it is done once more.
+    /// Does a command on a file. If memory runs out while others are held, or it can't be read, as
+    /// where too many files are open, these are saved, and it is done once more.
     fn make<S: Store<Place = P>, I: Read, O: Write, F: Write>(
         &mut self,
         store: &mut S,

@@ -7,7 +7,7 @@ ghost use Rattle.tf_program.specs.Printing.{IsErrorText, IsShortErrorText, IsSec
 ghost use Rattle.tf_program.specs.Printing.{IsMessage, IsReasonLine};
 ghost use Rattle.tf_program.specs.Printing.{error_line, located_line};
 
-use crate::hint::{Hint, hint_of, hint_of_unread};
+use crate::hint::{Hint, hint_of, hint_of_answer};
 use crate::location::{Location, byte_of, location_of};
 use crate::printing::print;
 use arrayvec::ArrayString;
@@ -127,9 +127,8 @@ impl FileError {
         }
     }
 
-    /// Returns the error of a journal that can't be decoded, or that memory ran out for that, with
-    /// what it means if `locate` says so.
-    pub fn of_journal(fault: RunFault, locate: bool) -> FileError
+    /// Returns an error that is at no byte of the file, with what it means if `locate` says so.
+    pub fn unlocated(fault: RunFault, hint: Option<Hint>, locate: bool) -> FileError
         ensures fault { result.fault ≡ fault }
         ensures location { result.location ≡ None }
     {
@@ -138,7 +137,7 @@ impl FileError {
             location: None,
             explained: None,
             cause: None,
-            hint: if locate { hint_of_unread(&fault) } else { None },
+            hint: if locate { hint } else { None },
         }
     }
 
@@ -148,24 +147,10 @@ impl FileError {
         ensures location { IsLocatedIn text.now locate result }
     {
         if locate {
-            FileError::located(alloc, fault, text, None)
+            let hint = hint_of_answer(&fault);
+            FileError::located(alloc, fault, text, hint)
         } else {
             FileError::from(fault)
-        }
-    }
-
-    /// Returns the error that the lines of a file were not printed, once it was saved, with that if
-    /// `locate` says so.
-    pub fn of_unprinted(fault: RunFault, locate: bool) -> FileError
-        ensures fault { result.fault ≡ fault }
-        ensures location { result.location ≡ None }
-    {
-        FileError {
-            fault,
-            location: None,
-            explained: None,
-            cause: None,
-            hint: if locate { Some(Hint::NotPrinted) } else { None },
         }
     }
 

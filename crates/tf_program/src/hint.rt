@@ -1,9 +1,11 @@
-//! What an error of a command on a journal means, and what to do.
+//! What an error of a command on a journal or of standard output means, and what to do.
 
 use std::fmt;
 use tf_session::{Command, Refused, RunFault};
 
-/// What is said of an error of a file's journal beside its own text.
+const NO_MORE: &str = "standard output takes no more";
+
+/// What is said of an error of a file's journal, or of standard output, beside its own text.
 #[derive(Clone, Copy)]
 pub enum Hint {
     /// The file has another length than the last command left.
@@ -23,6 +25,8 @@ pub enum Hint {
     /// The journal can't be decoded.
     NotDecoded,
     /// Not all of the file's lines were printed, once it was saved.
+    SavedNotPrinted,
+    /// Not all was printed of what was made of a text, which changes no file.
     NotPrinted,
 }
 
@@ -43,6 +47,14 @@ pub fn hint_of(command: Command, fault: &RunFault, len: usize) -> Option<Hint> {
 pub fn hint_of_unread(fault: &RunFault) -> Option<Hint> {
     match fault {
         RunFault::BadJournal(_) => Some(Hint::NotDecoded),
+        _ => None,
+    }
+}
+
+/// Returns what is said of an error of an action that changes no file, on a text.
+pub fn hint_of_answer(fault: &RunFault) -> Option<Hint> {
+    match fault {
+        RunFault::Write { .. } => Some(Hint::NotPrinted),
         _ => None,
     }
 }
@@ -95,7 +107,8 @@ impl fmt::Display for Hint {
                 "no such command: tfk revert --list FILE prints those that there are",
             ),
             Hint::Blocked { number } => write!(f, "undo command {number} first"),
-            Hint::NotPrinted => f.write_str("standard output takes no more; the file is saved"),
+            Hint::SavedNotPrinted => write!(f, "{NO_MORE}; the file is saved"),
+            Hint::NotPrinted => f.write_str(NO_MORE),
             Hint::NotDecoded => {
                 f.write_str("the journal is damaged, or not tfk's: restore it, or delete it")
             }

@@ -11,6 +11,7 @@ ghost use Rattle.tf_program.specs.Printing.{console_of};
 
 use crate::answer::{Answer, STANDARD_INPUT};
 use crate::file_error::FileError;
+use crate::hint::{hint_of_answer, hint_of_unread};
 use crate::printing::print;
 use crate::record_list::record_lines;
 use crate::streams::Streams;
@@ -167,12 +168,16 @@ fn list_file<S: Store, I: Read, O: Write, F: Write>(
 {
     let ReadFile { text, journal } = store.read_only(alloc, name)?;
     match Session::from_texts(alloc, text, journal) {
-        Ok(session) => list_session(alloc, &session, streams),
-        Err(fault) => Err(FileError::of_journal(fault, locate)),
+        Ok(session) => list_session(alloc, &session, locate, streams),
+        Err(fault) => {
+            let hint = hint_of_unread(&fault);
+            Err(FileError::unlocated(fault, hint, locate))
+        }
     }
 }
 
-/// Prints a line for each recorded command of a session.
+/// Prints a line for each recorded command of a session. An error of printing has a second line if
+/// `locate` says so.
 ///
 /// # Errors
 ///
@@ -180,6 +185,7 @@ fn list_file<S: Store, I: Read, O: Write, F: Write>(
 fn list_session<I: Read, O: Write, F: Write>(
     alloc: Global,
     session: &Session,
+    locate: bool,
     streams: &mut Streams<I, O, F>,
 ) -> Result<FileOutcome, FileError>
     ensures lists { ListsRecords (contents_of session.now) result
@@ -188,8 +194,13 @@ fn list_session<I: Read, O: Write, F: Write>(
     ensures input { streams.new.input ≡ streams.old.input }
 {
     let lines = list_lines(alloc, session)?;
-    print(lines.as_bytes(), &mut streams.output)?;
-    Ok(FileOutcome::Nothing)
+    match print(lines.as_bytes(), &mut streams.output) {
+        Ok(()) => Ok(FileOutcome::Nothing),
+        Err(fault) => {
+            let hint = hint_of_answer(&fault);
+            Err(FileError::unlocated(fault, hint, locate))
+        }
+    }
 }
 
 /// Returns a line for each recorded command of a session.

@@ -26,32 +26,33 @@ const CANNOT_WRITE: &str = "tfk: cannot write standard output\n";
 
 /// Does what the arguments ask for, without the name of the program, on the files of the system, and
 /// returns the exit status: 1 after any error, else 2 if an issue is left, else 3 if a file that was
-/// to be checked is not formatted, else 0. Reports are written to the output, errors to `faults`.
+/// to be checked is not formatted, else 0. Reports are printed on standard output, errors on standard
+/// error.
 pub fn work<R: SystemFiles, I: Read, O: Write, F: Write>(
     rt: &R,
     alloc: Global,
-    words: &[String],
+    arguments: &[String],
     streams: &mut Streams<I, O, F>,
 ) -> u8
-    ensures { Works (all_normalized (map string_bytes words.now)) result
+    ensures { Works (all_normalized (map string_bytes arguments.now)) result
         (world_of None (console_of I.remaining O.contents F.contents streams.old))
         (world_of None (console_of I.remaining O.contents F.contents streams.new)) }
 {
-    work_in(&mut Disk::new(rt), alloc, words, streams)
+    work_in(&mut Disk::new(rt), alloc, arguments, streams)
 }
 
 /// Does what the arguments ask for on the files of a store, as [`work`] does on those of the system.
 pub fn work_in<S: Store, I: Read, O: Write, F: Write>(
     store: &mut S,
     alloc: Global,
-    words: &[String],
+    arguments: &[String],
     streams: &mut Streams<I, O, F>,
 ) -> u8
-    ensures { Works (all_normalized (map string_bytes words.now)) result
+    ensures { Works (all_normalized (map string_bytes arguments.now)) result
         (world_of (S.known store.old) (console_of I.remaining O.contents F.contents streams.old))
         (world_of (S.known store.new) (console_of I.remaining O.contents F.contents streams.new)) }
 {
-    match CommandLine::new(alloc, words) {
+    match CommandLine::new(alloc, arguments) {
         Ok(line) => run_command_line(store, alloc, &line, streams),
         Err(_) => exit_with_fault(OUT_OF_MEMORY, streams),
     }

@@ -1,5 +1,5 @@
 -- What a batch holds of files whose commands are done and not reported yet.
-use Rattle.std.specs.Prelude.{◌≡◌, ◌⊎◌, ◌+◌, ◌<◌, ℕ, Bool, true, List, [], ◌∷◌, ◌++◌, map}
+use Rattle.std.specs.Prelude.{◌≡◌, ◌⊎◌, ◌+◌, ◌<◌, ℕ, Bool, List, [], ◌∷◌, ◌++◌, map}
 use Rattle.std.specs.Prelude.{Option, Some, None, Result, Ok, Err, IfOk, IfErr, vec_len}
 use Rattle.std.specs.Borrow.{Bor}
 use Rattle.tf_cli.specs.declared.options.Action.{Action}
@@ -8,7 +8,7 @@ use Rattle.tf_session.specs.Invocations.{FileContents, HasEffect, HasNoEffect}
 use Rattle.tf_session.specs.declared.command.Command.{Command}
 use Rattle.tf_session.specs.declared.invocation.Effect.{Effect}
 use Rattle.tf_session.specs.declared.saver.SavedTexts.{SavedTexts}
-use Rattle.tf_files.specs.Stores.{Files, Spot, IsSpotOf, HasContents, AreApart, IfKnown, MayFail, Saves, IsSaveResult}
+use Rattle.tf_files.specs.Stores.{Files, Spot, IsSpotOf, AreApart, IfKnown, MayFail, Saves, IsSaveResult}
 use Rattle.tf_files.specs.Stores.{contents_at, contents_to_save}
 use Rattle.tf_files.specs.declared.cause.Trouble.{Trouble}
 use Rattle.tf_files.specs.declared.store.ChangedFile.{ChangedFile}

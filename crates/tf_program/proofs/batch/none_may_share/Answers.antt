@@ -1,9 +1,7 @@
 -- One entry more shares nothing; or it may share something, and the answer is no.
-use Rattle.std.proofs.Common.{List, refl, rules, subst, sym, take}
+use Rattle.std.proofs.Common.{rules, sym, take}
 use Rattle.std.proofs.lemmas.Bool.{false≢true}
 use Rattle.std.proofs.lemmas.List.{take_all}
-use Rattle.tf_program.specs.declared.batch.Entry.{Entry}
-use Rattle.tf_program.specs.Inner.Entries.{ArePlacedApart}
 use Rattle.tf_program.proofs.Keeping.{placed_one_more, taken_entry}
 use Rattle.tf_program.proofs.batch.none_may_share.Goals as goal
 

@@ -1,6 +1,6 @@
 -- The action was done on the text of the file, or on its records.
-use Rattle.std.proofs.Common.{◌≡◌, ◌∙◌, Err, None, refl, rules, sym}
-use Rattle.tf_program.proofs.Answering.{answered, unanswered, listed}
+use Rattle.std.proofs.Common.{◌∙◌, sym}
+use Rattle.tf_program.proofs.Answering.{listed}
 use Rattle.tf_program.proofs.read_only.answer_file.Goals as goal
 
 pub returns-then-is_list-clause-answer : goal.returns-then-is_list-clause-answer

@@ -1,6 +1,5 @@
 -- The lines of what was made are printed, or its error; or the error of the command.
-use Rattle.std.proofs.Common.{Option, None, Result, Err, subst}
-use Rattle.tf_files.specs.Stores.{Files}
+use Rattle.std.proofs.Common.{Result, subst}
 use Rattle.tf_program.specs.Inner.Entries.{IsResultIn, WasSaved, file_of}
 use Rattle.tf_program.specs.declared.file_error.FileError.{FileError}
 use Rattle.tf_program.specs.declared.files.Made.{Made}

@@ -1,8 +1,8 @@
 -- One more entry is reported.
-use Rattle.std.proofs.Common.{◌∙◌, ◌+◌, ap, arith, drop, length, refl, rules, sym, take}
+use Rattle.std.proofs.Common.{◌∙◌, ◌+◌, ap, arith, drop, length, refl, sym, take}
 use Rattle.tf_program.proofs.Holding.{keeps_none, keeps_more}
 use Rattle.tf_program.proofs.Keeping.{taken_entry, left_entry}
-use Rattle.tf_program.proofs.Reporting.{does_as, entry_as, reports_none, reports_next, reports_end}
+use Rattle.tf_program.proofs.Reporting.{does_as, entry_as, reports_none, reports_next}
 use Rattle.tf_program.proofs.batch.Batch.report_all.Goals as goal
 
 pub report-requires : goal.report-requires

@@ -1,8 +1,7 @@
 -- The entries up to here are reported, and what the batch holds stays.
-use Rattle.std.proofs.Common.{◌≡◌, Option, Result, length, take, drop}
+use Rattle.std.proofs.Common.{◌≡◌, Option, length, take, drop}
 use Rattle.std.specs.Vec.Iter.{into_iter_items, into_iter_len}
 use Rattle.tf_files.specs.Stores.{Files, Spot, SavesEach}
-use Rattle.tf_files.specs.declared.cause.Trouble.{Trouble}
 use Rattle.tf_program.specs.Inner.Entries.{KeepsBatch, AreWaiting, files_of, progress}
 use Rattle.tf_program.specs.Printing.{console_of}
 use Rattle.tf_program.proofs.Reporting.{ReportsSome}
