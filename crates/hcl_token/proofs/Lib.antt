@@ -4,6 +4,7 @@ pub mod ClusterLemmas
 pub mod OrderLemmas
 pub mod LineLemmas
 pub mod LineColumnLemmas
+pub mod LastLineLemmas
 pub mod PlaceLemmas
 pub mod TokenRangeLemmas
 pub mod TokensLemmas

@@ -11,7 +11,7 @@ use Rattle.hcl_token.specs.Inner.LineColumn.{IsWellFormed, IsPlaceBounded, IsTok
 use Rattle.hcl_token.specs.Inner.AsciiText.{is_ascii_without_cr}
 use Rattle.hcl_token.proofs.ClusterLemmas.{clusters-le}
 use Rattle.hcl_token.proofs.OrderLemmas.{text_is-slice, length-range, gap-first, gap-le, order-le, order-slice, pairs-take, utf8-slice}
-use Rattle.hcl_token.proofs.LineLemmas.{any_from_count, shorter_last_line, utf8_last_line}
+use Rattle.hcl_token.proofs.LineLemmas.{any_from_count, length-last_line, shorter_last_line, utf8_last_line}
 use Rattle.hcl_token.proofs.PlaceLemmas.{column-none, column-some}
 use Rattle.hcl_token.proofs.TokenRangeLemmas.{ascii_range, range_others}
 
@@ -77,9 +77,17 @@ range_length text tokens from to at s =
     let le : from ≤ to = order-le tokens from to s.order in
     omega (arith, length-range text from to le s.within)
 
--- where the bytes of a stretch are plain, they are one piece
-pub ascii_part : (text : List ℕ) (tokens : List Span) (from to : ℕ) (at : Place) (bytes : List ℕ) → IsTokenRange text tokens from to at → bytes ≡ slice_range text from to
-    → is_ascii_without_cr bytes ≡ true → has_mark tokens ≡ false → place_after_piece at bytes ≡ place_after_pairs at (pairs_from text from tokens)
-ascii_part text tokens from to at bytes s is plain none =
+-- the last line of a stretch is within it
+pub last_within : (text : List ℕ) (tokens : List Span) (from to : ℕ) (at : Place) (bytes last : List ℕ) → IsTokenRange text tokens from to at → bytes ≡ slice_range text from to
+    → last ≡ last_line bytes → (length last ≤ to) × (to - length last + length (last_line (slice_range text from to)) ≡ to)
+last_within text tokens from to at bytes last s is ends =
+    let le : length last ≤ to = omega (arith, range_length text tokens from to at s, ap length ends, length-last_line bytes, ap length is) in
+    (le, omega (arith, ap length ends, ap (λ (t : List ℕ). length (last_line t)) is))
+
+-- where the last line of a stretch is plain, its bytes are one piece
+pub ascii_part : (text : List ℕ) (tokens : List Span) (from to : ℕ) (at : Place) (bytes last : List ℕ) → IsTokenRange text tokens from to at → bytes ≡ slice_range text from to
+    → last ≡ last_line bytes → is_ascii_without_cr last ≡ true → has_mark tokens ≡ false → place_after_piece at bytes ≡ place_after_pairs at (pairs_from text from tokens)
+ascii_part text tokens from to at bytes last s is ends plain none =
     let text_is : bytes ≡ whole_text (pairs_from text from tokens) [] = is ∙ sym (text_is-slice text tokens from to s.order) in
-    ap (place_after_piece at) text_is ∙ sym (ascii_range text tokens from at (ap is_ascii_without_cr (sym text_is) ∙ plain) none)
+    let plain_line = ap (λ b. is_ascii_without_cr (last_line b)) (sym text_is) ∙ ap is_ascii_without_cr (sym ends) ∙ plain in
+    ap (place_after_piece at) text_is ∙ sym (ascii_range text tokens from at plain_line none)

@@ -100,6 +100,21 @@ pub shorter_last_line : (t : List ℕ) → list_any is_lf t ≡ true → length 
 shorter_last_line [] h = absurd (cc)
 shorter_last_line (b ∷ t) h = rw h (omega (arith, length-last_line t))
 
+-- a text has an LF if and only if its last line is shorter
+pub none_by_length : (t : List ℕ) → length (last_line t) ≡ length t → list_any is_lf t ≡ false
+none_by_length t h =
+    elim (list_any is_lf t) as (λ v. list_any is_lf t ≡ v → v ≡ false) [
+      | true ↦ λ e. absurd (omega (arith, shorter_last_line t e))
+      | false ↦ λ e. refl
+    ] refl
+
+pub some_by_length : (t : List ℕ) → length (last_line t) < length t → list_any is_lf t ≡ true
+some_by_length t h =
+    elim (list_any is_lf t) as (λ v. list_any is_lf t ≡ v → v ≡ true) [
+      | true ↦ λ e. refl
+      | false ↦ λ e. absurd (omega (arith, ap length (last_line-none t e)))
+    ] refl
+
 -- what a search for the last LF returns
 pub last_part : (t : List ℕ) (k : ℕ) → slice_range t (k + 1) (length t) ≡ drop (suc k) t
 last_part t k =

@@ -65,13 +65,13 @@ gap-drop (x ∷ tokens) from (suc i) k =
     let more : suc (i + k) ≡ suc i + k = omega arith in
     gap-drop tokens x.stop i k ∙ ap (gap_from from (x ∷ tokens)) more
 
-order-drop : (tokens : List Span) (from last i : ℕ) → InOrder from tokens last → InOrder (gap_from from tokens i) (drop i tokens) last
+pub order-drop : (tokens : List Span) (from last i : ℕ) → InOrder from tokens last → InOrder (gap_from from tokens i) (drop i tokens) last
 order-drop [] from last zero o = o
 order-drop [] from last (suc i) o = o
 order-drop (x ∷ tokens) from last zero o = o
 order-drop (x ∷ tokens) from last (suc i) o = order-drop tokens x.stop last i o.2
 
-order-take : (tokens : List Span) (from last i : ℕ) → InOrder from tokens last → InOrder from (take i tokens) (gap_from from tokens i)
+pub order-take : (tokens : List Span) (from last i : ℕ) → InOrder from tokens last → InOrder from (take i tokens) (gap_from from tokens i)
 order-take [] from last zero o = refl
 order-take [] from last (suc i) o = refl
 order-take (x ∷ tokens) from last zero o = refl
@@ -88,7 +88,7 @@ order-slice tokens begin last from to o le =
 pub gap-le : (tokens : List Span) (begin last i : ℕ) → InOrder begin tokens last → gap_from begin tokens i ≤ last
 gap-le tokens begin last i o = order-le (drop i tokens) (gap_from begin tokens i) last (order-drop tokens begin last i o)
 
-utf8-drop : (text : List ℕ) (tokens : List Span) (from i : ℕ) → AreUtf8 (pairs_from text from tokens) → AreUtf8 (pairs_from text (gap_from from tokens i) (drop i tokens))
+pub utf8-drop : (text : List ℕ) (tokens : List Span) (from i : ℕ) → AreUtf8 (pairs_from text from tokens) → AreUtf8 (pairs_from text (gap_from from tokens i) (drop i tokens))
 utf8-drop text [] from zero u = u
 utf8-drop text [] from (suc i) u = u
 utf8-drop text (x ∷ tokens) from zero u = u

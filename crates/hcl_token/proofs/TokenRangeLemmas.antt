@@ -1,17 +1,16 @@
 -- Going over the tokens of a stretch of text.
 use Rattle.std.proofs.Common.{◌≡◌, ℕ, zero, suc, ◌+◌, ◌<◌, ◌≤◌, true, false, List, [], ◌∷◌, ◌++◌, length, take, drop, get_or, slice_range, refl, sym, ap, subst, ◌∙◌, arith}
-use Rattle.std.proofs.lemmas.Bool.{and_parts, or_parts}
+use Rattle.std.proofs.lemmas.Bool.{or_parts}
 use Rattle.std.proofs.lemmas.List.{drop_more, drop_all}
 use Rattle.hcl_token.specs.declared.place.Place.{Place}
 use Rattle.hcl_token.specs.declared.span.Span.{Span}
 use Rattle.hcl_token.specs.Tokens.{whole_text}
 use Rattle.hcl_token.specs.Pairs.{pair_at, pairs_from, gap_from}
-use Rattle.hcl_token.specs.Place.{is_mark}
+use Rattle.hcl_token.specs.Place.{is_mark, last_line}
 use Rattle.hcl_token.specs.Inner.AsciiText.{is_ascii_without_cr}
 use Rattle.hcl_token.specs.Inner.LineColumn.{IsPlaceBounded, IsTokenRange, place_after_piece, place_after_pair, place_after_pairs, has_mark}
-use Rattle.hcl_token.proofs.ClusterLemmas.{ascii-append}
 use Rattle.hcl_token.proofs.OrderLemmas.{order-le, pairs-take}
-use Rattle.hcl_token.proofs.PlaceLemmas.{place_after_piece-nil, place_after_piece-append}
+use Rattle.hcl_token.proofs.PlaceLemmas.{ascii_last_line, place_after_piece-nil, place_after_piece-append}
 
 -- the first token of a stretch, and the others
 pub range_first : (text : List ℕ) (x : Span) (tokens : List Span) (from to : ℕ) (at : Place) → IsTokenRange text (x ∷ tokens) from to at → IsTokenRange text (x ∷ []) from x.stop at
@@ -65,8 +64,8 @@ pub along_end : (text : List ℕ) (tokens : List Span) (begin : ℕ) (start : Pl
 along_end text tokens begin start i from at h a =
     sym (ap (λ (l : List Span). place_after_pairs at (pairs_from text from l)) (drop_all i tokens h)) ∙ a.value
 
--- plain text without a byte order mark is as one piece
-pub ascii_range : (text : List ℕ) (tokens : List Span) (from : ℕ) (at : Place) → is_ascii_without_cr (whole_text (pairs_from text from tokens) []) ≡ true → has_mark tokens ≡ false
+-- tokens without a byte order mark are as one piece if their last line is plain
+pub ascii_range : (text : List ℕ) (tokens : List Span) (from : ℕ) (at : Place) → is_ascii_without_cr (last_line (whole_text (pairs_from text from tokens) [])) ≡ true → has_mark tokens ≡ false
     → place_after_pairs at (pairs_from text from tokens) ≡ place_after_piece at (whole_text (pairs_from text from tokens) [])
 ascii_range text [] from at plain none = sym (place_after_piece-nil at)
 ascii_range text (x ∷ tokens) from at plain none =
@@ -74,13 +73,12 @@ ascii_range text (x ∷ tokens) from at plain none =
     let spelling : List ℕ = slice_range text x.start x.stop in
     let rest : List ℕ = whole_text (pairs_from text x.stop tokens) [] in
     let marks = or_parts (is_mark x.kind) (has_mark tokens) none in
-    let first = and_parts (is_ascii_without_cr gap) (is_ascii_without_cr (spelling ++ rest)) (sym (ascii-append gap (spelling ++ rest)) ∙ plain) in
-    let second = and_parts (is_ascii_without_cr spelling) (is_ascii_without_cr rest) (sym (ascii-append spelling rest) ∙ first.1) in
+    let after_gap = ascii_last_line gap (spelling ++ rest) plain in
     let pair : place_after_pair at (pair_at text from x) ≡ place_after_piece (place_after_piece at gap) spelling = rw marks.0 refl in
     ap (λ (p : Place). place_after_pairs p (pairs_from text x.stop tokens)) pair
-    ∙ ascii_range text tokens x.stop (place_after_piece (place_after_piece at gap) spelling) second.1 marks.1
-    ∙ place_after_piece-append (place_after_piece at gap) spelling rest second.0 second.1
-    ∙ place_after_piece-append at gap (spelling ++ rest) first.0 first.1
+    ∙ ascii_range text tokens x.stop (place_after_piece (place_after_piece at gap) spelling) (ascii_last_line spelling rest after_gap) marks.1
+    ∙ place_after_piece-append (place_after_piece at gap) spelling rest after_gap
+    ∙ place_after_piece-append at gap (spelling ++ rest) plain
 
 take-nil : (n : ℕ) → take {A = Span} n [] ≡ []
 take-nil zero = refl
@@ -102,3 +100,12 @@ place_after_pairs-slice text [] begin at (suc from) n =
 place_after_pairs-slice text (x ∷ tokens) begin at (suc from) n =
     let more : suc (from + n) ≡ suc from + n = omega arith in
     place_after_pairs-slice text tokens x.stop (place_after_pair at (pair_at text begin x)) from n ∙ ap (λ k. place_after_pairs at (take k (pairs_from text begin (x ∷ tokens)))) more
+
+-- a stretch by its first tokens and the others
+pub place_after_pairs-split : (text : List ℕ) (tokens : List Span) (begin : ℕ) (at : Place) (i : ℕ)
+    → place_after_pairs (place_after_pairs at (pairs_from text begin (take i tokens))) (pairs_from text (gap_from begin tokens i) (drop i tokens))
+    ≡ place_after_pairs at (pairs_from text begin tokens)
+place_after_pairs-split text [] begin at zero = refl
+place_after_pairs-split text [] begin at (suc i) = refl
+place_after_pairs-split text (x ∷ tokens) begin at zero = refl
+place_after_pairs-split text (x ∷ tokens) begin at (suc i) = place_after_pairs-split text tokens x.stop (place_after_pair at (pair_at text begin x)) i

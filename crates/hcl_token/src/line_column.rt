@@ -1,9 +1,11 @@
 //! Lines and columns, counted forward over the tokens.
 
 ghost use Rattle.std.specs.Prelude.{◌≡◌, ℕ, true, ◌+◌, ◌^◌, ◌<◌, ◌≤◌, [], ◌∷◌, length, slice_range, take};
-ghost use Rattle.std.specs.Prelude.{count_by, IsUtf8};
-ghost use Rattle.hcl_token.specs.Pairs.{pair_at, pairs_from, pairs_of, gap_at};
-ghost use Rattle.hcl_token.specs.Inner.LineColumn.{IsGapPlace, IsOnLine, IsPlaceBounded, IsTokenRange};
+ghost use Rattle.std.specs.Prelude.{count_by, drop, false, IsUtf8};
+ghost use Rattle.std.specs.List.{All};
+ghost use Rattle.hcl_token.specs.Pairs.{pair_at, pairs_from, pairs_of, gap_at, gap_from};
+ghost use Rattle.hcl_token.specs.Inner.LineColumn.{IsGapPlace, IsLastLine, IsOnLine, IsPlaceBounded};
+ghost use Rattle.hcl_token.specs.Inner.LineColumn.{IsTokenRange};
 ghost use Rattle.hcl_token.specs.Inner.LineColumn.{place_after_pair, place_after_piece, place_after_pairs};
 ghost use Rattle.hcl_token.specs.Inner.LineColumn.{first_place, has_mark};
 ghost use Rattle.hcl_token.specs.Inner.AsciiText.{is_ascii_without_cr};
@@ -34,12 +36,21 @@ pub fn slice(text: &[u8], from: u32, to: u32) -> &[u8]
     &text[from as usize..to as usize]
 }
 
+/// Returns where the gap before token `i` begins, or the gap after the last token, if the gap before
+/// the first token begins at byte `from`.
+fn gap_from(tokens: &[Span], from: u32, i: usize) -> u32
+    requires { i ≤ length tokens.now }
+    ensures { result ≡ gap_from from tokens.now i }
+{
+    if i == 0 { from } else { tokens[i - 1].stop() }
+}
+
 /// Returns where the gap before token `i` begins, or the gap after the last token, in bytes from 0.
 pub fn gap_at(tokens: &[Span], i: usize) -> u32
     requires { i ≤ length tokens.now }
     ensures { result ≡ gap_at tokens.now i }
 {
-    if i == 0 { 0 } else { tokens[i - 1].stop() }
+    gap_from(tokens, 0, i)
 }
 
 /// Returns the tokens from one number up to another.
@@ -68,6 +79,13 @@ fn has_mark(tokens: &[Span]) -> bool
         marked |= is_mark(token.kind());
     }
     marked
+}
+
+/// Whether the first token is a byte order mark.
+pub(crate) fn begins_with_mark(tokens: &[Span]) -> bool
+    ensures { result ≡ has_mark (take 1 tokens.now) }
+{
+    !tokens.is_empty() && is_mark(tokens[0].kind())
 }
 
 /// Returns the number of line feeds of a piece of text that has at most `MAX_U8_COUNT` bytes.
@@ -157,37 +175,82 @@ fn place_after_each(text: &[u8], tokens: &[Span], from: u32, at: Place) -> Place
     place
 }
 
-/// Returns the place after a piece of text in which each byte ends a line or is a column.
-fn place_after_ascii(at: Place, piece: &[u8]) -> Place
-    requires ascii { is_ascii_without_cr piece.now ≡ true }
+/// Returns the place after a piece of text in whose last line each byte is a column.
+fn place_after_ascii(at: Place, piece: &[u8], last: &[u8]) -> Place
+    requires last { last.now ≡ last_line piece.now }
+    requires ascii { is_ascii_without_cr last.now ≡ true }
     requires line { at.line + length piece.now < 2 ^ 32 }
     requires column { at.column + length piece.now < 2 ^ 32 }
     ensures { result ≡ place_after_piece at piece.now }
 {
-    match memrchr(b'\n', piece) {
-        Some(last) => Place {
-            line: at.line + count_line_feeds(piece),
-            column: piece.len() - last,
-        },
-        None => Place {
+    if last.len() == piece.len() {
+        Place {
             line: at.line,
             column: at.column + piece.len(),
-        },
+        }
+    } else {
+        Place {
+            line: at.line + count_line_feeds(piece),
+            column: 1 + last.len(),
+        }
     }
 }
 
-/// Returns the place after tokens that take the bytes between two offsets. If all of these are
-/// ASCII without CR, they are counted as one piece.
+/// Returns the number of the first token that stops at byte `begin` or after it, or the number of
+/// tokens if none does; the gap before the first token begins at byte `from`.
+///
+/// It is searched for from the end, since few tokens follow it.
+fn token_reaching(tokens: &[Span], from: u32, begin: u32) -> usize
+    requires { from < begin }
+    ensures within { result ≤ length tokens.now }
+    ensures before { gap_from from tokens.now result < begin }
+    ensures following { All (λ token. begin ≤ token.stop) (drop result tokens.now) }
+{
+    let mut i = tokens.len();
+    while gap_from(tokens, from, i) >= begin {
+        i -= 1;
+    }
+    i
+}
+
+/// Returns the place after tokens of which none is a byte order mark, if the last line of their
+/// bytes begins at byte `begin`.
+///
+/// Only the tokens of the last line are counted one by one, from the one with the line feed. The
+/// column before that one does not matter, since the line feed begins it anew.
+fn place_by_last_line(text: &[u8], tokens: &[Span], from: u32, begin: u32, at: Place) -> Place
+    requires { (to : ℕ) × IsLastLine text.now tokens.now from to begin at }
+    ensures { result ≡ place_after_pairs at (pairs_from text.now from tokens.now) }
+{
+    if begin == from {
+        return place_after_each(text, tokens, from, at);
+    }
+    let first = token_reaching(tokens, from, begin);
+    let gap_at = gap_from(tokens, from, first);
+    let line_begin = Place {
+        line: at.line + count_line_feeds(slice(text, from, gap_at)),
+        column: 1,
+    };
+    place_after_each(text, &tokens[first..], gap_at, line_begin)
+}
+
+/// Returns the place after tokens that take the bytes between two offsets.
+///
+/// A column counts only what follows the last line feed. If that is ASCII without CR, the bytes are
+/// counted as one piece, whatever is before it. Of the tokens only the kinds are read then.
 fn place_after_tokens(text: &[u8], tokens: &[Span], from: u32, to: u32, at: Place) -> Place
     requires { IsTokenRange text.now tokens.now from to at }
     ensures value { result ≡ place_after_pairs at (pairs_from text.now from tokens.now) }
     ensures bounded { IsPlaceBounded result to }
 {
     let bytes = slice(text, from, to);
-    if is_ascii_without_cr(bytes) & !has_mark(tokens) {
-        place_after_ascii(at, bytes)
-    } else {
+    let last = last_line(bytes);
+    if has_mark(tokens) {
         place_after_each(text, tokens, from, at)
+    } else if is_ascii_without_cr(last) {
+        place_after_ascii(at, bytes, last)
+    } else {
+        place_by_last_line(text, tokens, from, to - last.len() as u32, at)
     }
 }
 

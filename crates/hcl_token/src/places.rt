@@ -6,7 +6,7 @@ ghost use Rattle.hcl_token.specs.Pairs.{IsWellFormed, pairs_of, spans_from};
 ghost use Rattle.hcl_token.specs.Inner.LineColumn.{IsGapPlace};
 ghost use Rattle.hcl_token.specs.Place.{place_of};
 
-use crate::line_column::{FIRST_PLACE, gap_place, token_place};
+use crate::line_column::{FIRST_PLACE, begins_with_mark, gap_place, token_place};
 use crate::place::Place;
 use crate::span::Span;
 use std::marker::Model;
@@ -36,11 +36,13 @@ impl<'s> Places<'s> {
         requires { (last : ℕ) × IsWellFormed text.now tokens.now last }
         ensures { result ≡ pairs_of text.now tokens.now }
     {
+        // a byte order mark is counted by itself: tokens with one among them are counted singly
+        let from = usize::from(begins_with_mark(tokens));
         Places {
             text,
             tokens,
-            from: 0,
-            at: FIRST_PLACE,
+            from,
+            at: gap_place(text, tokens, 0, FIRST_PLACE, from),
         }
     }
 

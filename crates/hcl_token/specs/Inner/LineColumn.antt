@@ -1,6 +1,6 @@
 -- Places found by going forward over the tokens.
-use Rattle.std.specs.Prelude.{◌≡◌, ℕ, ◌+◌, ◌≤◌, ◌==◌, Bool, List, [], ◌∷◌, length, take, count_by}
-use Rattle.std.specs.Prelude.{if◌then◌else◌}
+use Rattle.std.specs.Prelude.{◌≡◌, ℕ, ◌+◌, ◌≤◌, ◌==◌, Bool, false, List, [], ◌∷◌, length, take, count_by}
+use Rattle.std.specs.Prelude.{if◌then◌else◌, slice_range}
 use Rattle.std.specs.List.{list_any}
 use Rattle.hcl_token.specs.declared.place.Place.{Place}
 use Rattle.hcl_token.specs.declared.span.Span.{Span}
@@ -48,6 +48,12 @@ pub record IsTokenRange (text : List ℕ) (tokens : List Span) (from to : ℕ) (
   pub short : length text ≤ MAX_TEXT
   pub utf8 : AreUtf8 (pairs_from text from tokens)
   pub bounded : IsPlaceBounded at from
+
+-- tokens without a byte order mark, and the place in bytes at which the last line of theirs begins
+pub record IsLastLine (text : List ℕ) (tokens : List Span) (from to begin : ℕ) (at : Place) : Type 0 where
+  pub range : IsTokenRange text tokens from to at
+  pub unmarked : has_mark tokens ≡ false
+  pub ends : begin + length (last_line (slice_range text from to)) ≡ to
 
 -- the place of the gap before a token, counted from the start of the text
 pub record IsGapPlace (text : List ℕ) (tokens : List Span) (last_gap_at from : ℕ) (at : Place) : Type 0 where
