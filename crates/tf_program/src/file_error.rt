@@ -26,6 +26,9 @@ const OUT_OF_MEMORY: &str = "out of memory";
 /// What is said of a pattern in place of a name, which is no file's.
 const NO_MATCH: &str = "no such file: is the pattern quoted, or does it match no name?";
 
+/// What is said of a name that begins with a dash of a page or a word processor.
+const NO_OPTION: &str = "no such file: write options with the hyphen `-` of the keyboard";
+
 /// What is said of an error of a text, and where that is printed.
 #[derive(Drop)]
 pub struct Explained {
@@ -292,11 +295,21 @@ fn reason_line(
 
 /// Returns why the file of this name can't be read or written.
 fn cause_sentence(alloc: Global, name: &str, cause: Cause) -> Result<String, AllocError> {
-    if cause.is_no_file() && is_pattern(name) {
-        String::from_str(alloc, NO_MATCH)
-    } else {
-        format!(in alloc; "{cause}")
+    if !cause.is_no_file() {
+        return format!(in alloc; "{cause}");
     }
+    if has_dash(name) {
+        return String::from_str(alloc, NO_OPTION);
+    }
+    if is_pattern(name) {
+        return String::from_str(alloc, NO_MATCH);
+    }
+    format!(in alloc; "{cause}")
+}
+
+/// Returns whether a name begins with a dash that is no hyphen: U+2010 to U+2015, or U+2212.
+fn has_dash(name: &str) -> bool {
+    name.chars().next().is_some_and(|first| matches!(first, '\u{2010}'..='\u{2015}' | '\u{2212}'))
 }
 
 /// Returns whether a name has what a shell takes for a part of a pattern.
