@@ -2,10 +2,11 @@
 
 use crate::context::{Context, has_keywords};
 use crate::expected::Expected;
-use crate::head::{HeadAdvice, at_head_end, in_head, quoted_name};
+use crate::head::{HeadAdvice, after_string, at_head_end, in_head, quoted_name};
+use crate::joined::{is_between_words, is_joined};
 use crate::near::{
-    after_words, ends_value, first_from, is_adjacent, is_kind, is_line_end, is_line_start, is_word,
-    kind_at, last_before,
+    after_words, ends_value, first_from, is_adjacent, is_kind, is_line_end, is_line_start, is_next,
+    is_word, kind_at, last_before,
 };
 use crate::openings::innermost_open;
 use hcl_grammar::operators::binary_operator;
@@ -52,6 +53,8 @@ pub enum Advice {
     HeredocQuotes,
     HeredocSpace,
     HeredocTilde,
+    /// A heredoc that begins with one `<`.
+    HeredocSign,
     /// A `${` where a key of an object begins.
     ComputedKey,
     /// A quote with a backslash outside of a string.
@@ -91,6 +94,29 @@ pub enum Advice {
     /// `\` at the end of a line: in brackets, and elsewhere.
     FreeNewline,
     NoContinuation,
+    /// `=~`, `!~` and `~=`.
+    Match,
+    /// `xor`, `??`, `**` and `++`.
+    Xor,
+    Coalesce,
+    Power,
+    Increment,
+    /// A number after a `$`, and a reference after a `&`.
+    DollarNumber,
+    Reference,
+    /// A `{` right after a string that ends in `$`.
+    SequenceOutside,
+    /// A string between words, with no gap.
+    BetweenWords,
+    /// Text and a value, one after the other.
+    Joined,
+    /// A `for` without brackets, and one after its value.
+    ForBrackets,
+    ForFirst,
+    /// `name = value` in the arguments of a function.
+    NamedArgument,
+    /// A function called with `[`.
+    CallBracket,
 }
 
 impl Advice {
@@ -146,6 +172,21 @@ impl Advice {
             Advice::FreeNewline => "a newline here needs no `\\`",
             Advice::NoContinuation =>
                 "it continues no line; a value in parentheses can have several",
+            Advice::HeredocSign => "a heredoc begins with `<<` or `<<-`",
+            Advice::Match => "a match is written `can(regex(PATTERN, TEXT))`",
+            Advice::Xor => "`xor` is written `!=`",
+            Advice::Coalesce => "a value in place of null is written `coalesce(x, y)`",
+            Advice::Power => "a power is written `pow(x, y)`",
+            Advice::Increment => "there is no `++`: one more is written `x + 1`",
+            Advice::DollarNumber => "a number has no `$`; text is in double quotes, `\"`",
+            Advice::Reference => "a reference has no `&`",
+            Advice::SequenceOutside => "a `${ }` is inside of the quotes",
+            Advice::BetweenWords => "text has a `\"` before it and one after it",
+            Advice::Joined => "text and a value are joined as in `\"a-${var.x}\"`",
+            Advice::ForBrackets => "a `for` is in brackets of its own, `[for ..]` or `{for ..}`",
+            Advice::ForFirst => "a `for` is before its value, as in `[for x in y : x]`",
+            Advice::NamedArgument => "a function has no named arguments; equal is written `==`",
+            Advice::CallBracket => "a function is called as `f(x)`",
         }
     }
 }
@@ -199,8 +240,8 @@ fn at_line_start(scanned: &Scanned<'_>, kind: Kind, found: usize) -> Option<Advi
     }
 }
 
-/// Whether token `found` is the first, and begins a text of JSON: a `{` with a name in quotes or `}`
-/// after it, or a `[` before such a one.
+/// Whether token `found` is the first, and begins a text of JSON: a `{` with a string and a `:`, or a
+/// `}`, after it, or a `[` before such a one.
 fn is_json(scanned: &Scanned<'_>, found: usize) -> bool {
     let start = if is_kind(scanned, 0, Kind::Mark) {
         1
@@ -215,7 +256,12 @@ fn is_json(scanned: &Scanned<'_>, found: usize) -> bool {
     let next = first_from(scanned, brace.saturating_add(1), true);
     first_from(scanned, start, true) == found
         && is_kind(scanned, brace, Kind::OpenBrace)
-        && (is_kind(scanned, next, Kind::QuoteOpen) || is_kind(scanned, next, Kind::CloseBrace))
+        && (is_json_name(scanned, next) || is_kind(scanned, next, Kind::CloseBrace))
+}
+
+/// Whether token `i` begins a string with a `:` after it.
+fn is_json_name(scanned: &Scanned<'_>, i: usize) -> bool {
+    is_kind(scanned, i, Kind::QuoteOpen) && is_kind(scanned, after_string(scanned, i), Kind::Colon)
 }
 
 /// Whether words follow the word before token `found`, in its line, and then the sign of a key.
@@ -270,12 +316,6 @@ fn is_marker(scanned: &Scanned<'_>, kind: Kind, found: usize) -> bool {
     }
 }
 
-/// Whether a token of this kind follows token `i` with no gap.
-fn is_next(scanned: &Scanned<'_>, kind: Kind, i: usize) -> bool {
-    let next = i.saturating_add(1);
-    is_kind(scanned, next, kind) && is_adjacent(scanned, next)
-}
-
 /// Returns the advice for a token where a template sequence should end.
 fn at_sequence_end(
     scanned: &Scanned<'_>,
@@ -326,6 +366,7 @@ fn is_only_name(scanned: &Scanned<'_>, found: usize) -> bool {
 /// Whether token `found` is the `if` of `else if`, or a word for it.
 pub fn is_else_if(scanned: &Scanned<'_>, found: usize) -> bool {
     is_word(scanned, found, b"elseif")
+        || is_word(scanned, found, b"elsif")
         || is_word(scanned, found, b"elif")
         || (found > 0 && is_word(scanned, found, b"if") && is_word(scanned, found - 1, b"else"))
 }
@@ -340,12 +381,17 @@ fn in_value(
     match last_before(scanned, found, false) {
         Some(last) => match kind {
             Kind::Less if is_next(scanned, kind, found) => heredoc(scanned, found),
-            Kind::Identifier if !has_keywords(context) => after_word(scanned, last, found),
+            Kind::Identifier if !has_keywords(context) => {
+                after_word(scanned, last, found, expected)
+            }
             _ if is_if_before_value(scanned, context, last) => Some(Advice::ForIf),
             Kind::Identifier => word_in_for(scanned, last, found, expected),
             _ if is_not(scanned, last) => Some(Advice::Not),
             _ if is_value(expected) => at_value(scanned, kind, found, last),
             _ if is_value_after_if(scanned, context, kind, last) => Some(Advice::Conditional),
+            Kind::QuoteOpen if !has_keywords(context) => string_after(
+                scanned, found, last, expected,
+            ),
             _ => after_value(scanned, kind, found, last, expected),
         },
         None => None,
@@ -414,6 +460,12 @@ fn at_value(scanned: &Scanned<'_>, kind: Kind, found: usize, last: usize) -> Opt
         Kind::Greater if is_after(scanned, Kind::Less, last, found) => Some(Advice::NotEqual),
         Kind::Equal if is_after(scanned, Kind::DoubleEqual, last, found) => Some(Advice::Equal),
         Kind::Equal if is_after(scanned, Kind::NotEqual, last, found) => Some(Advice::NotEqual),
+        Kind::Star if is_after(scanned, Kind::Star, last, found) => Some(Advice::Power),
+        Kind::Plus if is_doubled(scanned, kind, found, last) => Some(Advice::Increment),
+        Kind::Question | Kind::Colon if is_after(scanned, Kind::Question, last, found) => {
+            Some(Advice::Coalesce)
+        }
+        Kind::Less if is_before_marker(scanned, found) => Some(Advice::HeredocSign),
         _ if is_constraint(scanned, kind, found, last) => Some(Advice::BareText),
         _ => None,
     }
@@ -428,6 +480,22 @@ fn is_constraint(scanned: &Scanned<'_>, kind: Kind, found: usize, last: usize) -
         Kind::GreaterEqual | Kind::LessEqual | Kind::Greater | Kind::Less | Kind::NotEqual
     ) && is_kind(scanned, last, Kind::Equal)
         && (is_kind(scanned, next, Kind::Number) || is_kind(scanned, next, Kind::QuoteOpen))
+}
+
+/// Whether an operator of this kind is right before token `found`, or right after it.
+fn is_doubled(scanned: &Scanned<'_>, kind: Kind, found: usize, last: usize) -> bool {
+    is_after(scanned, kind, last, found) || is_next(scanned, kind, found)
+}
+
+/// Whether the line ends after a name that is right after this `<`, or after a `-` there.
+fn is_before_marker(scanned: &Scanned<'_>, found: usize) -> bool {
+    let next = found.saturating_add(1);
+    let sign = if is_next(scanned, Kind::Minus, found) {
+        next
+    } else {
+        found
+    };
+    is_next(scanned, Kind::Identifier, sign) && is_line_end(scanned, sign.saturating_add(2))
 }
 
 /// Whether a path begins with this `.`: `./` or `..`.
@@ -456,10 +524,10 @@ fn after_value(
         Kind::Comma if is_after_attribute(scanned, found, expected) => {
             Some(Advice::AttributeComma)
         }
-        Kind::QuoteOpen if is_after_string(scanned, last, found, expected) => {
-            Some(Advice::QuoteInString)
-        }
+        Kind::QuoteOpen => of_quotes(scanned, found, last, expected),
         Kind::OpenParen if is_after_dot(scanned, last) => Some(Advice::Method),
+        Kind::OpenBrace if is_after_dollar(scanned, last, found) => Some(Advice::SequenceOutside),
+        Kind::Comma if is_in_called(scanned, found, expected) => Some(Advice::CallBracket),
         Kind::OpenBrace if is_after_text(scanned, last, expected) => {
             Some(Advice::Head(HeadAdvice::BlockEqual))
         }
@@ -467,10 +535,89 @@ fn after_value(
         Kind::Equal if is_double_equal(scanned, found, expected) => Some(Advice::Equal),
         Kind::Equal if is_next(scanned, Kind::Bang, found) => Some(Advice::NotEqual),
         Kind::Equal if is_next(scanned, Kind::Less, found) => Some(Advice::AtMost),
+        Kind::Equal if is_named_argument(scanned, last, expected) => Some(Advice::NamedArgument),
         Kind::Equal if is_condition(scanned, found, expected) => Some(Advice::Equal),
         Kind::FatArrow if is_condition(scanned, found, expected) => Some(Advice::AtLeast),
         _ => None,
     }
+}
+
+/// Returns the advice for a string after a value.
+fn string_after(
+    scanned: &Scanned<'_>,
+    found: usize,
+    last: usize,
+    expected: Expected,
+) -> Option<Advice> {
+    match of_quotes(scanned, found, last, expected) {
+        Some(advice) => Some(advice),
+        None if is_joined(scanned, found, last, expected) => Some(Advice::Joined),
+        None => None,
+    }
+}
+
+/// Returns the advice for a string whose quotes are right after a value.
+fn of_quotes(
+    scanned: &Scanned<'_>,
+    found: usize,
+    last: usize,
+    expected: Expected,
+) -> Option<Advice> {
+    if is_after_string(scanned, last, found, expected) {
+        Some(Advice::QuoteInString)
+    } else if is_between_words(scanned, found, last) {
+        Some(Advice::BetweenWords)
+    } else {
+        None
+    }
+}
+
+/// Whether token `found` is right after a string whose text ends in `$`.
+fn is_after_dollar(scanned: &Scanned<'_>, last: usize, found: usize) -> bool {
+    let text = last.saturating_sub(1);
+    is_after(scanned, Kind::QuoteClose, last, found)
+        && is_kind(scanned, text, Kind::QuoteLit)
+        && text < scanned.len()
+        && scanned.spelling(text).ends_with(b"$")
+}
+
+/// Whether this `=` is after the name of an argument.
+fn is_named_argument(scanned: &Scanned<'_>, last: usize, expected: Expected) -> bool {
+    if !matches!(expected, Expected::CommaOrParen) || !is_kind(scanned, last, Kind::Identifier) {
+        return false;
+    }
+    match last_before(scanned, last, true) {
+        Some(k) => is_kind(scanned, k, Kind::OpenParen) || is_kind(scanned, k, Kind::Comma),
+        None => false,
+    }
+}
+
+/// Whether the name of a function is before the `[` in which this comma is.
+fn is_in_called(scanned: &Scanned<'_>, found: usize, expected: Expected) -> bool {
+    if !matches!(expected, Expected::Bracket) || found >= scanned.len() {
+        return false;
+    }
+    match innermost_open(scanned, found) {
+        Some(open) => {
+            is_function(scanned, open.saturating_sub(1))
+                && !is_kind(scanned, open.saturating_sub(2), Kind::Dot)
+        }
+        None => false,
+    }
+}
+
+/// Whether token `i` is the name of a function that is often called with a list, or with several
+/// values.
+fn is_function(scanned: &Scanned<'_>, i: usize) -> bool {
+    is_word(scanned, i, b"toset")
+        || is_word(scanned, i, b"tolist")
+        || is_word(scanned, i, b"concat")
+        || is_word(scanned, i, b"merge")
+        || is_word(scanned, i, b"max")
+        || is_word(scanned, i, b"min")
+        || is_word(scanned, i, b"join")
+        || is_word(scanned, i, b"format")
+        || is_word(scanned, i, b"lookup")
 }
 
 /// Whether this comma is in a number: with digits right before and after it.
@@ -650,7 +797,10 @@ fn word_in_for(
     }
     match operator_word(scanned, last, found) {
         Some(advice) => Some(advice),
-        None => after_condition(scanned, found, expected),
+        None => match comparing_word(scanned, found) {
+            Some(advice) => Some(advice),
+            None => after_condition(scanned, found, expected),
+        },
     }
 }
 
@@ -690,13 +840,61 @@ fn is_of_conditional(scanned: &Scanned<'_>, last: usize, found: usize) -> bool {
 }
 
 /// Returns the advice for a word after token `last`, where `if` has no meaning.
-fn after_word(scanned: &Scanned<'_>, last: usize, found: usize) -> Option<Advice> {
+fn after_word(
+    scanned: &Scanned<'_>,
+    last: usize,
+    found: usize,
+    expected: Expected,
+) -> Option<Advice> {
     match operator_word(scanned, last, found) {
         Some(advice) => Some(advice),
         None if is_of_conditional(scanned, last, found) => Some(Advice::Conditional),
         None if is_between_quotes(scanned, last, found) => Some(Advice::QuoteInString),
-        None => None,
+        None if matches!(expected, Expected::KeySign) => None,
+        None if is_word(scanned, last, b"for") && is_of_for(scanned, found) => {
+            Some(Advice::ForBrackets)
+        }
+        None if is_word(scanned, found, b"for") && is_of_for(scanned, found.saturating_add(1)) => {
+            Some(Advice::ForFirst)
+        }
+        None if is_joined(scanned, found, last, expected) => Some(Advice::Joined),
+        None => comparing_word(scanned, found),
     }
+}
+
+/// Whether a name begins with token `i`, or two with a comma, and `in` follows.
+fn is_of_for(scanned: &Scanned<'_>, i: usize) -> bool {
+    let next = i.saturating_add(1);
+    is_kind(scanned, i, Kind::Identifier)
+        && (is_word(scanned, next, b"in")
+            || (is_kind(scanned, next, Kind::Comma)
+                && is_word(scanned, next.saturating_add(2), b"in")))
+}
+
+/// Returns the advice for a word that compares in another language.
+fn comparing_word(scanned: &Scanned<'_>, found: usize) -> Option<Advice> {
+    let next = found.saturating_add(1);
+    if is_word(scanned, found, b"xor") {
+        Some(Advice::Xor)
+    } else if !is_word(scanned, found, b"is") {
+        None
+    } else if is_word(scanned, next, b"not") {
+        Some(Advice::NotEqual)
+    } else if is_prose(scanned, next) {
+        None
+    } else {
+        Some(Advice::Equal)
+    }
+}
+
+/// Whether a word is after the word that is token `i`, and can't continue a value.
+fn is_prose(scanned: &Scanned<'_>, i: usize) -> bool {
+    let next = i.saturating_add(1);
+    is_kind(scanned, i, Kind::Identifier)
+        && is_kind(scanned, next, Kind::Identifier)
+        && !is_word(scanned, next, b"if")
+        && !is_word(scanned, next, b"and")
+        && !is_word(scanned, next, b"or")
 }
 
 /// Returns the advice for a word after token `last` that is an operator in another language, or

@@ -6,11 +6,11 @@ ghost use Rattle.hcl_explain.specs.Explanations as spec;
 
 use crate::advice::Advice;
 use crate::head::HeadAdvice;
-use crate::near::{first_from, kind_at};
+use crate::near::{first_from, kind_at, last_before};
 use hcl_scan::{Kind, Scanned};
 
 /// Returns the token with which this mistake begins, if that is before the token found, in its
-/// line: the first of the line, or where an `=` is missing after it.
+/// line: the first of the line, or where an `=` is missing after it, or the word before.
 pub fn beginning_of(scanned: &Scanned<'_>, advice: Advice, found: usize) -> Option<usize>
     ensures first { IfSome result (λ token. spec.first_in_line scanned.now.pairs found ≤ token) }
     ensures before { IfSome result (λ token. token < found) }
@@ -21,12 +21,21 @@ pub fn beginning_of(scanned: &Scanned<'_>, advice: Advice, found: usize) -> Opti
         Advice::Head(HeadAdvice::NoEqual | HeadAdvice::EqualOrBrace) => {
             first_from(scanned, first.saturating_add(1), false)
         }
+        Advice::ForBrackets => word_before(scanned, found),
         _ => found,
     };
     if first <= token && token < found {
         Some(token)
     } else {
         None
+    }
+}
+
+/// Returns the number of the token before token `found`, without comments.
+fn word_before(scanned: &Scanned<'_>, found: usize) -> usize {
+    match last_before(scanned, found, false) {
+        Some(last) => last,
+        None => found,
     }
 }
 

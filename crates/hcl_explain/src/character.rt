@@ -3,9 +3,10 @@
 use crate::advice::{Advice, is_type_name};
 use crate::context::{Context, context_of, drops_lines};
 use crate::expected::{Expected, expected_after};
-use crate::head::HeadAdvice;
+use crate::found::ends_at_token;
+use crate::head::{HeadAdvice, is_after_name};
 use crate::lines::{bytes_from, is_at_line_end_or_eof, line_start, prefix, whitespace_len};
-use crate::near::{is_adjacent, is_kind, is_line_start};
+use crate::near::{ends_value, is_adjacent, is_kind, is_line_start, last_before};
 use crate::openings::innermost_open;
 use crate::sequence::sequence_text;
 use hcl_scan::{Kind, ScanFault, Scanned, scan};
@@ -132,8 +133,57 @@ fn advice_after(scanned: &Scanned<'_>, found: Found<'_>) -> Option<Advice> {
         [b';', ..] if found.is_in_sequence => Some(Advice::DirectiveHere),
         [b'|', b'>', ..] => Some(Advice::Pipe),
         [b'|', next, ..] if *next != b'|' && is_after_type(scanned) => Some(Advice::OneType),
+        [b'|' | b'&', b'=', ..] if is_after_name(scanned, scanned.len()) => {
+            Some(Advice::Head(HeadAdvice::SetOnce))
+        }
         [b'|', ..] if found.is_in_interpolation => Some(Advice::Pipe),
+        [b'\'', ..] | [0xe2, 0x80, 0x98..=0x9f, ..] if is_line_of_body(scanned, found) => {
+            Some(Advice::Head(HeadAdvice::NameQuoted))
+        }
+        _ => in_value(scanned, found),
+    }
+}
+
+/// Returns the advice for a character where a value begins, or after one.
+fn in_value(scanned: &Scanned<'_>, found: Found<'_>) -> Option<Advice> {
+    match found.rest {
+        [b'~', ..] if is_match(scanned, found) => Some(Advice::Match),
+        [b'$', next, ..] if next.is_ascii_digit() && !is_line_of_body(scanned, found) => {
+            Some(Advice::DollarNumber)
+        }
+        [b'&', next, ..]
+            if is_name_start(*next)
+                && entity_form(found.rest).is_none()
+                && !is_line_of_body(scanned, found)
+                && !is_value_before(scanned, scanned.len()) => { Some(Advice::Reference) }
         _ => None,
+    }
+}
+
+/// Whether the `~` with which a text begins is in `=~`, `!~` or `~=`, after the value of an
+/// attribute.
+fn is_match(scanned: &Scanned<'_>, found: Found<'_>) -> bool {
+    let count = scanned.len();
+    let sign = count.saturating_sub(1);
+    if found.rest.starts_with(b"~=") {
+        is_operand_before(scanned, found, count)
+    } else {
+        ends_at_token(scanned, sign)
+            && (is_kind(scanned, sign, Kind::Equal) || is_kind(scanned, sign, Kind::Bang))
+            && is_operand_before(scanned, found, sign)
+    }
+}
+
+/// Whether a value ends before token `i`, and is not the name with which a line of a body begins.
+fn is_operand_before(scanned: &Scanned<'_>, found: Found<'_>, i: usize) -> bool {
+    is_value_before(scanned, i) && (found.is_in_sequence || !is_after_name(scanned, i))
+}
+
+/// Whether a value ends before token `i`.
+fn is_value_before(scanned: &Scanned<'_>, i: usize) -> bool {
+    match last_before(scanned, i, true) {
+        Some(last) => ends_value(scanned, last),
+        None => false,
     }
 }
 

@@ -35,3 +35,10 @@ pub fn token_at(scanned: &Scanned<'_>, at: usize) -> Option<usize>
         None
     }
 }
+
+/// Whether the text of these tokens ends with token `last`.
+pub fn ends_at_token(scanned: &Scanned<'_>, last: usize) -> bool {
+    last < scanned.len()
+        && byte_of(scanned, last).saturating_add(scanned.spelling(last).len())
+            == scanned.text().len()
+}

@@ -2,7 +2,7 @@
 
 use crate::advice::{Advice, is_operator};
 use crate::context::Context;
-use crate::near::{first_from, is_kind, is_line_end, is_line_start, is_word, last_before};
+use crate::near::{first_from, is_kind, is_line_end, is_line_start, is_next, is_word, last_before};
 use crate::openings::{closing_after, innermost_open};
 use hcl_scan::{Kind, Scanned};
 
@@ -29,6 +29,8 @@ pub enum HeadAdvice {
     BraceOnNextLine,
     /// A word that declares a name in other languages.
     Local,
+    /// `+=` and the like after a name.
+    SetOnce,
 }
 
 impl HeadAdvice {
@@ -47,6 +49,7 @@ impl HeadAdvice {
             HeadAdvice::BlockEqual => "a block has no `=` before its `{`",
             HeadAdvice::BraceOnNextLine => "the `{` of a block has to be on the line of its name",
             HeadAdvice::Local => "a value gets its name in a `locals` block, as `NAME = VALUE`",
+            HeadAdvice::SetOnce => "an attribute is set once, with `=`",
         }
     }
 }
@@ -89,9 +92,26 @@ pub fn in_head(
     match kind {
         Kind::LineEnd | Kind::LineComment => at_head_end(scanned, found),
         Kind::Equal => at_equal(scanned, context, found),
+        _ if is_set_again(scanned, kind, found) => Some(Advice::Head(HeadAdvice::SetOnce)),
         _ if is_value_after(scanned, kind, found) => Some(Advice::Head(HeadAdvice::NoEqual)),
         _ => None,
     }
+}
+
+/// Whether an operator and a `=` right after it are after the name with which the line begins.
+fn is_set_again(scanned: &Scanned<'_>, kind: Kind, found: usize) -> bool {
+    matches!(
+        kind,
+        Kind::Plus
+            | Kind::Minus
+            | Kind::Star
+            | Kind::Slash
+            | Kind::Percent
+            | Kind::Question
+            | Kind::And
+            | Kind::Or
+    ) && is_next(scanned, Kind::Equal, found)
+        && is_after_name(scanned, found)
 }
 
 /// Returns the advice where token `found`, or the end of the text, ends such a line.
@@ -226,9 +246,14 @@ fn is_in_plain_block(scanned: &Scanned<'_>, found: usize) -> bool {
 
 /// Whether `=` or `:` follows the string that begins with token `found`.
 fn is_before_sign(scanned: &Scanned<'_>, found: usize) -> bool {
-    let end = closing_after(scanned, found.saturating_add(1));
-    let next = first_from(scanned, end.saturating_add(1), false);
+    let next = after_string(scanned, found);
     is_kind(scanned, next, Kind::Equal) || is_kind(scanned, next, Kind::Colon)
+}
+
+/// Returns the number of the token after the string that begins with token `found`.
+pub fn after_string(scanned: &Scanned<'_>, found: usize) -> usize {
+    let end = closing_after(scanned, found.saturating_add(1));
+    first_from(scanned, end.saturating_add(1), false)
 }
 
 /// Returns the advice for a template in a string after the name of a block or an attribute, whose

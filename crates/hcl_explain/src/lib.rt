@@ -16,6 +16,7 @@ mod explanation;
 mod found;
 mod head;
 mod indents;
+mod joined;
 mod lines;
 mod marker;
 mod near;

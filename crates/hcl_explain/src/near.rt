@@ -51,6 +51,12 @@ pub fn is_adjacent(scanned: &Scanned<'_>, i: usize) -> bool {
     i < scanned.len() && scanned.gap(i).is_empty()
 }
 
+/// Whether a token of this kind follows token `i` with no gap.
+pub fn is_next(scanned: &Scanned<'_>, kind: Kind, i: usize) -> bool {
+    let next = i.saturating_add(1);
+    is_kind(scanned, next, kind) && is_adjacent(scanned, next)
+}
+
 /// Whether the kind is one that ends a line.
 pub fn ends_line(kind: Kind) -> bool {
     matches!(kind, Kind::LineEnd | Kind::LineComment)

@@ -3,11 +3,11 @@
 use crate::advice::Advice;
 use crate::character::push_character;
 use crate::escape::push_escape;
-use crate::found::byte_of;
+use crate::found::ends_at_token;
 use crate::lines::{bytes_from, closing_place, first_line, line_end, marker_of, prefix};
 use crate::near::{ends_value, is_adjacent, is_kind};
 use crate::scan_error::{ScanExplanation, ScanReason};
-use crate::sequence::sequence_text;
+use crate::sequence::{is_closed_in_comment, sequence_text};
 use hcl_scan::{Kind, ScanFault, Scanned, scan};
 use std::alloc::{AllocError, Global};
 use std::fmt::Write;
@@ -44,7 +44,7 @@ impl ScanExplanation {
                 out.push_str(sequence_sentence(rest))?;
                 push_swallowed(&mut out, alloc, rest, "it")?;
             }
-            ScanReason::Foreign => out.push_str(foreign_sentence(rest))?,
+            ScanReason::Foreign => push_foreign(&mut out, alloc, rest)?,
             ScanReason::Heredoc => push_heredoc(&mut out, text, self.at)?,
             ScanReason::Comment => out.push_str("this `/*` is not closed")?,
         }
@@ -77,6 +77,19 @@ fn foreign_sentence(rest: &[u8]) -> &'static str {
     }
 }
 
+/// Adds what is said of such a sequence: where its `}` is, if a string has it.
+fn push_foreign(out: &mut String, alloc: Global, sequence: &[u8]) -> Result<(), AllocError> {
+    let mut why = String::new(alloc);
+    if !is_closed_in_comment(alloc, sequence)? {
+        push_swallowed(&mut why, alloc, sequence, "it")?;
+    }
+    if why.as_str().is_empty() {
+        return out.push_str(foreign_sentence(sequence));
+    }
+    out.push_str(sequence_sentence(sequence))?;
+    out.push_str(why.as_str())
+}
+
 /// Adds that a `}` after the template sequence with which a text begins is in a string of its line,
 /// or after a quote there that has no partner, if that is so. `of` is what the sequence is called.
 fn push_swallowed(
@@ -87,18 +100,40 @@ fn push_swallowed(
 ) -> Result<(), AllocError> {
     let line = sequence_text(first_line(sequence));
     match scan(alloc, line) {
-        Ok(scanned) => match string_with_brace(&scanned) {
-            Some(text) => write!(out, "; a `}}` after {of} is in the string `\"{text}\"`"),
-            None => Ok(()),
-        },
+        Ok(scanned) => push_in_string(out, &scanned, of),
         Err(ScanFault::OpenString { at: quote }) if bytes_from(line, quote).contains(&b'}') => {
             write!(
                 out,
                 "; a `}}` after {of} is after a `\"` that has no partner"
             )
         }
+        Err(ScanFault::OpenString { at: quote }) => {
+            push_before_quote(out, alloc, prefix(line, quote), of)
+        }
         Err(ScanFault::Memory) => Err(AllocError),
         Err(_) => Ok(()),
+    }
+}
+
+/// Adds it of a line up to a quote that has no partner.
+fn push_before_quote(
+    out: &mut String,
+    alloc: Global,
+    line: &[u8],
+    of: &str,
+) -> Result<(), AllocError> {
+    match scan(alloc, line) {
+        Ok(scanned) => push_in_string(out, &scanned, of),
+        Err(ScanFault::Memory) => Err(AllocError),
+        Err(_) => Ok(()),
+    }
+}
+
+/// Adds that a `}` is in a string of these tokens, if one has it.
+fn push_in_string(out: &mut String, scanned: &Scanned<'_>, of: &str) -> Result<(), AllocError> {
+    match string_with_brace(scanned) {
+        Some(text) => write!(out, "; a `}}` after {of} is in the string `\"{text}\"`"),
+        None => Ok(()),
     }
 }
 
@@ -239,13 +274,6 @@ fn short_text<'t>(scanned: &Scanned<'t>, i: usize) -> Option<&'t str> {
         Ok(text) if text.len() <= MAX_QUOTED => Some(text),
         _ => None,
     }
-}
-
-/// Whether the text of these tokens ends with token `last`.
-fn ends_at_token(scanned: &Scanned<'_>, last: usize) -> bool {
-    last < scanned.len()
-        && byte_of(scanned, last).saturating_add(scanned.spelling(last).len())
-            == scanned.text().len()
 }
 
 /// Whether token `last` ends a string without text.
