@@ -1,3 +1,4 @@
+pub mod HeredocLemmas
 pub mod LineLemmas
 pub mod OpeningsLemmas
 pub mod PlainLemmas

@@ -1,4 +1,5 @@
 pub mod Explanations
+pub mod Heredocs
 pub mod Lines
 pub mod Openings
 pub mod Said

@@ -3,6 +3,7 @@ use Rattle.std.specs.Prelude.{◌≡◌, ℕ, ◌⊎◌, true, false, List, drop
 use Rattle.std.specs.Prelude.{Option, Some, None}
 use Rattle.hcl_scan.specs.declared.fault.ScanFault.{ScanFault}
 use Rattle.hcl_scan.specs.declared.fault.ScanFault.TheVariants as fault
+use Rattle.hcl_explain.specs.Heredocs.{IsOpeningBefore}
 use Rattle.hcl_explain.specs.Lines.{line_start, line_end, closing_place, is_conflict_marker}
 use Rattle.hcl_explain.specs.Sequences.{IsClosedInComment, IsOpenBefore, IsEnded, IsBlamed}
 use Rattle.hcl_explain.specs.Sequences.{is_interpolation, EndsWithLine, IsUnclosed, IsUnclosedInPlain}
@@ -130,10 +131,32 @@ abbrev pub IsSomeOf : (ScanExplanation → Type 0) → Option ScanExplanation �
 IsSomeOf is None = ⊥
 IsSomeOf is (Some e) = is e
 
+-- where no heredoc before it has an opening that is a mistake
+abbrev pub IsExplanationHere : List ℕ → ScanFault → Option ScanExplanation → Type 0
+IsExplanationHere text (fault.OpenString at) o = IsSomeOf (IsStringExplanation text at) o
+IsExplanationHere text (fault.OpenTemplate at) o = IsSomeOf (IsSequenceExplanation text at) o
+IsExplanationHere text (fault.OpenHeredoc at) o = IsSomeOf (IsHeredocExplanation text at) o
+IsExplanationHere text (fault.OpenComment at) o = IsSomeOf (IsCommentExplanation text at) o
+IsExplanationHere text (fault.BadCharacter at) o = IsSomeOf (IsMarkerOr text at) o
+IsExplanationHere text error o = o ≡ explanation_of error
+
+-- the byte of an error that may be in the lines of a heredoc, read as values
+abbrev pub place_in_values : ScanFault → Option ℕ
+place_in_values (fault.OpenString at) = Some at
+place_in_values (fault.OpenTemplate at) = Some at
+place_in_values (fault.OpenHeredoc at) = Some at
+place_in_values (fault.OpenComment at) = Some at
+place_in_values (fault.BadCharacter at) = Some at
+place_in_values (fault.BadEscape at) = Some at
+place_in_values _ = None
+
+-- the opening of a heredoc in a line before that byte is named, if it is a mistake; else this is so
+abbrev pub OpeningOr : List ℕ → Option ℕ → Option ScanExplanation → Type 0 → Type 0
+OpeningOr text None o Else = Else
+OpeningOr text (Some at) o Else =
+    ((opened : ℕ) × IsOpeningBefore text at opened × (o ≡ Some (of opened reason.Opening)))
+    ⊎ (((opened : ℕ) → IsOpeningBefore text at opened → ⊥) × Else)
+
 abbrev pub IsScanExplanation : List ℕ → ScanFault → Option ScanExplanation → Type 0
-IsScanExplanation text (fault.OpenString at) o = IsSomeOf (IsStringExplanation text at) o
-IsScanExplanation text (fault.OpenTemplate at) o = IsSomeOf (IsSequenceExplanation text at) o
-IsScanExplanation text (fault.OpenHeredoc at) o = IsSomeOf (IsHeredocExplanation text at) o
-IsScanExplanation text (fault.OpenComment at) o = IsSomeOf (IsCommentExplanation text at) o
-IsScanExplanation text (fault.BadCharacter at) o = IsSomeOf (IsMarkerOr text at) o
-IsScanExplanation text error o = o ≡ explanation_of error
+IsScanExplanation text error o =
+    OpeningOr text (place_in_values error) o (IsExplanationHere text error o)

@@ -15,6 +15,7 @@ mod expected;
 mod explanation;
 mod found;
 mod head;
+mod heredoc;
 mod indents;
 mod joined;
 mod lines;

@@ -179,7 +179,7 @@ fn marker_len(text: &[u8]) -> usize
 }
 
 /// Returns what follows the `<<` or `<<-` with which a text begins.
-fn after_opening(text: &[u8]) -> &[u8]
+pub fn after_opening(text: &[u8]) -> &[u8]
     ensures { result.now ≡ spec.after_opening text.now }
 {
     match text {

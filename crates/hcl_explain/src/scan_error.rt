@@ -1,6 +1,6 @@
 //! The explanation of an error of a text that has no tokens.
 
-ghost use Rattle.std.specs.Prelude.{◌≡◌, IfOk, drop};
+ghost use Rattle.std.specs.Prelude.{◌≡◌, IfOk, Some, drop};
 ghost use Rattle.std.specs.Bool.{Decides};
 ghost use Rattle.hcl_explain.specs.Sequences as spec;
 ghost use Rattle.hcl_explain.specs.Sequences.{IsBlamed, IsClosedInComment, IsEnded};
@@ -11,8 +11,10 @@ ghost use Rattle.hcl_explain.specs.ScanExplanations.{IsCommentExplanation, IsCom
 ghost use Rattle.hcl_explain.specs.ScanExplanations.{IsCommentAfter, IsByUnclosed, IsByLine};
 ghost use Rattle.hcl_explain.specs.ScanExplanations.{IsCharacterExplanation, IsCharacterIn};
 ghost use Rattle.hcl_explain.specs.ScanExplanations.{IsNestedIn, IsOtherIn, IsByPlain, IsMarkerOr};
-ghost use Rattle.hcl_explain.specs.ScanExplanations.{of};
+ghost use Rattle.hcl_explain.specs.ScanExplanations.{of, OpeningOr, IsExplanationHere};
+ghost use Rattle.hcl_explain.specs.ScanExplanations.{place_in_values};
 
+use crate::heredoc::opening_before;
 use crate::lines::{bytes_from, closing_place, line_end, line_start, prefix};
 use crate::marker::is_conflict_marker;
 use crate::sequence::{ends_in_value, is_closed_in_comment, open_sequence};
@@ -39,6 +41,8 @@ pub enum ScanReason {
     /// which the text ends begins in it.
     Foreign,
     Heredoc,
+    /// The opening of a heredoc that is a mistake, in a line before the error.
+    Opening,
     Comment,
 }
 
@@ -53,7 +57,8 @@ pub struct ScanExplanation {
 ///
 /// Where a `${` is not closed, what follows it is read as a value, and the error may be after it: at
 /// the quote that should close its string, which opens another one, or at the heredoc that it is in.
-/// So the `${` that is the error of the text before that place is blamed, as the definitions say.
+/// So the `${` that is the error of the text before that place is blamed, as the definitions say;
+/// and so is the opening of a heredoc that is a mistake, for an error in a line after it.
 ///
 /// # Errors
 ///
@@ -64,6 +69,52 @@ pub fn explain_scan(
     fault: ScanFault,
 ) -> Result<Option<ScanExplanation>, AllocError>
     ensures { IfOk result (IsScanExplanation text.now fault) }
+{
+    match place_in_values(fault) {
+        Some(at) => by_opening(alloc, text, fault, at),
+        None => explain_here(alloc, text, fault),
+    }
+}
+
+/// Explains an error at byte `at`, which may be in the lines of a heredoc that are read as values,
+/// since its opening is a mistake.
+fn by_opening(
+    alloc: Global,
+    text: &[u8],
+    fault: ScanFault,
+    at: usize,
+) -> Result<Option<ScanExplanation>, AllocError>
+    ensures { IfOk result
+        (λ o. OpeningOr text.now (Some at) o (IsExplanationHere text.now fault o)) }
+{
+    match opening_before(alloc, text, at)? {
+        Some(opened) => Ok(Some(explanation(opened, ScanReason::Opening))),
+        None => explain_here(alloc, text, fault),
+    }
+}
+
+/// Returns the byte of an error that may be in such lines.
+fn place_in_values(fault: ScanFault) -> Option<usize>
+    ensures { result ≡ place_in_values fault }
+{
+    match fault {
+        ScanFault::OpenString { at }
+        | ScanFault::OpenTemplate { at }
+        | ScanFault::OpenHeredoc { at }
+        | ScanFault::OpenComment { at }
+        | ScanFault::BadCharacter { at }
+        | ScanFault::BadEscape { at } => Some(at),
+        ScanFault::NotUtf8 { .. } | ScanFault::TooLong | ScanFault::Memory => None,
+    }
+}
+
+/// Explains an error by what is at its byte, and by the template sequence around that.
+fn explain_here(
+    alloc: Global,
+    text: &[u8],
+    fault: ScanFault,
+) -> Result<Option<ScanExplanation>, AllocError>
+    ensures { IfOk result (IsExplanationHere text.now fault) }
 {
     let (at, reason) = match fault {
         ScanFault::OpenString { at } => return Ok(Some(open_string(alloc, text, at)?)),
@@ -379,7 +430,7 @@ fn explanation(at: usize, reason: ScanReason) -> ScanExplanation
 }
 
 /// Whether nothing follows in the line.
-fn is_line_end(text: &[u8]) -> bool
+pub fn is_line_end(text: &[u8]) -> bool
     ensures { result ≡ spec.is_line_end text.now }
 {
     match text {

@@ -4,6 +4,7 @@ use crate::advice::Advice;
 use crate::character::push_character;
 use crate::escape::push_escape;
 use crate::found::ends_at_token;
+use crate::heredoc::opening_advice;
 use crate::lines::{bytes_from, closing_place, first_line, line_end, marker_of, prefix};
 use crate::near::{ends_value, is_adjacent, is_kind};
 use crate::scan_error::{ScanExplanation, ScanReason};
@@ -45,6 +46,7 @@ impl ScanExplanation {
                 push_swallowed(&mut out, alloc, rest, "it")?;
             }
             ScanReason::Foreign => push_foreign(&mut out, alloc, rest)?,
+            ScanReason::Opening => out.push_str(opening_advice(rest).sentence())?,
             ScanReason::Heredoc => push_heredoc(&mut out, text, self.at)?,
             ScanReason::Comment => out.push_str("this `/*` is not closed")?,
         }

@@ -167,7 +167,7 @@ fn is_before_letter(sequence: &[u8]) -> bool
 }
 
 /// Whether a letter is the first byte of a line that is neither a space nor a tab.
-fn begins_with_letter(line: &[u8]) -> bool
+pub fn begins_with_letter(line: &[u8]) -> bool
     ensures { result ≡ spec.begins_with_letter line.now }
 {
     match bytes_from(line, whitespace_len(line)) {
