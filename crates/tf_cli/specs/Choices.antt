@@ -1,7 +1,8 @@
 -- Which rules the options of the command line choose. Options of TFLint.
-use Rattle.std.specs.Prelude.{◌≡◌, ◌==◌, ◌≤◌, ◌<◌, ◌⊎◌, ℕ, Bool, true, List, [], ◌∷◌, ◌++◌, ⊤}
-use Rattle.std.specs.Prelude.{codes, string_bytes, length, nat_eq, Option, Some, None}
+use Rattle.std.specs.Prelude.{◌≡◌, ◌==◌, ◌≤◌, ◌<◌, ◌⊎◌, ◌||◌, ℕ, Bool, true, List, [], ◌∷◌, ◌++◌, ⊤}
+use Rattle.std.specs.Prelude.{codes, string_bytes, length, nat_eq, Option, Some, None, if◌then◌else◌}
 use Rattle.std.specs.List.{list_any}
+use Rattle.std.specs.Str.{byte}
 use Rattle.std.specs.Str.{chars}
 use Rattle.strsim.specs.Edits.{levenshtein_row}
 use Rattle.tf_rules.specs.declared.rule.Rule.{Rule}
@@ -47,6 +48,10 @@ IsSimilarRule name (Some rule) =
     × ((other : Rule) → index_of other < index_of rule → ¬ (IsSimilar name other))
 IsSimilarRule name None = (rule : Rule) → ¬ (IsSimilar name rule)
 
+-- a name that is rather one of a FILE: it has a dot or a slash
+abbrev pub is_like_file : List ℕ → Bool
+is_like_file name = list_any (λ b. b == byte ".") name || list_any (λ b. b == byte "/") name
+
 -- what is said of a name that no rule has, by the rule with a similar name
 abbrev pub unknown_rule_text : List ℕ → Option Rule → List ℕ
 unknown_rule_text name (Some rule) =
@@ -55,7 +60,9 @@ unknown_rule_text name (Some rule) =
     ++ (name_of rule ++ codes "? tfk lint --help lists them\n")))
 unknown_rule_text name None =
     codes "tfk: unknown rule "
-    ++ (name ++ codes ": tfk lint --help lists them; one for each option\n")
+    ++ (name ++ (if is_like_file name
+    then codes ": if it is a FILE, name a rule before it; tfk lint --help lists the rules\n"
+    else codes ": tfk lint --help lists them; one for each option\n"))
 
 abbrev pub SaysUnknownRule : List ℕ → List ℕ → Type 0
 SaysUnknownRule name text =

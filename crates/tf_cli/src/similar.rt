@@ -2,7 +2,7 @@
 
 ghost use Rattle.std.specs.Prelude.{◌≡◌, ◌≤◌, ◌↔◌, ◌⊎◌, true, IfOk};
 ghost use Rattle.tf_rules.specs.Table.{name_of};
-ghost use Rattle.tf_cli.specs.Choices.{distance, IsSimilarRule};
+ghost use Rattle.tf_cli.specs.Choices.{distance, is_like_file, IsSimilarRule};
 
 use std::alloc::{AllocError, Global};
 use strsim::levenshtein;
@@ -25,6 +25,13 @@ pub fn similar_rule(alloc: Global, name: &str) -> Result<Option<Rule>, AllocErro
         }
     }
     Ok(None)
+}
+
+/// Returns whether a name is rather one of a file than of a rule: it has a dot or a slash.
+pub fn is_like_file(name: &str) -> bool
+    ensures { result ≡ is_like_file name.now }
+{
+    name.as_bytes().contains(&b'.') || name.as_bytes().contains(&b'/')
 }
 
 /// Returns whether one of two names is similar to that of a rule: at most three characters have to

@@ -1,8 +1,8 @@
 //! The task of what clap has read of the arguments.
 
-ghost use Rattle.std.specs.Prelude.{◌≡◌, map, string_bytes, IfOk, IfErr};
+ghost use Rattle.std.specs.Prelude.{◌≡◌, None, map, string_bytes, IfOk, IfErr};
 ghost use Rattle.tf_cli.specs.Choices.{IsName, AreNames, SaysUnknownRule, IsUnknownRule};
-ghost use Rattle.tf_cli.specs.Choices.{HasUnknownRule};
+ghost use Rattle.tf_cli.specs.Choices.{HasUnknownRule, unknown_rule_text};
 ghost use Rattle.tf_cli.specs.Tasks.{rows_in, values_of, option_values, IsNamesFault};
 ghost use Rattle.tf_cli.specs.Tasks.{AreChosenRules, IsRulesFault, IsGiven, IsTakenNumber};
 ghost use Rattle.tf_cli.specs.Tasks.{IsAction, IsActionFault, IsTask, IsTaskFault};
@@ -12,7 +12,7 @@ use crate::clap_commands::FILE;
 use crate::exits::{Exit, usage_error};
 use crate::options::{Action, Flag, Subcommand};
 use crate::rule_choice::{Choice, chosen_rules};
-use crate::similar::similar_rule;
+use crate::similar::{is_like_file, similar_rule};
 use clap::ArgMatches;
 use std::alloc::{AllocError, Global};
 use tf_rules::RuleSet;
@@ -113,9 +113,27 @@ fn unknown_rule(alloc: Global, name: &str) -> Result<String, AllocError>
                 "tfk: unknown rule {name}: did you mean {meant}? tfk lint --help lists them\n"
             )
         }
-        None => format!(in alloc;
+        None => no_similar_rule(alloc, name),
+    }
+}
+
+/// Returns what is said of a name that no rule has, nor a similar one.
+///
+/// # Errors
+///
+/// `AllocError` if memory runs out.
+fn no_similar_rule(alloc: Global, name: &str) -> Result<String, AllocError>
+    ensures { IfOk result (λ text. string_bytes text ≡ unknown_rule_text name.now None) }
+{
+    if is_like_file(name) {
+        format!(in alloc;
+            "tfk: unknown rule {name}: if it is a FILE, name a rule before it; \
+                tfk lint --help lists the rules\n"
+        )
+    } else {
+        format!(in alloc;
             "tfk: unknown rule {name}: tfk lint --help lists them; one for each option\n"
-        ),
+        )
     }
 }
 
