@@ -1,3 +1,4 @@
+pub mod Advice
 pub mod Arguments
 pub mod Choices
 pub mod Options

@@ -1,8 +1,17 @@
 //! What is said before clap's text on arguments that it refuses. clap's tip is to take an unknown
-//! option for a FILE, and a FILE in a command's place for another command: then it is left out.
+//! option for a FILE, and a FILE in a command's place for another command: then it is left out. The
+//! former is left out where nothing is said, too.
 
-use crate::counterparts::{Place, SEVERAL, SEVERAL_LISTS, folders_line_of, line_of};
+ghost use Rattle.std.specs.Prelude.{◌≡◌, false, IfSome};
+ghost use Rattle.tf_cli.specs.Advice.{advice_writes};
+
+use crate::counterparts::{
+    CHECKED, LINTED, LISTED, Line, ON_SEVERAL, ON_SEVERAL_LISTS, Place, folders_line_of, line_of,
+    reading_text_of,
+};
+use crate::dry_run::{dry_run_word, option_name};
 use crate::options::{Flag, Subcommand};
+use crate::similar::is_like_file;
 use clap::error::ErrorKind;
 
 /// What clap's text on an unknown argument begins with; the argument follows, as clap reads it, so
@@ -11,6 +20,9 @@ const UNKNOWN_ARGUMENT: &str = "error: unexpected argument '";
 
 /// What each tip in a text of clap's begins with.
 const TIP: &str = "  tip: ";
+
+/// What the tip begins with that names an option; the option follows.
+pub const SIMILAR_TIP: &str = "  tip: a similar argument exists: '";
 
 const NUMBER: &str =
     "--take N: N is the number of a command, as tfk revert --list -- FILE prints it";
@@ -28,12 +40,18 @@ const AFTER_RULES: &str = "name the files after the rules: -- FILE; see tfk lint
 const NO_COMMAND: &str =
     "name a command first: tfk fmt -- FILE formats, tfk lint -- FILE lints; see tfk --help";
 
+const NO_READING_COMMAND: &str = "name a command first: \
+    tfk fmt --check -- FILE checks the layout, tfk lint -- FILE lints; see tfk --help";
+
+const FILE_WITH_DASH: &str = "if it is a FILE, write it after --; see tfk --help";
+
 const COMMANDS: &str = "the commands are fmt, lint, fix and revert; see tfk --help";
 
 /// What is said of arguments that clap refuses.
+#[derive(Clone, Copy)]
 pub enum Advice<'a> {
     /// There is no such word; what there is in its place.
-    Unknown { word: &'a str, line: &'static str },
+    Unknown { word: &'a str, line: Line },
     /// An option of the command with one dash; its name.
     OneDash { word: &'a str, name: &'static str },
     /// A FILE that was taken for the rule of an option.
@@ -44,20 +62,108 @@ pub enum Advice<'a> {
     NoFile(&'a str),
     /// Several FILEs after this number of `--take`.
     Several(&'a str),
-    Line(&'static str),
+    Line(Line),
+}
+
+impl<'a> Advice<'a> {
+    /// Returns whether it names a command that writes FILE, or says how FILE is written.
+    fn writes(&self) -> bool
+        ensures { result ≡ advice_writes self.now }
+    {
+        match self {
+            Advice::Unknown { line, .. } => line.writes(),
+            Advice::OneDash { name, .. } => *name == "take",
+            Advice::TakenForRule { .. } => false,
+            Advice::Number(_) => true,
+            Advice::NoFile(_) => true,
+            Advice::Several(_) => true,
+            Advice::Line(line) => line.writes(),
+        }
+    }
+}
+
+/// Returns what is said of an error of this kind that clap has said this text of; none if that says
+/// enough. It names no command that writes FILE if the arguments say to write nothing.
+pub fn advice_for<'a>(kind: ErrorKind, text: &str, args: &[&'a str]) -> Option<Advice<'a>> {
+    let advice = any_advice_for(kind, text, args);
+    match dry_run_word(args) {
+        Some(word) => reading_advice(advice, word, args),
+        None => advice,
+    }
+}
+
+/// Returns this advice, or if it names what writes FILE, that on this word, with which the arguments
+/// say to write nothing.
+fn reading_advice<'a>(
+    advice: Option<Advice<'a>>,
+    word: &'a str,
+    args: &[&'a str],
+) -> Option<Advice<'a>>
+    ensures { IfSome result (λ said. advice_writes said ≡ false) }
+{
+    match advice {
+        Some(advice) if advice.writes() => Some(advice_on_dry_run(word, args)),
+        _ => advice,
+    }
+}
+
+/// Returns what is said of this word, with which the arguments say to write nothing; if there is
+/// nothing, which command reads FILE.
+fn advice_on_dry_run<'a>(word: &'a str, args: &[&'a str]) -> Advice<'a>
+    ensures { advice_writes result ≡ false }
+{
+    match row_on_dry_run(word, args) {
+        Some(advice) if !advice.writes() => advice,
+        _ => Advice::Line(Line::Reads(reading_command(args))),
+    }
+}
+
+/// Returns what a row says of this option, or of the word in a command's place.
+fn row_on_dry_run<'a>(word: &'a str, args: &[&'a str]) -> Option<Advice<'a>> {
+    let first = *args.get(1)?;
+    match Subcommand::by_name(first) {
+        Some(subcommand) => advice_on_option(place_of(subcommand, args), word, args, 1),
+        None if first.starts_with('-') => advice_before_command(word, args),
+        None => {
+            let word = command_word(args)?;
+            let line = Line::Reads(reading_text_of(Place::Command, word)?);
+            Some(Advice::Unknown { word, line })
+        }
+    }
+}
+
+/// Returns which command reads FILE in place of the one that is given.
+fn reading_command(args: &[&str]) -> &'static str {
+    match command_at(args, 1) {
+        None => NO_READING_COMMAND,
+        Some(Subcommand::Fmt) => CHECKED,
+        Some(Subcommand::Lint | Subcommand::Fix) => LINTED,
+        Some(Subcommand::Revert) => LISTED,
+    }
 }
 
 /// Returns what is said of an error of this kind that clap has said this text of; none if that says
 /// enough.
-pub fn advice_for<'a>(kind: ErrorKind, text: &str, args: &[&'a str]) -> Option<Advice<'a>> {
+fn any_advice_for<'a>(kind: ErrorKind, text: &str, args: &[&'a str]) -> Option<Advice<'a>> {
     match kind {
         // the number is the only value that clap looks into
-        ErrorKind::ValueValidation => Some(Advice::Line(NUMBER)),
+        ErrorKind::ValueValidation => Some(Advice::Line(Line::Reads(NUMBER))),
         ErrorKind::MissingRequiredArgument => advice_on_missing(args),
         ErrorKind::InvalidSubcommand => advice_on_command(text, args),
         ErrorKind::UnknownArgument | ErrorKind::TooManyValues => advice_on_unknown(text, args),
         _ => None,
     }
+}
+
+/// Returns the option, with its dashes, that clap's text says to be similar to an unknown one; none
+/// if it would write FILE where the arguments say to write nothing.
+pub fn similar_option<'a>(text: &'a str, args: &[&str]) -> Option<&'a str> {
+    let (_, after) = text.split_once(SIMILAR_TIP)?;
+    let (option, _) = after.split_once('\'')?;
+    if option == "--take" && dry_run_word(args).is_some() {
+        return None;
+    }
+    Some(option)
 }
 
 /// Returns what is before the tips in a text of clap's, and what is after them.
@@ -160,9 +266,9 @@ fn taken_number<'a>(args: &[&'a str]) -> &'a str {
     "N"
 }
 
-/// Returns whether a word is a name of a file rather than one of a command or of a rule.
-fn is_like_file(word: &str) -> bool {
-    word == "-" || word.contains('.') || word.contains('/')
+/// Returns whether a word is a FILE rather than a command or a rule.
+fn is_file(word: &str) -> bool {
+    word == "-" || is_like_file(word)
 }
 
 /// Returns what is said of a command with no FILE.
@@ -173,7 +279,7 @@ fn advice_on_missing<'a>(args: &[&'a str]) -> Option<Advice<'a>> {
     let subcommand = command_at(args, 1)?;
     match place_of(subcommand, args) {
         Place::Take => Some(Advice::NoFile(taken_number(args))),
-        Place::List if has_take(args) => Some(Advice::Line(LIST_OR_TAKE)),
+        Place::List if has_take(args) => Some(Advice::Line(Line::Reads(LIST_OR_TAKE))),
         place => Some(Advice::Line(line_on_missing(place, args))),
     }
 }
@@ -186,7 +292,7 @@ fn advice_on_taken_file<'a>(args: &[&'a str]) -> Option<Advice<'a>> {
             Some(parts) => parts,
             None => (last, *arg),
         };
-        if is_rule_option(option) && is_like_file(file) {
+        if is_rule_option(option) && is_file(file) {
             return Some(Advice::TakenForRule { file, option });
         }
         last = *arg;
@@ -195,14 +301,18 @@ fn advice_on_taken_file<'a>(args: &[&'a str]) -> Option<Advice<'a>> {
 }
 
 /// Returns the line for a command with no FILE; it writes no file if the arguments write none.
-fn line_on_missing(place: Place, args: &[&str]) -> &'static str {
+fn line_on_missing(place: Place, args: &[&str]) -> Line {
     match place {
-        Place::Check => "name the files: tfk fmt --check -- *.tf; see tfk fmt --help",
-        Place::Fmt => "name the files: tfk fmt -- *.tf; see tfk fmt --help",
-        Place::Lint | Place::Fix if has_rules(args) => AFTER_RULES,
-        Place::Lint => "name the files: tfk lint -- *.tf; see tfk lint --help",
-        Place::Fix => "name the files: tfk fix -- *.tf; see tfk fix --help",
-        _ => "name the file: tfk revert --list -- FILE lists its commands; see tfk revert --help",
+        Place::Check => {
+            Line::Reads("name the files: tfk fmt --check -- *.tf; see tfk fmt --help")
+        }
+        Place::Fmt => Line::Writes("name the files: tfk fmt -- *.tf; see tfk fmt --help"),
+        Place::Lint | Place::Fix if has_rules(args) => Line::Reads(AFTER_RULES),
+        Place::Lint => Line::Reads("name the files: tfk lint -- *.tf; see tfk lint --help"),
+        Place::Fix => Line::Writes("name the files: tfk fix -- *.tf; see tfk fix --help"),
+        _ => Line::Reads(
+            "name the file: tfk revert --list -- FILE lists its commands; see tfk revert --help",
+        ),
     }
 }
 
@@ -222,9 +332,9 @@ fn advice_on_command<'a>(text: &str, args: &[&'a str]) -> Option<Advice<'a>> {
     let word = command_word(args)?;
     match advice_on_word(Place::Command, word, word) {
         Some(advice) => Some(advice),
-        None if is_like_file(word) => Some(Advice::Line(NO_COMMAND)),
+        None if is_file(word) => Some(Advice::Line(Line::Writes(NO_COMMAND))),
         None if text.contains(TIP) => None,
-        None => Some(Advice::Line(COMMANDS)),
+        None => Some(Advice::Line(Line::Reads(COMMANDS))),
     }
 }
 
@@ -251,7 +361,11 @@ fn advice_on_unknown<'a>(text: &str, args: &[&'a str]) -> Option<Advice<'a>> {
 
 /// Returns what is said of the first argument, which clap refuses if it is an option.
 fn advice_on_start<'a>(args: &[&'a str]) -> Option<Advice<'a>> {
-    let option = *args.get(1)?;
+    advice_before_command(*args.get(1)?, args)
+}
+
+/// Returns what is said of this option, if the first argument is one.
+fn advice_before_command<'a>(option: &'a str, args: &[&'a str]) -> Option<Advice<'a>> {
     let at = command_index(args);
     match command_at(args, at) {
         Some(subcommand) => match advice_on_option(place_of(subcommand, args), option, args, at) {
@@ -267,7 +381,7 @@ fn advice_on_revert<'a>(text: &str, args: &[&'a str]) -> Option<Advice<'a>> {
     let argument = text.strip_prefix(UNKNOWN_ARGUMENT)?;
     let is_option = argument.starts_with('-') && has_unknown_option(args);
     match argument.as_bytes() {
-        [b'-', b'0'..=b'9', ..] if is_option => Some(Advice::Line(NUMBER)),
+        [b'-', b'0'..=b'9', ..] if is_option => Some(Advice::Line(Line::Reads(NUMBER))),
         _ if is_option => None,
         _ => match advice_on_numbers(args) {
             Some(advice) => Some(advice),
@@ -304,10 +418,10 @@ fn is_option_of(subcommand: Subcommand, word: &str) -> bool {
 /// more in a name than the name.
 fn advice_on_files<'a>(args: &[&'a str]) -> Advice<'a> {
     match place_of(Subcommand::Revert, args) {
-        Place::List if has_take(args) => Advice::Line(LIST_OR_TAKE),
-        Place::List => Advice::Line(SEVERAL_LISTS),
+        Place::List if has_take(args) => Advice::Line(Line::Reads(LIST_OR_TAKE)),
+        Place::List => Advice::Line(ON_SEVERAL_LISTS),
         Place::Take => Advice::Several(taken_number(args)),
-        _ => Advice::Line(SEVERAL),
+        _ => Advice::Line(ON_SEVERAL),
     }
 }
 
@@ -320,8 +434,8 @@ fn advice_on_numbers<'a>(args: &[&'a str]) -> Option<Advice<'a>> {
     let is_list = is_given(args, "--list");
     for arg in args {
         match Subcommand::by_name(arg) {
-            Some(Subcommand::Fmt | Subcommand::Fix) => return Some(Advice::Line(NAME)),
-            _ if is_number(arg) && is_list => return Some(Advice::Line(ALL_LISTED)),
+            Some(Subcommand::Fmt | Subcommand::Fix) => return Some(Advice::Line(Line::Reads(NAME))),
+            _ if is_number(arg) && is_list => return Some(Advice::Line(Line::Reads(ALL_LISTED))),
             _ if is_number(arg) && is_number_with_file(args) => return Some(Advice::Number(*arg)),
             _ => {}
         }
@@ -389,21 +503,25 @@ fn advice_on_option<'a>(
     let name = option_name(arg)?;
     match advice_on_word(place, arg, name) {
         Some(advice) => Some(advice),
-        None => {
-            let (option, _) = arg.split_once('=')?;
-            advice_on_word(place, option, option_name(option)?)
-        }
+        None => match arg.split_once('=') {
+            Some((option, _)) => advice_on_word(place, option, option_name(option)?),
+            None => advice_on_file(arg),
+        },
     }
+}
+
+/// Returns what is said of an option that is rather the name of a file.
+fn advice_on_file<'a>(arg: &'a str) -> Option<Advice<'a>> {
+    if !is_like_file(arg) {
+        return None;
+    }
+    let line = Line::Reads(FILE_WITH_DASH);
+    Some(Advice::Unknown { word: arg, line })
 }
 
 /// Returns the line with the command for all files that git tracks, if the option is for folders and
 /// no argument but the command and `--check` chooses what is done.
-fn line_for_folders(
-    place: Place,
-    arg: &str,
-    args: &[&str],
-    command: usize,
-) -> Option<&'static str> {
+fn line_for_folders(place: Place, arg: &str, args: &[&str], command: usize) -> Option<Line> {
     let name = option_name(arg)?;
     let line = folders_line_of(place, name)?;
     if is_for_all(arg, args, command) {
@@ -423,14 +541,6 @@ fn is_for_all(option: &str, args: &[&str], command: usize) -> bool {
         }
     }
     true
-}
-
-/// Returns an option without the dash or two that it begins with; none if it begins with none.
-fn option_name(arg: &str) -> Option<&str> {
-    match arg.strip_prefix("--") {
-        Some(name) => Some(name),
-        None => arg.strip_prefix('-'),
-    }
 }
 
 /// Returns what is said of a word with this name.

@@ -1,6 +1,9 @@
 //! Tables of the options and commands of other programs, and of options of tfk that are written
 //! otherwise, with what there is in their place.
 
+ghost use Rattle.std.specs.Prelude.{◌≡◌};
+ghost use Rattle.tf_cli.specs.Advice.{line_writes};
+
 use crate::tracked::on_tracked_files;
 
 /// Where a word is given.
@@ -21,6 +24,32 @@ pub enum Place {
     List,
     /// An option of `revert --take`, which undoes one command.
     Take,
+}
+
+/// What is said of a word, or of arguments.
+#[derive(Clone, Copy)]
+pub enum Line {
+    /// It names no command that writes FILE.
+    Reads(&'static str),
+    /// It names one, or says how FILE is written.
+    Writes(&'static str),
+}
+
+impl Line {
+    /// Returns whether it names a command that writes FILE, or says how FILE is written.
+    pub fn writes(self) -> bool
+        ensures { result ≡ line_writes self }
+    {
+        matches!(self, Line::Writes(_))
+    }
+
+    /// Returns its text.
+    pub fn text(self) -> &'static str {
+        match self {
+            Line::Reads(text) => text,
+            Line::Writes(text) => text,
+        }
+    }
 }
 
 /// A row of a table.
@@ -94,11 +123,48 @@ const WITHOUT_RULES: &[Place] = &[
 /// Options for folders.
 const FOLDERS: &[&str] = &["recursive", "r", "R", "all"];
 
-/// What `revert` takes, and how it is run for several files.
-pub const SEVERAL: &str = "revert takes one FILE; for several, one at a time: tfk revert -- FILE";
+/// Options that say to write nothing, beside those for a check, a list or a comparison.
+const DRY_RUN: &[&str] = &[
+    "dry-run",
+    "dryrun",
+    "n",
+    "no-write",
+    "nowrite",
+    "preview",
+    "noop",
+    "no-fix",
+    "write=false",
+    "w=false",
+    "in-place=false",
+    "i=false",
+    "fix=false",
+];
 
-pub const SEVERAL_LISTS: &str =
+/// What `revert` takes, and how it is run for several files.
+const SEVERAL: &str = "revert takes one FILE; for several, one at a time: tfk revert -- FILE";
+
+const SEVERAL_LISTS: &str =
     "revert takes one FILE; for several, one at a time: tfk revert --list -- FILE";
+
+/// What is said of several files.
+pub const ON_SEVERAL: Line = Line::Writes(SEVERAL);
+
+pub const ON_SEVERAL_LISTS: Line = Line::Reads(SEVERAL_LISTS);
+
+/// The command that shows what `fix` would do.
+const SHOWN_CHANGES: &str =
+    "tfk fix - < FILE | diff -u -- FILE - shows the changes; see tfk fix --help";
+
+const SHOWN_FIXES: &str =
+    "lint writes nothing; tfk fix - < FILE | diff -u -- FILE - shows the fixes";
+
+/// What checks FILE in place of `fmt`, `fix` and `revert`.
+pub const CHECKED: &str = "tfk fmt --check -- FILE writes nothing; see tfk fmt --help";
+
+pub const LINTED: &str =
+    "tfk lint -- FILE reports the issues and writes nothing; see tfk lint --help";
+
+pub const LISTED: &str = "tfk revert --list -- FILE says what can be undone, and writes nothing";
 
 const ONE_FILE: &str = "revert takes one FILE; see tfk revert --help";
 
@@ -119,12 +185,28 @@ macro_rules! for_folders {
 
 /// Returns what is said after this option for folders at a place, if nothing else is given that
 /// chooses what is done; none if no row has it.
-pub fn folders_line_of(place: Place, word: &str) -> Option<&'static str> {
-    line_in(tracked_rows(), place, word)
+pub fn folders_line_of(place: Place, word: &str) -> Option<Line> {
+    let text = text_in(tracked_rows(), place, word)?;
+    match place {
+        Place::Fmt | Place::Fix => Some(Line::Writes(text)),
+        _ => Some(Line::Reads(text)),
+    }
 }
 
 /// Returns what is said after this word at a place; none if no row has it.
-pub fn line_of(place: Place, word: &str) -> Option<&'static str> {
+pub fn line_of(place: Place, word: &str) -> Option<Line> {
+    match text_in(writing_rows(), place, word) {
+        Some(text) => Some(Line::Writes(text)),
+        None => match reading_text_of(place, word) {
+            Some(text) => Some(Line::Reads(text)),
+            None => None,
+        },
+    }
+}
+
+/// Returns what is said after this word at a place that names no command which writes FILE; none if
+/// no row has it.
+pub fn reading_text_of(place: Place, word: &str) -> Option<&'static str> {
     let tables = [
         format_rows(),
         folder_rows(),
@@ -138,15 +220,15 @@ pub fn line_of(place: Place, word: &str) -> Option<&'static str> {
         command_rows(),
     ];
     for table in tables {
-        if let Some(line) = line_in(table, place, word) {
-            return Some(line);
+        if let Some(text) = text_in(table, place, word) {
+            return Some(text);
         }
     }
     None
 }
 
 /// Returns what the first of these rows says that has this word at a place.
-fn line_in(table: &'static [Counterpart], place: Place, word: &str) -> Option<&'static str> {
+fn text_in(table: &'static [Counterpart], place: Place, word: &str) -> Option<&'static str> {
     for row in table {
         if row.is_of(place, word) {
             return Some(row.line);
@@ -156,6 +238,10 @@ fn line_in(table: &'static [Counterpart], place: Place, word: &str) -> Option<&'
 }
 
 // For the proof: a function for each table, since one with all rows exceeds the prover's limit.
+
+fn writing_rows() -> &'static [Counterpart] {
+    WRITING_ROWS
+}
 
 fn format_rows() -> &'static [Counterpart] {
     FORMAT_ROWS
@@ -201,23 +287,15 @@ fn command_rows() -> &'static [Counterpart] {
     COMMAND_ROWS
 }
 
-// The tables. At each place a word is in one row at most, of all tables but that of tracked files.
-// If the arguments are to read FILE alone, no line names a command that writes it, except that of
-// `lint --fix`. A line that changes files if it is pasted has all that the arguments choose: FILEs,
-// rules and the command to undo. If they are not in it, it names the help.
+// The tables. A line of WRITING_ROWS, or of TRACKED_ROWS at `fmt` and `fix`, names a command that
+// writes FILE, or says how FILE is written; one of any other row doesn't. At each place a word is in
+// one row at most of those that do, TRACKED_ROWS aside, and in one at most of the others, which is
+// said if the arguments say to write nothing. A line that changes files if it is pasted has all that
+// the arguments choose: FILEs, rules and the command to undo. If they are not in it, it names the
+// help.
 
-/// The options of `terraform fmt`, gofmt, prettier and black.
-const FORMAT_ROWS: &[Counterpart] = &[
-    Counterpart {
-        words: &["diff", "d"],
-        places: FORMATTER,
-        line: "tfk fmt - < FILE | diff -u -- FILE - shows the changes; see tfk fmt --help",
-    },
-    Counterpart {
-        words: &["write=false", "dry-run"],
-        places: FORMATTER,
-        line: "tfk fmt --check -- FILE writes nothing; see tfk fmt --help",
-    },
+/// Words whose line names a command that writes FILE, or says how FILE is written.
+const WRITING_ROWS: &[Counterpart] = &[
     Counterpart {
         words: &["write", "w", "in-place", "i"],
         places: &[Place::Start],
@@ -227,6 +305,103 @@ const FORMAT_ROWS: &[Counterpart] = &[
         words: &["write", "w", "in-place", "i", "force"],
         places: &[Place::Fmt],
         line: "fmt writes FILE without it; see tfk fmt --help",
+    },
+    Counterpart {
+        words: &["s"],
+        places: &[Place::Fmt],
+        line: "fmt only formats; tfk fix -- FILE simplifies, > /dev/null drops the names",
+    },
+    Counterpart {
+        words: &["s"],
+        places: &[Place::Start],
+        line: "tfk fmt -- FILE formats, tfk lint -- FILE lints; see tfk --help",
+    },
+    Counterpart {
+        words: &["fix"],
+        places: &[Place::Start, Place::Lint],
+        line: "tfk fix has the options of tfk lint, and fixes what it can; see tfk fix --help",
+    },
+    Counterpart {
+        words: &["fix"],
+        places: &[Place::Fmt],
+        line: "tfk fix -- FILE fixes what it can; see tfk fix --help",
+    },
+    Counterpart {
+        words: &["write", "w", "in-place", "i", "fix"],
+        places: &[Place::Fix],
+        line: "fix writes FILE without it; see tfk fix --help",
+    },
+    Counterpart {
+        words: &["write", "w", "in-place", "i"],
+        places: UNDO,
+        line: "revert writes FILE without it; see tfk revert --help",
+    },
+    Counterpart {
+        words: FOLDERS,
+        places: &[Place::Fix],
+        line: "folders are not searched; \
+            tfk fix --help has a line for the files of a folder that git tracks",
+    },
+    Counterpart {
+        words: &["exclude"],
+        places: &[Place::Fix],
+        line: "name the files; \
+            ':!:PATH' before the | of the line in tfk fix --help leaves out PATH",
+    },
+    Counterpart {
+        words: &["recursive", "r", "R"],
+        places: &[Place::Revert],
+        line: SEVERAL,
+    },
+    Counterpart {
+        words: &["all"],
+        places: &[Place::Revert],
+        line: "while tfk revert -- FILE; do :; done undoes all commands; see tfk revert --help",
+    },
+    Counterpart {
+        words: &["to"],
+        places: &[Place::Revert],
+        line: "run tfk revert -- FILE until tfk revert --list -- FILE ends with the one to keep",
+    },
+    Counterpart {
+        words: &["all", "to"],
+        places: &[Place::Take],
+        line: "--take N undoes command N alone; see tfk revert --help",
+    },
+    Counterpart {
+        words: &["take"],
+        places: &[Place::Start],
+        line: "a command comes first: tfk revert --take N -- FILE; see tfk revert --help",
+    },
+    Counterpart {
+        words: &["undo", "restore", "rollback"],
+        places: &[
+            Place::Command,
+            Place::Start,
+            Place::Fmt,
+            Place::Fix,
+            Place::Revert,
+            Place::Take,
+        ],
+        line: "tfk revert undoes what fmt and fix changed; see tfk revert --help",
+    },
+    Counterpart {
+        words: &["t"],
+        places: UNDO,
+        line: "write --take",
+    },
+];
+/// The options of `terraform fmt`, gofmt, prettier and black.
+const FORMAT_ROWS: &[Counterpart] = &[
+    Counterpart {
+        words: &["diff", "d"],
+        places: FORMATTER,
+        line: "tfk fmt - < FILE | diff -u -- FILE - shows the changes; see tfk fmt --help",
+    },
+    Counterpart {
+        words: DRY_RUN,
+        places: FORMATTER,
+        line: CHECKED,
     },
     Counterpart {
         words: &["write", "w", "in-place", "i", "force"],
@@ -260,18 +435,8 @@ const FORMAT_ROWS: &[Counterpart] = &[
     },
     Counterpart {
         words: &["s"],
-        places: &[Place::Fmt],
-        line: "fmt only formats; tfk fix -- FILE simplifies, > /dev/null drops the names",
-    },
-    Counterpart {
-        words: &["s"],
         places: &[Place::Check],
         line: "tfk lint -- FILE reports what could be simpler, > /dev/null drops the names",
-    },
-    Counterpart {
-        words: &["s"],
-        places: &[Place::Start],
-        line: "tfk fmt -- FILE formats, tfk lint -- FILE lints; see tfk --help",
     },
     Counterpart {
         words: &["c"],
@@ -328,12 +493,6 @@ const FOLDER_ROWS: &[Counterpart] = &[
             tfk lint --help has a line for the files of a folder that git tracks",
     },
     Counterpart {
-        words: FOLDERS,
-        places: &[Place::Fix],
-        line: "folders are not searched; \
-            tfk fix --help has a line for the files of a folder that git tracks",
-    },
-    Counterpart {
         words: &["exclude"],
         places: &[Place::Fmt, Place::Check],
         line: "name the files; \
@@ -345,26 +504,10 @@ const FOLDER_ROWS: &[Counterpart] = &[
         line: "name the files; \
             ':!:PATH' before the | of the line in tfk lint --help leaves out PATH",
     },
-    Counterpart {
-        words: &["exclude"],
-        places: &[Place::Fix],
-        line: "name the files; \
-            ':!:PATH' before the | of the line in tfk fix --help leaves out PATH",
-    },
 ];
 
 /// The options of TFLint and of other linters.
 const LINT_ROWS: &[Counterpart] = &[
-    Counterpart {
-        words: &["fix"],
-        places: &[Place::Start, Place::Lint],
-        line: "tfk fix has the options of tfk lint, and fixes what it can; see tfk fix --help",
-    },
-    Counterpart {
-        words: &["fix"],
-        places: &[Place::Fmt],
-        line: "tfk fix -- FILE fixes what it can; see tfk fix --help",
-    },
     Counterpart {
         words: &["fix"],
         places: &[Place::Check],
@@ -376,12 +519,12 @@ const LINT_ROWS: &[Counterpart] = &[
         line: "name the files; see tfk lint --help",
     },
     Counterpart {
-        words: &["only", "select"],
+        words: &["only", "select", "rule", "rules"],
         places: LINTER,
         line: "--disable-rule all --enable-rule RULE enables one; see tfk lint --help",
     },
     Counterpart {
-        words: &["ignore"],
+        words: &["ignore", "skip"],
         places: LINTER,
         line: "--disable-rule RULE disables one; see tfk lint --help",
     },
@@ -396,7 +539,7 @@ const LINT_ROWS: &[Counterpart] = &[
         line: "issues give status 2; for 0 add || test $? -eq 2",
     },
     Counterpart {
-        words: &["minimum-failure-severity"],
+        words: &["minimum-failure-severity", "severity"],
         places: LINTER,
         line: "each issue gives status 2, unless its rule is disabled; see tfk lint --help",
     },
@@ -435,9 +578,19 @@ const LINT_ROWS: &[Counterpart] = &[
 /// Options that show changes, write nothing or write in place, of lint, fix and revert.
 const CHANGE_ROWS: &[Counterpart] = &[
     Counterpart {
-        words: &["diff", "d", "dry-run", "write", "w", "in-place", "i"],
+        words: &["diff", "d", "write", "w", "in-place", "i"],
         places: &[Place::Lint],
-        line: "lint writes nothing; tfk fix - < FILE | diff -u -- FILE - shows the fixes",
+        line: SHOWN_FIXES,
+    },
+    Counterpart {
+        words: DRY_RUN,
+        places: &[Place::Lint],
+        line: SHOWN_FIXES,
+    },
+    Counterpart {
+        words: &["l", "list-different"],
+        places: &[Place::Lint],
+        line: "lint prints the issues, and writes nothing; see tfk lint --help",
     },
     Counterpart {
         words: &["check"],
@@ -445,29 +598,34 @@ const CHANGE_ROWS: &[Counterpart] = &[
         line: "lint writes nothing; tfk fmt --check -- FILE checks the layout",
     },
     Counterpart {
-        words: &["diff", "d", "dry-run", "write=false"],
+        words: &["diff", "d"],
         places: &[Place::Fix],
-        line: "tfk fix - < FILE | diff -u -- FILE - shows the changes; see tfk fix --help",
+        line: SHOWN_CHANGES,
     },
     Counterpart {
-        words: &["write", "w", "in-place", "i", "fix"],
+        words: DRY_RUN,
         places: &[Place::Fix],
-        line: "fix writes FILE without it; see tfk fix --help",
+        line: SHOWN_CHANGES,
     },
     Counterpart {
-        words: &["check"],
+        words: &["check", "l", "list-different"],
         places: &[Place::Fix],
-        line: "tfk lint -- FILE reports the issues and writes nothing; see tfk lint --help",
+        line: LINTED,
     },
     Counterpart {
-        words: &["diff", "d", "dry-run", "write=false", "check", "c"],
+        words: &["diff", "d", "check", "c", "list-different"],
         places: REVERT,
-        line: "tfk revert --list -- FILE says what can be undone, and writes nothing",
+        line: LISTED,
     },
     Counterpart {
-        words: &["write", "w", "in-place", "i"],
-        places: UNDO,
-        line: "revert writes FILE without it; see tfk revert --help",
+        words: DRY_RUN,
+        places: REVERT,
+        line: LISTED,
+    },
+    Counterpart {
+        words: &["stdout", "output", "o"],
+        places: REVERT,
+        line: LISTED,
     },
     Counterpart {
         words: &["write", "w", "in-place", "i"],
@@ -478,11 +636,6 @@ const CHANGE_ROWS: &[Counterpart] = &[
 
 /// Other options of revert.
 const REVERT_ROWS: &[Counterpart] = &[
-    Counterpart {
-        words: &["recursive", "r", "R"],
-        places: &[Place::Revert],
-        line: SEVERAL,
-    },
     Counterpart {
         words: &["recursive", "r", "R"],
         places: &[Place::List],
@@ -504,22 +657,7 @@ const REVERT_ROWS: &[Counterpart] = &[
         line: "a command is undone only if what it wrote is still there; see tfk revert --help",
     },
     Counterpart {
-        words: &["all"],
-        places: &[Place::Revert],
-        line: "while tfk revert -- FILE; do :; done undoes all commands; see tfk revert --help",
-    },
-    Counterpart {
-        words: &["to"],
-        places: &[Place::Revert],
-        line: "run tfk revert -- FILE until tfk revert --list -- FILE ends with the one to keep",
-    },
-    Counterpart {
-        words: &["all", "to"],
-        places: &[Place::Take],
-        line: "--take N undoes command N alone; see tfk revert --help",
-    },
-    Counterpart {
-        words: &["all", "to"],
+        words: &["all", "to", "t"],
         places: &[Place::List],
         line: "tfk revert --list -- FILE lists all commands; see tfk revert --help",
     },
@@ -566,17 +704,17 @@ const STREAM_ROWS: &[Counterpart] = &[
         line: "standard input has no journal: name the file; see tfk revert --help",
     },
     Counterpart {
-        words: &["stdout"],
+        words: &["stdout", "output", "o"],
         places: FORMATTER,
         line: "tfk fmt - < FILE prints it formatted; see tfk fmt --help",
     },
     Counterpart {
-        words: &["stdout"],
+        words: &["stdout", "output", "o"],
         places: &[Place::Lint],
-        line: "lint prints the issues there without it; see tfk lint --help",
+        line: "lint prints the issues on standard output; see tfk lint --help",
     },
     Counterpart {
-        words: &["stdout"],
+        words: &["stdout", "output", "o"],
         places: &[Place::Fix],
         line: "tfk fix - < FILE prints it fixed; see tfk fix --help",
     },
@@ -679,12 +817,12 @@ const OWN_ROWS: &[Counterpart] = &[
         line: "write --check",
     },
     Counterpart {
-        words: &["check=false"],
-        places: &[Place::Fmt, Place::Check],
+        words: &["check=false", "diff=false", "d=false", "dry-run=false"],
+        places: COMMANDS,
         line: "leave it out",
     },
     Counterpart {
-        words: &["list=true", "l"],
+        words: &["list=true", "l", "history", "status"],
         places: REVERT,
         line: "write --list",
     },
@@ -719,11 +857,6 @@ const OWN_ROWS: &[Counterpart] = &[
         line: "a command comes first: tfk lint --enable-rule RULE -- FILE; see tfk lint --help",
     },
     Counterpart {
-        words: &["take"],
-        places: &[Place::Start],
-        line: "a command comes first: tfk revert --take N -- FILE; see tfk revert --help",
-    },
-    Counterpart {
         words: &["list"],
         places: &[Place::Lint, Place::Fix],
         line: "only revert has it; see tfk revert --help",
@@ -738,7 +871,10 @@ const OWN_ROWS: &[Counterpart] = &[
             "disable-rule",
             "enable-rule",
             "only",
+            "rule",
+            "skip",
             "minimum-failure-severity",
+            "severity",
         ],
         places: WITHOUT_RULES,
         line: "only lint and fix have rules; see tfk lint --help",
@@ -758,7 +894,7 @@ const COMMAND_ROWS: &[Counterpart] = &[
         line: VERSION,
     },
     Counterpart {
-        words: &["check", "c"],
+        words: &["check", "c", "status"],
         places: &[Place::Command, Place::Start],
         line: "tfk fmt --check -- FILE checks the layout, tfk lint -- FILE reports issues",
     },
@@ -768,16 +904,20 @@ const COMMAND_ROWS: &[Counterpart] = &[
         line: "the command is fmt; see tfk fmt --help",
     },
     Counterpart {
-        words: &["undo"],
-        places: &[
-            Place::Command,
-            Place::Start,
-            Place::Fmt,
-            Place::Fix,
-            Place::Revert,
-            Place::Take,
-        ],
-        line: "tfk revert undoes what fmt and fix changed; see tfk revert --help",
+        words: &["undo", "restore", "rollback"],
+        places: &[Place::Command],
+        line: LISTED,
+    },
+    Counterpart {
+        words: &["diff", "preview", "dry-run"],
+        places: &[Place::Command],
+        line: "tfk fmt - < FILE | diff -u -- FILE - shows what fmt would change; see tfk --help",
+    },
+    Counterpart {
+        words: &["history"],
+        places: &[Place::Command, Place::Start],
+        line: "tfk revert --list -- FILE lists the commands that changed it; \
+            see tfk revert --help",
     },
     Counterpart {
         words: &["list"],

@@ -5,7 +5,7 @@ ghost use Rattle.clap.specs.Words.{kind_of};
 ghost use Rattle.tf_cli.specs.Reading.{IsExitOfKind};
 ghost use Rattle.tf_cli.specs.Tasks.{SaysUsage};
 
-use crate::advice::{Advice, advice_for, around_tips};
+use crate::advice::{Advice, SIMILAR_TIP, advice_for, around_tips, similar_option};
 use clap::Error;
 use clap::error::ErrorKind;
 use std::alloc::{AllocError, AllocFailed, Global};
@@ -93,7 +93,20 @@ fn error_text(alloc: Global, error: &Error, args: &[&str]) -> Result<String, All
     let text = error.to_string(alloc)?;
     match advice_for(error.kind(), text.as_str(), args) {
         Some(advice) => advised_text(alloc, advice, text.as_str()),
+        None if matches!(error.kind(), ErrorKind::UnknownArgument) => {
+            untipped_text(alloc, text.as_str(), args)
+        }
         None => Ok(text),
+    }
+}
+
+/// Returns a text of clap's on an unknown option in these arguments without the tip to take it for a
+/// FILE, which a command would write.
+fn untipped_text(alloc: Global, text: &str, args: &[&str]) -> Result<String, AllocError> {
+    let (before, after) = around_tips(text);
+    match similar_option(text, args) {
+        Some(option) => format!(in alloc; "{before}{SIMILAR_TIP}{option}'\n\n{after}"),
+        None => format!(in alloc; "{before}{after}"),
     }
 }
 
@@ -102,7 +115,8 @@ fn advised_text(alloc: Global, advice: Advice<'_>, text: &str) -> Result<String,
     let (before, after) = around_tips(text);
     match advice {
         Advice::Unknown { word, line } => {
-            format!(in alloc; "tfk: no {word}: {line}\n{before}{after}")
+            let text = line.text();
+            format!(in alloc; "tfk: no {word}: {text}\n{before}{after}")
         }
         Advice::OneDash { word, name } => {
             format!(in alloc; "tfk: no {word}: write --{name}\n{before}{after}")
@@ -124,6 +138,9 @@ fn advised_text(alloc: Global, advice: Advice<'_>, text: &str) -> Result<String,
                 tfk revert --take {number} -- FILE; \
                 tfk revert --list -- FILE prints its numbers\n{before}{after}"
         ),
-        Advice::Line(line) => format!(in alloc; "tfk: {line}\n{before}{after}"),
+        Advice::Line(line) => {
+            let text = line.text();
+            format!(in alloc; "tfk: {text}\n{before}{after}")
+        }
     }
 }

@@ -6,6 +6,7 @@ mod advice;
 mod clap_commands;
 mod command_line;
 mod counterparts;
+mod dry_run;
 mod exits;
 mod help;
 mod options;
