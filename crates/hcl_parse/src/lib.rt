@@ -1,0 +1,23 @@
+//! One parser of the HCL native syntax, generic in what it makes: nodes, or nothing.
+#![tactic(auto)]
+
+mod bodies;
+mod builder;
+mod exprs;
+mod grouping;
+pub mod laws;
+mod next_token;
+mod nodes;
+mod nothing;
+mod opens;
+mod plain;
+mod reads;
+mod templates;
+mod terms;
+
+pub use bodies::{file, member};
+pub use builder::Builder;
+pub use exprs::expr;
+pub use nodes::Nodes;
+pub use nothing::Nothing;
+pub use reads::{check, next_member, parse};

@@ -1,0 +1,49 @@
+//! The parser with either builder, by the parser of hcl_grammar.
+
+ghost use Rattle.hcl_grammar.specs.Pure.Reading.{Reads};
+ghost use Rattle.hcl_parse.specs.Roots as spec;
+ghost use Rattle.hcl_parse.specs.Roots.{Ends};
+
+use crate::nodes::Nodes;
+use crate::nothing::Nothing;
+use crate::{bodies, laws};
+use hcl_grammar::fault::TokenFault;
+use hcl_grammar::tree::{Member, Tree};
+use hcl_reader::Reader;
+
+/// Takes a whole text, and returns its tree.
+///
+/// # Errors
+///
+/// The first error, reading from left to right; `Memory` if an allocation fails before that.
+pub fn parse(reader: &Reader<'_, '_>, at: &mut u32) -> Result<Tree, TokenFault>
+    ensures { Reads (spec.file reader.now at.old) result at.new }
+{
+    laws::makes_the_tree();
+    bodies::file::<Nodes>(&Nodes, reader, at)
+}
+
+/// Takes an attribute or a block, if one comes next, and returns its node.
+///
+/// # Errors
+///
+/// The first error, reading from left to right; `Memory` if an allocation fails before that.
+pub fn next_member(reader: &Reader<'_, '_>, at: &mut u32) -> Result<Option<Member>, TokenFault>
+    ensures { Reads (spec.member reader.now at.old) result at.new }
+{
+    laws::makes_the_tree();
+    bodies::member::<Nodes>(&Nodes, reader, at)
+}
+
+/// Takes a whole text, and makes nothing of it.
+///
+/// # Errors
+///
+/// The first error, reading from left to right. Memory does not run out, since none is taken.
+pub fn check(reader: &Reader<'_, '_>, at: &mut u32) -> Result<(), TokenFault>
+    ensures { Ends (spec.file reader.now at.old) result at.new }
+{
+    laws::makes_the_tree();
+    laws::both_end_alike();
+    bodies::file::<Nothing>(&Nothing, reader, at)
+}

@@ -1,0 +1,3 @@
+pub mod AfterLast
+pub mod Places
+pub mod Turns
