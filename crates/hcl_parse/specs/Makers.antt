@@ -34,7 +34,7 @@ module _ (t : Types) where
   open t use {Attribute, Label, Labels, Content, Member, Members, Body, Tree}
 
   pub record Makers : Type 0 where
-    -- condition, and what is read where it is met, and where it is not
+    -- condition, and the expression if it holds, and if it does not
     pub conditional : ℕ → ℕ → Expr → Expr → Expr → Expr
     -- an operand and the operators of all levels that follow it, each with its second operand
     pub chain : Expr → Operations → Expr
@@ -65,7 +65,7 @@ module _ (t : Types) where
     pub no_elements : Elements
     -- key and value
     pub add_element : Elements → Expr → Expr → Elements
-    -- the numbers of its names, and what is gone through
+    -- the numbers of its names, and the collection
     pub intro : ℕ → ℕ → ℕ → Option ℕ → Expr → Intro
     -- value and condition
     pub for_tuple : ℕ → ℕ → Intro → Expr → Option Expr → Term
@@ -79,7 +79,7 @@ module _ (t : Types) where
     pub add_part : Parts → Part → Parts
     pub literal : ℕ → Part
     pub interpolation : Expr → Part
-    -- condition, and the text where it is met, and where it is not
+    -- condition, and the text if it holds, and if it does not
     pub if_directive : ℕ → ℕ → Expr → Template → Option Template → Part
     pub for_directive : ℕ → ℕ → Intro → Template → Part
     pub attribute : ℕ → ℕ → Expr → Attribute

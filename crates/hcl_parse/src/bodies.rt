@@ -1,9 +1,11 @@
-//! Bodies, blocks and attributes.
+//! Bodies, blocks and attributes. For speed, the next token is looked at once by `next_outside`.
 //!
 //! HCL native syntax specification, Structural Elements.
 
-ghost use Rattle.std.specs.Prelude.{◌≡◌};
+ghost use Rattle.std.specs.Prelude.{◌≡◌, ◌<◌, ◌+◌, ◌^◌, OnSome};
 ghost use Rattle.hcl_grammar.specs.Pure.Reading.{ReadsExactly};
+ghost use Rattle.hcl_reader.specs.ReaderRules as tokens;
+ghost use Rattle.hcl_reader.specs.ReaderRules.{outside_brackets};
 ghost use Rattle.hcl_parse.specs.BodyRules as spec;
 ghost use Rattle.hcl_parse.specs.Rules.{Yields};
 
@@ -11,7 +13,7 @@ use crate::builder::Builder;
 use crate::exprs::expr;
 use crate::opens::enter;
 use hcl_grammar::fault::TokenFault;
-use hcl_reader::Reader;
+use hcl_reader::{Next, Reader};
 use hcl_token::Kind;
 
 /// Takes the rest of a `Label` in quotes, after its quote, which is token `first`.
@@ -153,6 +155,7 @@ fn block_content<S: Builder>(
 /// Takes the rest of a block, after its word, which is token `first`: `Label*`, the braces with
 /// their content, `Eol`.
 #[cycle(nest)]
+#[inline(never)]
 #[tactic(auto, unfolding(crate::specs::Parser::block_by))]
 fn block<S: Builder>(
     builder: &S,
@@ -165,17 +168,19 @@ fn block<S: Builder>(
 {
     let lines = reader.outside_brackets();
     let found = labels::<S>(builder, reader, at)?;
-    let opening = lines.next_index(*at);
-    lines.expect(Kind::OpenBrace, at)?;
-    let braces = enter::<S>(builder, reader, opening, at)?;
+    let opening = lines.next_token(*at);
+    lines.expect_next(opening, Kind::OpenBrace, at)?;
+    let braces = enter::<S>(builder, reader, opening.0, at)?;
     let content = block_content::<S>(builder, &braces, at)?;
-    lines.expect(Kind::CloseBrace, at)?;
+    let close = reader.next_outside(*at);
+    lines.expect_next(close, Kind::CloseBrace, at)?;
     reader.eol(at)?;
     Ok(builder.block(first, *at, found, content))
 }
 
 /// Takes the rest of an attribute or of a block, after its first word, which is token `first`.
 #[cycle(nest)]
+#[inline(always)]
 #[tactic(auto, unfolding(crate::specs::Parser::attribute_or_block))]
 fn attribute_or_block<S: Builder>(
     builder: &S,
@@ -186,7 +191,8 @@ fn attribute_or_block<S: Builder>(
     ensures { Yields S.may_run_out
         (spec.attribute_or_block (S.make builder.now) reader.now first at.old) result at.new }
 {
-    if reader.outside_brackets().eat(Kind::Equal, at) {
+    let next = reader.next_outside(*at);
+    if reader.outside_brackets().eat_next(next, Kind::Equal, at) {
         attribute::<S>(builder, reader, first, at)
     } else {
         block::<S>(builder, reader, first, at)
@@ -194,8 +200,6 @@ fn attribute_or_block<S: Builder>(
 }
 
 /// Takes an attribute or a block, if one comes next.
-#[cycle(nest)]
-#[tactic(auto, unfolding(crate::specs::Parser::member_of))]
 pub fn member<S: Builder>(
     builder: &S,
     reader: &Reader<'_, '_>,
@@ -204,12 +208,33 @@ pub fn member<S: Builder>(
     ensures { Yields S.may_run_out
         (spec.member (S.make builder.now) reader.now at.old) result at.new }
 {
-    let lines = reader.outside_brackets();
-    let first = lines.next_index(*at);
-    if !lines.eat(Kind::Identifier, at) {
+    let next = reader.next_outside(*at);
+    member_next::<S>(builder, reader, next, at)
+}
+
+/// Takes an attribute or a block, if one comes next. The next token is `next`.
+#[cycle(nest)]
+#[inline(always)]
+#[tactic(auto, unfolding(crate::specs::Parser::member_of))]
+fn member_next<S: Builder>(
+    builder: &S,
+    reader: &Reader<'_, '_>,
+    next: Next,
+    at: &mut u32,
+) -> Result<Option<S::Member>, TokenFault>
+    requires number { next.0 ≡ tokens.next_index (outside_brackets reader.now) at.old }
+    requires kind { next.1 ≡ tokens.next_kind (outside_brackets reader.now) at.old }
+    requires fits { OnSome next.1 (next.0 + 1 < 2 ^ 32) }
+    ensures { Yields S.may_run_out
+        (spec.member (S.make builder.now) reader.now at.old) result at.new }
+{
+    if !reader
+        .outside_brackets()
+        .eat_next(next, Kind::Identifier, at)
+    {
         return Ok(None);
     }
-    Ok(Some(attribute_or_block::<S>(builder, reader, first, at)?))
+    Ok(Some(attribute_or_block::<S>(builder, reader, next.0, at)?))
 }
 
 /// Takes a `Body`: `(nl | Attr | Block)*`.
@@ -224,10 +249,11 @@ fn members<S: Builder>(
 {
     let mut found = builder.no_members(reader.alloc());
     for _turn in 0..reader.len() {
-        if reader.eat_newline(at) {
+        let next = reader.next_outside(*at);
+        if reader.eat_newline_next(next, at) {
             continue;
         }
-        let Some(more) = member::<S>(builder, reader, at)? else {
+        let Some(more) = member_next::<S>(builder, reader, next, at)? else {
             return Ok(found);
         };
         builder.add_member(&mut found, more)?;

@@ -10,17 +10,17 @@ ghost use Rattle.hcl_parse.specs.Rules as spec;
 ghost use Rattle.hcl_parse.specs.Rules.{Yields};
 
 use crate::builder::Builder;
-use crate::next_token::Next;
 use crate::opens::enter;
 use crate::plain::{Unread, eat_plain_expr};
 use crate::terms::{has_tail, is_called, more_tails, post};
 use hcl_grammar::fault::TokenFault;
 use hcl_grammar::operators::{binary_operator, unary_operator};
 use hcl_grammar::tree::{BinaryOperator, UnaryOperator};
-use hcl_reader::{Reader, same_kind};
+use hcl_reader::{Next, Reader, same_kind};
 use hcl_token::Kind;
 
 /// Takes a binary operator, of whatever level, if one comes next.
+#[inline(always)]
 #[tactic(auto, unfolding(crate::specs::Parser::eat_operator, hcl_grammar::specs::Tokens::after_next))]
 fn eat_operator(reader: &Reader<'_, '_>, at: &mut u32) -> Option<BinaryOperator>
     ensures { spec.eat_operator reader.now at.old ≡ Ok (result, at.new) }

@@ -10,9 +10,8 @@ ghost use Rattle.hcl_parse.specs.Rules as spec;
 ghost use Rattle.hcl_parse.specs.Tried.{IsRead, IsTried};
 
 use crate::builder::Builder;
-use crate::next_token::Next;
 use crate::opens::enter;
-use hcl_reader::{Reader, same_kind};
+use hcl_reader::{Next, Reader, same_kind};
 use hcl_token::Kind;
 use std::alloc::AllocError;
 

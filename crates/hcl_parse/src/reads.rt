@@ -2,7 +2,7 @@
 
 ghost use Rattle.hcl_grammar.specs.Pure.Reading.{Reads};
 ghost use Rattle.hcl_parse.specs.Roots as spec;
-ghost use Rattle.hcl_parse.specs.Roots.{Ends};
+ghost use Rattle.hcl_parse.specs.Roots.{Ends, Skips};
 
 use crate::nodes::Nodes;
 use crate::nothing::Nothing;
@@ -46,4 +46,22 @@ pub fn check(reader: &Reader<'_, '_>, at: &mut u32) -> Result<(), TokenFault>
     laws::makes_the_tree();
     laws::both_end_alike();
     bodies::file::<Nothing>(&Nothing, reader, at)
+}
+
+/// Takes an attribute or a block, if one comes next, and makes nothing of it. Returns whether one
+/// comes next.
+///
+/// # Errors
+///
+/// The first error, reading from left to right. Memory does not run out, since none is taken.
+pub fn skip_member(reader: &Reader<'_, '_>, at: &mut u32) -> Result<bool, TokenFault>
+    ensures { Skips (spec.member reader.now at.old) result at.new }
+{
+    laws::makes_the_tree();
+    laws::both_end_alike();
+    match bodies::member::<Nothing>(&Nothing, reader, at) {
+        Ok(Some(_member)) => Ok(true),
+        Ok(None) => Ok(false),
+        Err(fault) => Err(fault),
+    }
 }

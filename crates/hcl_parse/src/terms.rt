@@ -10,11 +10,10 @@ ghost use Rattle.hcl_parse.specs.Rules.{Yields};
 
 use crate::builder::Builder;
 use crate::exprs::{expr, expr_next};
-use crate::next_token::{Next, eat_next, expect_next};
 use crate::opens::enter;
 use crate::templates::template;
 use hcl_grammar::fault::TokenFault;
-use hcl_reader::{Reader, same_kind};
+use hcl_reader::{Next, Reader, same_kind};
 use hcl_token::Kind;
 
 /// Takes the names of a function after the first: `("::" Identifier)*`.
@@ -53,15 +52,15 @@ fn arguments<S: Builder>(
     let mut found = builder.no_exprs(reader.alloc());
     for _turn in 0..inside.len() {
         let next = inside.next_token(*at);
-        if eat_next(&inside, next, Kind::CloseParen, at) {
+        if inside.eat_next(next, Kind::CloseParen, at) {
             return Ok((found, false));
         }
         let item = expr_next::<S>(builder, &inside, next, at)?;
         builder.add_expr(&mut found, item)?;
         let after = inside.next_token(*at);
-        if !eat_next(&inside, after, Kind::Comma, at) {
-            if !eat_next(&inside, after, Kind::Ellipsis, at) {
-                expect_next(&inside, after, Kind::CloseParen, at)?;
+        if !inside.eat_next(after, Kind::Comma, at) {
+            if !inside.eat_next(after, Kind::Ellipsis, at) {
+                inside.expect_next(after, Kind::CloseParen, at)?;
                 return Ok((found, false));
             }
             inside.expect(Kind::CloseParen, at)?;
@@ -85,14 +84,14 @@ fn tuple_items<S: Builder>(
     let mut found = builder.no_exprs(reader.alloc());
     for _turn in 0..inside.len() {
         let next = inside.next_token(*at);
-        if eat_next(&inside, next, Kind::CloseBracket, at) {
+        if inside.eat_next(next, Kind::CloseBracket, at) {
             return Ok(found);
         }
         let item = expr_next::<S>(builder, &inside, next, at)?;
         builder.add_expr(&mut found, item)?;
         let after = inside.next_token(*at);
-        if !eat_next(&inside, after, Kind::Comma, at) {
-            expect_next(&inside, after, Kind::CloseBracket, at)?;
+        if !inside.eat_next(after, Kind::Comma, at) {
+            inside.expect_next(after, Kind::CloseBracket, at)?;
             return Ok(found);
         }
     }
@@ -142,16 +141,17 @@ fn element<S: Builder>(
 }
 
 /// Takes the `=` or `:` after a key.
+#[inline(always)]
 #[tactic(auto, unfolding(crate::specs::Parser::equals_or_colon))]
 fn equals_or_colon(reader: &Reader<'_, '_>, at: &mut u32) -> Result<(), TokenFault>
     ensures { ReadsExactly (spec.equals_or_colon reader.now at.old) result at.new }
 {
     let lines = reader.outside_brackets();
     let sign = lines.next_token(*at);
-    if eat_next(&lines, sign, Kind::Equal, at) {
+    if lines.eat_next(sign, Kind::Equal, at) {
         return Ok(());
     }
-    expect_next(&lines, sign, Kind::Colon, at)
+    lines.expect_next(sign, Kind::Colon, at)
 }
 
 /// Takes the elements of an `Object` and the `}` after them: `(Elem (Sep Elem)* Sep?)?`.
@@ -168,7 +168,7 @@ fn elements<S: Builder>(
     let mut found = builder.no_elements(reader.alloc());
     for _turn in 0..lines.len() {
         let next = lines.next_token(*at);
-        if eat_next(&lines, next, Kind::CloseBrace, at) {
+        if lines.eat_next(next, Kind::CloseBrace, at) {
             return Ok(found);
         }
         found = element::<S>(builder, &lines, next, found, at)?;
@@ -346,7 +346,7 @@ fn object_or_for<S: Builder>(
 /// Takes an `Expr` and what closes it, after an opening that is token `first`: parentheses or an
 /// `Interp`.
 #[cycle(nest)]
-#[inline(never)]
+#[inline(always)]
 #[tactic(auto, unfolding(crate::specs::Parser::enclosed))]
 pub fn enclosed<S: Builder>(
     builder: &S,

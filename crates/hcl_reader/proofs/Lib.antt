@@ -1,3 +1,4 @@
 pub mod AfterLast
 pub mod Places
 pub mod Turns
+pub mod Separators

@@ -4,8 +4,10 @@
 
 mod lines;
 mod lookahead;
+mod next_token;
 pub mod reader;
 mod words;
 
 pub use lookahead::same_kind;
+pub use next_token::Next;
 pub use reader::Reader;

@@ -1,6 +1,8 @@
-//! Line ends, and what separates the elements of an object.
+//! Line ends, and what separates the elements of an object. For speed, `skip_newlines`,
+//! `eat_separator_or_brace` and `eol` look once before what takes them in general.
 
-ghost use Rattle.std.specs.Prelude.{◌≡◌, Ok};
+ghost use Rattle.std.specs.Prelude.{◌≡◌, Ok, true, false};
+ghost use Rattle.hcl_token.specs.declared.kind.Kind.TheVariants as k;
 ghost use Rattle.hcl_reader.specs.ReaderRules as spec;
 ghost use Rattle.hcl_grammar.specs.Pure.Reading.{ReadsExactly};
 
@@ -51,12 +53,40 @@ impl<'s, 't> Reader<'s, 't> {
         Ok(lines.eat(Kind::LineEnd, at))
     }
 
-    /// Takes the line ends that come next.
+    /// Returns whether neither a line end comes next nor a comment up to one.
+    #[inline(always)]
+    #[tactic(auto, unfolding(hcl_grammar::specs::Pure::Reading::next_is, hcl_grammar::specs::Tokens::same_kind))]
+    fn is_in_line(&self, at: u32) -> bool
+        ensures comment { result ≡ true → spec.next_is self.now k.LineComment at ≡ false }
+        ensures line { result ≡ true → spec.next_is self.now k.LineEnd at ≡ false }
+    {
+        match self.next_kind(at) {
+            Some(Kind::LineEnd) | Some(Kind::LineComment) => false,
+            _ => true,
+        }
+    }
+
+    /// Takes the line ends that come next. Most often there is none, as one look shows.
     ///
     /// # Errors
     ///
     /// `Syntax` if no line end follows a comment.
+    #[inline(always)]
     pub fn skip_newlines(&self, at: &mut u32) -> Result<(), TokenFault>
+        ensures { ReadsExactly (spec.skip_newlines self.now at.old) result at.new }
+    {
+        if self.outside_brackets().is_in_line(*at) {
+            return Ok(());
+        }
+        self.each_newline(at)
+    }
+
+    /// Takes the line ends that come next, one by one.
+    ///
+    /// # Errors
+    ///
+    /// `Syntax` if no line end follows a comment.
+    fn each_newline(&self, at: &mut u32) -> Result<(), TokenFault>
         ensures { ReadsExactly (spec.skip_newlines self.now at.old) result at.new }
     {
         for _turn in 0..self.len() {
@@ -76,17 +106,46 @@ impl<'s, 't> Reader<'s, 't> {
         if !is_comma && !self.eat_inner_newline(at)? {
             return Ok(false);
         }
-        self.skip_newlines(at)?;
+        self.each_newline(at)?;
         Ok(true)
     }
 
-    /// Takes a separator, else the closing brace.
+    /// Takes a separator of elements, else the closing brace. Most often two looks show which.
     ///
     /// # Errors
     ///
     /// `Syntax` if neither comes next, or no line end follows a comment.
-    #[tactic(auto, unfolding(hcl_grammar::specs::Pure::Parser::eat_separator_or_brace))]
+    #[inline(always)]
+    #[tactic(auto, unfolding(hcl_grammar::specs::Tokens::after_next))]
     pub fn eat_separator_or_brace(&self, at: &mut u32) -> Result<bool, TokenFault>
+        ensures { ReadsExactly (spec.eat_separator_or_brace self.now at.old) result at.new }
+    {
+        let lines = self.outside_brackets();
+        let (number, next) = lines.next_token(*at);
+        match next {
+            Some(Kind::CloseBrace) => {
+                *at = number + 1;
+                Ok(false)
+            }
+            Some(Kind::Comma) | Some(Kind::LineEnd) => {
+                *at = number + 1;
+                match self.skip_newlines(at) {
+                    Ok(()) => Ok(true),
+                    Err(fault) => Err(fault),
+                }
+            }
+            _ => self.separator_or_brace(at),
+        }
+    }
+
+    /// Takes a separator of elements, else the closing brace.
+    ///
+    /// # Errors
+    ///
+    /// `Syntax` if neither comes next, or no line end follows a comment.
+    #[inline(never)]
+    #[tactic(auto, unfolding(hcl_grammar::specs::Pure::Parser::eat_separator_or_brace))]
+    fn separator_or_brace(&self, at: &mut u32) -> Result<bool, TokenFault>
         ensures { ReadsExactly (spec.eat_separator_or_brace self.now at.old) result at.new }
     {
         if self.eat_separator(at)? {
@@ -112,13 +171,32 @@ impl<'s, 't> Reader<'s, 't> {
     }
 
     /// Takes the end of a line: a line end with the comment before it, or the end of the text after
+    /// a comment or none. Most often one look shows that it is a line end.
+    ///
+    /// # Errors
+    ///
+    /// `Syntax` if another token comes next.
+    #[inline(always)]
+    #[tactic(auto, unfolding(hcl_grammar::specs::Pure::BodyParser::eol))]
+    pub fn eol(&self, at: &mut u32) -> Result<(), TokenFault>
+        ensures { ReadsExactly (spec.eol self.now at.old) result at.new }
+    {
+        let next = self.next_outside(*at);
+        if self.eat_newline_next(next, at) {
+            return Ok(());
+        }
+        self.line_or_text_end(at)
+    }
+
+    /// Takes the end of a line: a line end with the comment before it, or the end of the text after
     /// a comment or none.
     ///
     /// # Errors
     ///
     /// `Syntax` if another token comes next.
+    #[inline(never)]
     #[tactic(auto, unfolding(hcl_grammar::specs::Pure::BodyParser::eol))]
-    pub fn eol(&self, at: &mut u32) -> Result<(), TokenFault>
+    fn line_or_text_end(&self, at: &mut u32) -> Result<(), TokenFault>
         ensures { ReadsExactly (spec.eol self.now at.old) result at.new }
     {
         if self.eat_newline(at) {

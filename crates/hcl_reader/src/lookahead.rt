@@ -51,6 +51,35 @@ pub fn next_token(scanned: &Scanned<'_>, skip_newlines: bool, at: usize) -> (usi
     (i, None)
 }
 
+/// Returns the same as `next_token` where line ends count. Most often it is the token at this
+/// place, as one look shows.
+#[inline(always)]
+#[tactic(auto, using(crate::proofs::Places::places), unfolding(hcl_grammar::specs::Tokens::next_kind, hcl_grammar::specs::Tokens::next_token, hcl_grammar::specs::Tokens::same_kind))]
+pub fn next_outside(scanned: &Scanned<'_>, at: u32) -> (u32, Option<Kind>)
+    ensures number { result.0 ≡ tokens.next_index (tokens_of scanned.now.pairs) false at }
+    ensures kind { result.1 ≡ tokens.next_kind (tokens_of scanned.now.pairs) false at }
+    ensures fits { OnSome result.1 (result.0 + 1 < 2 ^ 32) }
+{
+    if at < scanned.count() {
+        let kind = scanned.kind(at as usize);
+        if !same_kind(kind, Kind::InlineComment) {
+            return (at, Some(kind));
+        }
+    }
+    skip_outside(scanned, at)
+}
+
+/// Returns the same as `next_token` where line ends count.
+#[inline(never)]
+fn skip_outside(scanned: &Scanned<'_>, at: u32) -> (u32, Option<Kind>)
+    ensures number { result.0 ≡ tokens.next_index (tokens_of scanned.now.pairs) false at }
+    ensures kind { result.1 ≡ tokens.next_kind (tokens_of scanned.now.pairs) false at }
+    ensures fits { OnSome result.1 (result.0 + 1 < 2 ^ 32) }
+{
+    let (number, kind) = next_token(scanned, false, at as usize);
+    (number as u32, kind)
+}
+
 /// Whether token `number` is an identifier with this spelling.
 pub fn is_word(scanned: &Scanned<'_>, number: u32, word: &[u8]) -> bool
     requires { number < length (tokens_of scanned.now.pairs) }

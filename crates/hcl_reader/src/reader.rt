@@ -95,6 +95,17 @@ impl<'s, 't> Reader<'s, 't> {
         lookahead::next_token(self.scanned, self.skip_newlines, at)
     }
 
+    /// Returns the same as `next_token` outside of brackets. Most often it is the token at this
+    /// place, as one look shows.
+    #[inline(always)]
+    pub fn next_outside(&self, at: u32) -> (u32, Option<Kind>)
+        ensures number { result.0 ≡ spec.next_index (spec.outside_brackets self.now) at }
+        ensures kind { result.1 ≡ spec.next_kind (spec.outside_brackets self.now) at }
+        ensures fits { OnSome result.1 (result.0 + 1 < 2 ^ 32) }
+    {
+        lookahead::next_outside(self.scanned, at)
+    }
+
     /// Returns the number of the next token.
     pub fn next_index(&self, at: u32) -> u32
         ensures { result ≡ spec.next_index self.now at }

@@ -24,28 +24,28 @@ pub members-returns-in_err-more : goal.members-returns-in_err-more
 unfolding members_from
 members-returns-in_err-more g t c =
     let e = one_left (λ n. spec.members_from (g.S.Builder.make c.args.builder.now) c.args.reader.now n c.loop-turn.found c.loop-turn.at) c.loop-turn-test.true c.loop-turn.invariant in
-    let h = rw (c.eat_newline.ensures, c.if-eat_newline.false) at e in
+    let h = rw (c.eat_newline_next.ensures.line, c.if-eat_newline_next.false) at e in
     refused g.S.Builder.may_run_out _ 0 _ (search rules) h c.in_err-more.ensures
 
 pub members-returns-in_default : goal.members-returns-in_default
 unfolding members_from
 members-returns-in_default g t c =
     let e = one_left (λ n. spec.members_from (g.S.Builder.make c.args.builder.now) c.args.reader.now n c.loop-turn.found c.loop-turn.at) c.loop-turn-test.true c.loop-turn.invariant in
-    let h = rw (c.eat_newline.ensures, c.if-eat_newline.false) at e in
+    let h = rw (c.eat_newline_next.ensures.line, c.if-eat_newline_next.false) at e in
     first_of (search rules, cc, grind (arith, common_steps))
 
-pub members-loop-turn-preserved-then-eat_newline : goal.members-loop-turn-preserved-then-eat_newline
+pub members-loop-turn-preserved-then-eat_newline_next : goal.members-loop-turn-preserved-then-eat_newline_next
 unfolding members_from
-members-loop-turn-preserved-then-eat_newline g t c =
+members-loop-turn-preserved-then-eat_newline_next g t c =
     let e = one_left (λ n. spec.members_from (g.S.Builder.make c.args.builder.now) c.args.reader.now n c.loop-turn.found c.loop-turn.at) c.loop-turn-test.true c.loop-turn.invariant in
-    let h = rw (c.eat_newline.ensures, c.if-eat_newline.true) at e in
+    let h = rw (c.eat_newline_next.ensures.line, c.if-eat_newline_next.true) at e in
     first_of (search rules, cc, grind (arith, common_steps))
 
 pub members-loop-turn-preserved : goal.members-loop-turn-preserved
 unfolding members_from
 members-loop-turn-preserved g t c =
     let e = one_left (λ n. spec.members_from (g.S.Builder.make c.args.builder.now) c.args.reader.now n c.loop-turn.found c.loop-turn.at) c.loop-turn-test.true c.loop-turn.invariant in
-    let h = rw (c.eat_newline.ensures, c.if-eat_newline.false) at e in
+    let h = rw (c.eat_newline_next.ensures.line, c.if-eat_newline_next.false) at e in
     first_of (search rules, cc, grind (arith, common_steps))
 
 pub members-returns : goal.members-returns

@@ -7,8 +7,8 @@ use Rattle.hcl_parse.proofs.bodies.+nest.Given as goal
 abbrev pub decreases-members : goal.decreases-members
 decreases-members g l = 8 * l.reader.now.depth + 4
 
-abbrev pub decreases-member : goal.decreases-member
-decreases-member g l = 8 * l.reader.now.depth + 3
+abbrev pub decreases-member_next : goal.decreases-member_next
+decreases-member_next g l = 8 * l.reader.now.depth + 3
 
 abbrev pub decreases-attribute_or_block : goal.decreases-attribute_or_block
 decreases-attribute_or_block g l = 8 * l.reader.now.depth + 2
