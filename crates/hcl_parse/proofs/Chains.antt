@@ -1,5 +1,5 @@
 -- A list of operators, split at those of one level, and read level by level.
-use Rattle.std.proofs.Common.{◌≡◌, ℕ, suc, ◌<◌, ◌≤◌, ◌==◌, Bool, true, false, if◌then◌else◌, nat_lt, List, [], ◌∷◌, ◌++◌, length, refl, sym, ap, ap₂, ◌∙◌, inl, inr, arith, append_assoc, append-nil, lt-ltb, le-ltb, ltb-true, ltb-false, eq-or-lt_of_le}
+use Rattle.std.proofs.Common.{◌≡◌, ℕ, zero, suc, ◌<◌, ◌≤◌, ◌==◌, Bool, true, false, if◌then◌else◌, nat_lt, List, [], ◌∷◌, ◌++◌, length, refl, sym, ap, ap₂, ◌∙◌, inl, inr, arith, append_assoc, append-nil, lt-ltb, le-ltb, ltb-true, ltb-false, eq-or-lt_of_le}
 use Rattle.std.proofs.lemmas.Bool.Decides.{eqb_tells}
 use Rattle.hcl_grammar.specs.declared.tree.BinaryOperator.{BinaryOperator}
 use Rattle.hcl_grammar.specs.declared.tree.BinaryOperator.TheVariants as operator
@@ -35,9 +35,6 @@ place l n = by (nat_lt l n) refl (l == n) refl
     by false e true f = same e (lt-ltb l (suc n) (omega (arith, equal l n f))) f
     by false e false f = upper e (le-ltb l (suc n) (above l n (ltb-false l n e) f)) f
 
-below_zero : (l : ℕ) → nat_lt l 0 ≡ false
-below_zero l = le-ltb l 0 (omega arith)
-
 below_levels : (op : BinaryOperator) → nat_lt (operator_level op) levels ≡ true
 below_levels operator.Times = refl
 below_levels operator.Divide = refl
@@ -54,14 +51,6 @@ below_levels operator.And = refl
 below_levels operator.Or = refl
 
 -- ---- a list, up to a level and from there on
-
-pub before_none : (xs : List Operation) → before 0 xs ≡ []
-before_none [] = refl
-before_none (x ∷ xs) = rw (below_zero (operator_level x.operator)) refl
-
-pub after_none : (xs : List Operation) → after 0 xs ≡ xs
-after_none [] = refl
-after_none (x ∷ xs) = rw (below_zero (operator_level x.operator)) refl
 
 pub before_all : (xs : List Operation) → before levels xs ≡ xs
 before_all [] = refl
@@ -159,9 +148,23 @@ module _ (n : ℕ) where
 
 -- ---- the steps of the code, over what its calls answer
 
-pub group_none : (head : Expr) (xs : List Operation) → head ≡ group 0 head xs
-unfolding group
-group_none head xs = refl
+group_empty : (n : ℕ) (head : Expr) → head ≡ group n head []
+unfolding group split_level
+group_empty zero head = refl
+group_empty (suc n) head = group_empty n head
+
+-- no operator of a level below n comes next
+module _ (n : ℕ) where
+  pub before_next : (xs : List Operation) → n ≤ first_level xs → before n xs ≡ []
+  before_next [] h = refl
+  before_next (x ∷ xs) h = rw (le-ltb (operator_level x.operator) n h) refl
+
+  pub after_next : (xs : List Operation) → n ≤ first_level xs → after n xs ≡ xs
+  after_next [] h = refl
+  after_next (x ∷ xs) h = rw (le-ltb (operator_level x.operator) n h) refl
+
+  pub alone_next : (head : Expr) (xs : List Operation) → n ≤ first_level xs → head ≡ group n head (before n xs)
+  alone_next head xs h = rw (before_next xs h) (group_empty n head)
 
 here : (l n : ℕ) → l ≡ n → (l == n) ≡ true
 here l n h = elim (eqb_tells l n) [ inl w ↦ w.0 | inr w ↦ absurd (w.1 h) ]

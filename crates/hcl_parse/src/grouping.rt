@@ -126,7 +126,8 @@ fn climb(
     ensures left { OnOk result (rest.new ≡ after level rest.old) }
 {
     let past = head.past;
-    if level == 0 {
+    let next = first_level(rest);
+    if next >= level {
         return Ok((head, past));
     }
     let first = head.first;

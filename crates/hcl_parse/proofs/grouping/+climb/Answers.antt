@@ -3,17 +3,17 @@ use Rattle.hcl_parse.specs.Chains.{before, after, first_level}
 use Rattle.hcl_parse.proofs.Chains as chains
 use Rattle.hcl_parse.proofs.grouping.+climb.Goals as goal
 
-pub climb-returns-then-level-eq0-clause-made : goal.climb-returns-then-level-eq0-clause-made
-climb-returns-then-level-eq0-clause-made t c =
-    rw (c.if-level-eq0.true) (chains.group_none c.args.head (before 0 c.args.rest.now))
+pub climb-returns-then-next-level-clause-made : goal.climb-returns-then-next-level-clause-made
+climb-returns-then-next-level-clause-made t c =
+    chains.alone_next c.args.level c.args.head c.args.rest.now (omega (arith, c.if-next-level.true, c.first_level-next.ensures))
 
-pub climb-returns-then-level-eq0-clause-past : goal.climb-returns-then-level-eq0-clause-past
-climb-returns-then-level-eq0-clause-past t c =
-    rw (c.if-level-eq0.true, chains.before_none c.args.rest.now) refl
+pub climb-returns-then-next-level-clause-past : goal.climb-returns-then-next-level-clause-past
+climb-returns-then-next-level-clause-past t c =
+    rw (chains.before_next c.args.level c.args.rest.now (omega (arith, c.if-next-level.true, c.first_level-next.ensures))) refl
 
-pub climb-returns-then-level-eq0-clause-left : goal.climb-returns-then-level-eq0-clause-left
-climb-returns-then-level-eq0-clause-left t c =
-    rw (c.if-level-eq0.true, chains.after_none c.args.rest.now) refl
+pub climb-returns-then-next-level-clause-left : goal.climb-returns-then-next-level-clause-left
+climb-returns-then-next-level-clause-left t c =
+    sym (chains.after_next c.args.level c.args.rest.now (omega (arith, c.if-next-level.true, c.first_level-next.ensures)))
 
 pub climb-links-requires : goal.climb-links-requires
 climb-links-requires t c =
@@ -22,21 +22,21 @@ climb-links-requires t c =
 
 pub climb-returns-clause-made : goal.climb-returns-clause-made
 climb-returns-clause-made t c =
-    let count : c.args.level ≡ suc (c.args.level - 1) = omega (arith, c.if-level-eq0.false) in
+    let count : c.args.level ≡ suc (c.args.level - 1) = omega (arith, c.if-next-level.false) in
     let low = c.in_ok-lower.ensures {u = tt} in
     let high = c.in_ok-links.ensures {u = tt} in
     rw count (chains.climbed (c.args.level - 1) c.args.rest.now c.climb.new.rest low.left c.args.head c.in_ok-lower.past c.in_ok-links.past low.past high.past c.in_ok-lower.lower c.in_ok-made.made c.in_ok-links.links low.made high.made (c.in_ok-made.ensures {u = tt}))
 
 pub climb-returns-clause-past : goal.climb-returns-clause-past
 climb-returns-clause-past t c =
-    let count : c.args.level ≡ suc (c.args.level - 1) = omega (arith, c.if-level-eq0.false) in
+    let count : c.args.level ≡ suc (c.args.level - 1) = omega (arith, c.if-next-level.false) in
     let low = c.in_ok-lower.ensures {u = tt} in
     let high = c.in_ok-links.ensures {u = tt} in
     rw count (chains.climbed_to (c.args.level - 1) c.args.rest.now c.climb.new.rest low.left c.args.head c.in_ok-lower.past c.in_ok-links.past low.past high.past)
 
 pub climb-returns-clause-left : goal.climb-returns-clause-left
 climb-returns-clause-left t c =
-    let count : c.args.level ≡ suc (c.args.level - 1) = omega (arith, c.if-level-eq0.false) in
+    let count : c.args.level ≡ suc (c.args.level - 1) = omega (arith, c.if-next-level.false) in
     let low = c.in_ok-lower.ensures {u = tt} in
     let high = c.in_ok-links.ensures {u = tt} in
     rw count (chains.climbed_left (c.args.level - 1) c.args.rest.now c.climb.new.rest low.left c.links.new.rest high.left)
