@@ -1,33 +1,22 @@
--- The results of the parser without nodes, by those of the parser that makes nodes.
+-- What the answer of the parser that makes nothing says of a text.
 use Rattle.std.proofs.Common.{◌≡◌, ◌≢◌, ℕ, ◌<◌, false, subst, List, Result, Ok, Err, IfErr, OnOk, refl, arith}
 use Rattle.hcl_grammar.specs.declared.fault.TokenFault.{TokenFault}
 use Rattle.hcl_grammar.specs.declared.tree.Tree.{Tree}
 use Rattle.hcl_grammar.specs.Bodies.{IsFile}
 use Rattle.hcl_grammar.specs.declared.fault.TokenFault.TheVariants.{Syntax, TooDeep, Memory}
-use Rattle.hcl_grammar.specs.Pure.Reading.{Outcome, ReadsExactly}
+use Rattle.hcl_grammar.specs.Pure.Reading.{Outcome}
 use Rattle.hcl_grammar.specs.Tokens.{Token}
 use Rattle.hcl_grammar_laws.specs.Pure.ParserResults.{FileParserIsExact}
-use Rattle.hcl_grammar_laws.proofs.Inverts.{done, along}
 use Rattle.hcl_grammar.specs.declared.bounds.TheConstants.{MAX_NESTING}
-use Rattle.hcl_expr.specs.ReaderRules.{ReaderState}
-use Rattle.hcl_check.specs.Passes as q
+use Rattle.hcl_grammar.specs.Pure.BodyParser as bodies
+use Rattle.hcl_reader.specs.ReaderRules.{ReaderState}
+use Rattle.hcl_parse.specs.Roots.{Ends}
 use Rattle.hcl_check.specs.CheckResult.{IsDeep, IsCheckResult, IsTooDeep}
 use Rattle.hcl_grammar_laws.proofs.BodyComplete.{file_answers}
 use Rattle.hcl_grammar_laws.proofs.Steps.{Answers, found, deep}
 use Rattle.hcl_token.specs.TokenizedText.{TokenizedText}
 use Rattle.hcl_text_laws.specs.Faults.{to_parse_fault}
 use Rattle.hcl_text_laws.specs.declared.fault.ParseFault.TheVariants as byte
-use Rattle.hcl_check.proofs.NoMemory.{NoMemory}
-use Rattle.hcl_check.proofs.NoMemory as none
-use Rattle.hcl_check.proofs.Same.{Same, Any, read, fault, file}
-
-read_by_both : {A B : Type 0} {o : Outcome A} {q : Outcome B} {x : A} {n : ℕ} → Same Any o q → o ≡ Ok (x, n) → (y : B) × (q ≡ done y n)
-read_by_both (read {y = y} {i = i} r) e = (y, along (λ _ n. done y i ≡ done y n) e refl)
-read_by_both fault e = absurd (cc)
-
-refused_by_both : {A B : Type 0} {o : Outcome A} {q : Outcome B} {f : TokenFault} → Same Any o q → o ≡ Err f → q ≡ Err f
-refused_by_both (read r) e = absurd (cc)
-refused_by_both fault e = cc
 
 deep_is : (at : ℕ) (f : TokenFault) (o : Outcome Tree) → o ≡ Err (TooDeep at) → o ≡ Err f → IsDeep f
 deep_is at (TooDeep x) o h e = tt
@@ -39,35 +28,31 @@ refused_deep : {d b : ℕ} {t : Tree} {n : ℕ} {o : Outcome Tree} (f : TokenFau
 refused_deep f found e = absurd (cc)
 refused_deep {o = o} f (deep {at} l) e = (l, deep_is at f o refl e)
 
-pub not_memory : {A : Type 0} {o : Outcome A} (f : TokenFault) → NoMemory o → o ≡ Err f → f ≢ Memory
-not_memory f none.read e = absurd (cc)
-not_memory f (none.refused {e = met} h) e = λ is. h (let same : met ≡ f = cc in cc)
-
 module _ (ts : List Token) (b : ℕ) (answers : FileParserIsExact) where
-  derived : (r : Result (Unit {0}) TokenFault) (new : ℕ) → ReadsExactly (q.file ts b 0) r new → OnOk r ((t : Tree) × IsFile ts b t)
-  derived (Ok x) new h = let w = read_by_both (file ts b 0) h in (w.0, (answers ts b (Ok w.0) new w.1).derived)
+  derived : (r : Result (Unit {0}) TokenFault) (new : ℕ) → Ends (bodies.file ts b 0) r new → OnOk r ((t : Tree) × IsFile ts b t)
+  derived (Ok x) new h = (h.0, (answers ts b (Ok h.0) new h.1).derived)
   derived (Err f) new h = tt
 
-  only : (r : Result (Unit {0}) TokenFault) (new : ℕ) → ReadsExactly (q.file ts b 0) r new → (t : Tree) → IsFile ts b t → r ≡ Ok tt
+  only : (r : Result (Unit {0}) TokenFault) (new : ℕ) → Ends (bodies.file ts b 0) r new → (t : Tree) → IsFile ts b t → r ≡ Ok tt
   only (Ok x) new h t w = refl
-  only (Err f) new h t w = absurd (omega (arith, (refused_deep f (file_answers ts b b t w).1 (refused_by_both (file ts b 0) h)).0))
+  only (Err f) new h t w = absurd (omega (arith, (refused_deep f (file_answers ts b b t w).1 h.0).0))
 
-  deeper : (r : Result (Unit {0}) TokenFault) (new : ℕ) → ReadsExactly (q.file ts b 0) r new → (d : ℕ) (t : Tree) → IsFile ts d t → IfErr r IsDeep
+  deeper : (r : Result (Unit {0}) TokenFault) (new : ℕ) → Ends (bodies.file ts b 0) r new → (d : ℕ) (t : Tree) → IsFile ts d t → IfErr r IsDeep
   deeper (Ok x) new h d t w = tt
-  deeper (Err f) new h d t w = (refused_deep f (file_answers ts b d t w).1 (refused_by_both (file ts b 0) h)).1
+  deeper (Err f) new h d t w = (refused_deep f (file_answers ts b d t w).1 h.0).1
 
-  no_memory : (r : Result (Unit {0}) TokenFault) (new : ℕ) → ReadsExactly (q.file ts b 0) r new → IfErr r (λ e. e ≢ Memory)
+  no_memory : (r : Result (Unit {0}) TokenFault) (new : ℕ) → Ends (bodies.file ts b 0) r new → IfErr r (λ e. e ≢ Memory)
   no_memory (Ok x) new h = tt
-  no_memory (Err f) new h = not_memory f (none.file ts b 0) h
+  no_memory (Err f) new h = h.1
 
-  pub result_of : (r : Result (Unit {0}) TokenFault) (new : ℕ) → ReadsExactly (q.file ts b 0) r new → IsCheckResult ts b r
+  pub result_of : (r : Result (Unit {0}) TokenFault) (new : ℕ) → Ends (bodies.file ts b 0) r new → IsCheckResult ts b r
   result_of r new h = record { derived = derived r new h; only = only r new h; deeper = deeper r new h; no_memory = no_memory r new h }
 
 -- what is read by a reader of a text is read of the text's own tokens
 pub own_result : (ts : List Token) {here : ReaderState} {r s : Result (Unit {0}) TokenFault} (new : ℕ) → FileParserIsExact → here ≡ record { tokens = ts; skip_newlines = false; depth = MAX_NESTING } → r ≡ s
-    → ReadsExactly (q.file here.tokens here.depth 0) r new → IsCheckResult ts MAX_NESTING s
+    → Ends (bodies.file here.tokens here.depth 0) r new → IsCheckResult ts MAX_NESTING s
 own_result ts {here} {r} {s} new answers e same h =
-    result_of ts MAX_NESTING answers s new (subst (λ (h : ReaderState). ReadsExactly (q.file h.tokens h.depth 0) s new) e (subst (λ (o : Result (Unit {0}) TokenFault). ReadsExactly (q.file here.tokens here.depth 0) o new) same h))
+    result_of ts MAX_NESTING answers s new (subst (λ (h : ReaderState). Ends (bodies.file h.tokens h.depth 0) s new) e (subst (λ (o : Result (Unit {0}) TokenFault). Ends (bodies.file here.tokens here.depth 0) o new) same h))
 
 pub deep_by_bytes : (s : TokenizedText) (f : TokenFault) → IsDeep f → IsTooDeep (to_parse_fault s f)
 deep_by_bytes s (TooDeep at) h = tt

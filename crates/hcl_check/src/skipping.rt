@@ -7,9 +7,8 @@ ghost use Rattle.hcl_grammar.specs.declared.fault.TokenFault.TheVariants.{Memory
 ghost use Rattle.hcl_scan.specs.Follows.{tokens_of};
 ghost use Rattle.hcl_check.specs.SkipResult.{Skips};
 
-use crate::bodies::member;
-use hcl_expr::Reader;
 use hcl_grammar::fault::TokenFault;
+use hcl_reader::Reader;
 use hcl_scan::Scanned;
 use std::alloc::Global;
 
@@ -26,5 +25,5 @@ pub fn skip_member(alloc: Global, scanned: &Scanned<'_>, at: &mut u32) -> Result
         Skips (bodies.member_of ts MAX_NESTING (bodies.deeper_members ts MAX_NESTING) at.old) result at.new }
     ensures no_memory { IfErr result (λ e. e ≢ Memory) }
 {
-    member(scanned, &Reader::new(alloc, scanned), at)
+    hcl_parse::skip_member(&Reader::new(alloc, scanned), at)
 }
