@@ -9,15 +9,15 @@ use Rattle.hcl_reader.specs.ReaderRules.{ReaderState}
 use Rattle.hcl_parse.specs.Roots as parse
 use Rattle.hcl_check.specs.SkipResult.{Skips}
 
-skips : {here : ReaderState} (r : Result Bool TokenFault) (old new : ℕ) → parse.Skips (parse.member here old) r new → Skips (parse.member here old) r new
-skips (Ok true) old new h = h
-skips (Ok false) old new h = h
-skips (Err f) old new h = h.0
+skips : (here : ReaderState) (r : Result Bool TokenFault) (old new : ℕ) → parse.Skips (parse.member here old) r new → Skips (parse.member here old) r new
+skips here (Ok true) old new h = h
+skips here (Ok false) old new h = h
+skips here (Err f) old new h = h.0
 
 -- by a reader of a text
 module _ (ts : List Token) {here : ReaderState} (is : here ≡ record { tokens = ts; skip_newlines = false; depth = MAX_NESTING }) (r : Result Bool TokenFault) (old new : ℕ) (h : parse.Skips (parse.member here old) r new) where
   pub its_skip : Skips (bodies.member_of ts MAX_NESTING (bodies.deeper_members ts MAX_NESTING) old) r new
-  its_skip = subst (λ (s : ReaderState). Skips (parse.member s old) r new) is (skips {here = here} r old new h)
+  its_skip = subst (λ (s : ReaderState). Skips (parse.member s old) r new) is (skips here r old new h)
 
   pub its_fault : IfErr r (λ e. e ≢ Memory)
   its_fault = by r h

@@ -1,6 +1,6 @@
 -- The tokens of a text that parses, and errors by numbers of tokens and by bytes.
 use Rattle.std.proofs.Common.{◌≡◌, ℕ, Bool, true, false, List, Result, Ok, Err, IfOk, IfErr, MatchResult, sym, subst}
-use Rattle.hcl_expr.specs.ReaderRules.{ReaderState}
+use Rattle.hcl_reader.specs.ReaderRules.{ReaderState}
 use Rattle.hcl_token.specs.TokenizedText.{TokenizedText}
 use Rattle.hcl_token.specs.Tokens.{Pair}
 use Rattle.hcl_scan.specs.Follows.{tokens_of}
@@ -20,7 +20,7 @@ use Rattle.hcl_text_laws.specs.declared.fault.ParseFault.{ParseFault}
 use Rattle.hcl_text_laws.specs.Faults.{IsAtToken, IsMemory, IsMemoryOrDeep, to_parse_fault}
 
 -- what is read by a reader of a text is read of the text's own tokens
-its_reading : (ts : List Token) {here : ReaderState} {r q : Result Tree TokenFault} (new : ℕ) → here ≡ record { tokens = ts; skip_newlines = false; depth = MAX_NESTING } → r ≡ q
+pub its_reading : (ts : List Token) {here : ReaderState} {r q : Result Tree TokenFault} (new : ℕ) → here ≡ record { tokens = ts; skip_newlines = false; depth = MAX_NESTING } → r ≡ q
     → Reads (file here.tokens here.depth 0) r new → Reads (file ts MAX_NESTING 0) q new
 its_reading ts {here} {r} {q} new e same h = subst (λ (h : ReaderState). Reads (file h.tokens h.depth 0) q new) e (subst (λ (o : Result Tree TokenFault). Reads (file here.tokens here.depth 0) o new) same h)
 

@@ -4,8 +4,6 @@
 //! which texts parse, and to which tree.
 #![tactic(auto)]
 
-mod bodies;
-mod labels;
 mod parser;
 pub mod reading;
 

@@ -4,38 +4,18 @@
 
 ghost use Rattle.std.specs.Prelude.{◌≡◌, ℕ, Ok, Err, IfOk, IfErr, MatchResult};
 ghost use Rattle.hcl_grammar.specs.Bodies.{IsFile};
-ghost use Rattle.hcl_grammar.specs.Pure.Reading.{Reads};
 ghost use Rattle.hcl_grammar.specs.declared.tree.Tree as tree;
 ghost use Rattle.hcl_text_laws.specs.Parses.{Parses};
 ghost use Rattle.hcl_scan.specs.Follows.{tokens_of};
 ghost use Rattle.hcl_text_laws.specs.Faults.{IsAtToken, IsMemory, IsMemoryOrDeep, to_parse_fault};
-ghost use Rattle.hcl_tree.specs.BodyRules as spec;
 
-use crate::bodies::members;
-use hcl_expr::Reader;
+use hcl_grammar::MAX_NESTING;
 use hcl_grammar::fault::TokenFault;
 use hcl_grammar::tree::Tree;
-use hcl_grammar::{MAX_NESTING, nodes};
+use hcl_reader::Reader;
 use hcl_scan::Scanned;
 use hcl_text_laws::{ParseFault, to_parse_fault};
-use hcl_token::Kind;
 use std::alloc::Global;
-
-/// Takes all tokens, and returns their tree.
-#[tactic(auto, unfolding(hcl_grammar::specs::Pure::BodyParser::file))]
-fn file(reader: &Reader<'_, '_>, at: &mut u32) -> Result<Tree, TokenFault>
-    ensures { Reads (spec.file reader.now at.old) result at.new }
-{
-    let lines = reader.outside_brackets();
-    let _is_mark = lines.eat(Kind::Mark, at);
-    let from = *at;
-    let members = members(reader, at)?;
-    let to = *at;
-    let _is_comment = lines.eat(Kind::LineComment, at);
-    reader.expect_end(at)?;
-    let first = lines.first_token_in(from, to);
-    Ok(nodes::tree(reader.len(), nodes::body(first, to, members)))
-}
 
 /// Returns what was read of a text, with an error at its byte. No memory is taken.
 fn to_parse_result(
@@ -79,5 +59,6 @@ pub fn parse(alloc: Global, scanned: &Scanned<'_>) -> Result<Tree, ParseFault>
     // for the proof: a clause of `len` says that these are the tokens of the text
     let _count = scanned.len();
     let mut at = 0;
-    to_parse_result(scanned, file(&Reader::new(alloc, scanned), &mut at))
+    let read = hcl_parse::parse(&Reader::new(alloc, scanned), &mut at);
+    to_parse_result(scanned, read)
 }

@@ -4,7 +4,7 @@ ghost use Rattle.std.specs.Prelude.{◌≡◌, ◌≢◌, ◌<◌, ◌≤◌, �
 ghost use Rattle.hcl_scan.specs.Follows.{tokens_of};
 ghost use Rattle.tf_reuse.specs.SameTokens.{SameTokens};
 
-use hcl_expr::same_kind;
+use hcl_reader::same_kind;
 use hcl_scan::Scanned;
 
 /// Whether two spellings are one.

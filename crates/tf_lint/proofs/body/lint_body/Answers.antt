@@ -2,7 +2,7 @@
 use Rattle.std.proofs.Common.{◌≡◌, ◌≢◌, ◌+◌, ◌-◌, ℕ, [], ◌∷◌, ◌++◌, length, true, Err, ap, ◌∙◌, arith}
 use Rattle.std.proofs.lemmas.List.{length-map}
 use Rattle.hcl_token.specs.Tokens.{Pair}
-use Rattle.hcl_expr.proofs.Turns.{one_left, none_left}
+use Rattle.hcl_reader.proofs.Turns.{one_left, none_left}
 use Rattle.hcl_grammar.specs.Pure.BodyParser.{members}
 use Rattle.hcl_grammar.specs.declared.fault.TokenFault.{TokenFault}
 use Rattle.hcl_grammar.specs.declared.fault.TokenFault.TheVariants.{Memory}

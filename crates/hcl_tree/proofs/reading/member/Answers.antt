@@ -1,4 +1,4 @@
-use Rattle.hcl_tree.proofs.bodies.member.Goals as goal
+use Rattle.hcl_tree.proofs.reading.member.Goals as goal
 
 pub returns-clause-derived : goal.returns-clause-derived
 returns-clause-derived c =

@@ -1,4 +1,0 @@
-pub mod AfterLast
-pub mod Others
-pub mod Places
-pub mod Turns
