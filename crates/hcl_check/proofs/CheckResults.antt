@@ -45,8 +45,12 @@ module _ (ts : List Token) (b : ℕ) (answers : FileParserIsExact) where
   no_memory (Ok x) new h = tt
   no_memory (Err f) new h = h.1
 
+  first : (r : Result (Unit {0}) TokenFault) (new : ℕ) → Ends (bodies.file ts b 0) r new → IfErr r (λ e. bodies.file ts b 0 ≡ Err e)
+  first (Ok x) new h = tt
+  first (Err f) new h = h.0
+
   pub result_of : (r : Result (Unit {0}) TokenFault) (new : ℕ) → Ends (bodies.file ts b 0) r new → IsCheckResult ts b r
-  result_of r new h = record { derived = derived r new h; only = only r new h; deeper = deeper r new h; no_memory = no_memory r new h }
+  result_of r new h = record { derived = derived r new h; only = only r new h; deeper = deeper r new h; no_memory = no_memory r new h; first = first r new h }
 
 -- what is read by a reader of a text is read of the text's own tokens
 pub own_result : (ts : List Token) {here : ReaderState} {r s : Result (Unit {0}) TokenFault} (new : ℕ) → FileParserIsExact → here ≡ record { tokens = ts; skip_newlines = false; depth = MAX_NESTING } → r ≡ s

@@ -1,10 +1,11 @@
 -- For proofs: what an answer has to be that says whether there is a tree; and which error is that
 -- too much nests.
-use Rattle.std.specs.Prelude.{◌≡◌, ◌≢◌, ℕ, List, Result, Ok, IfErr, OnOk}
+use Rattle.std.specs.Prelude.{◌≡◌, ◌≢◌, ℕ, List, Result, Ok, Err, IfErr, OnOk}
 use Rattle.hcl_grammar.specs.declared.fault.TokenFault.{TokenFault}
 use Rattle.hcl_grammar.specs.declared.fault.TokenFault.TheVariants as token
 use Rattle.hcl_grammar.specs.declared.tree.Tree.{Tree}
 use Rattle.hcl_grammar.specs.Bodies.{IsFile}
+use Rattle.hcl_grammar.specs.Pure.BodyParser.{file}
 use Rattle.hcl_grammar.specs.Tokens.{Token}
 use Rattle.hcl_text_laws.specs.declared.fault.ParseFault.{ParseFault}
 use Rattle.hcl_text_laws.specs.declared.fault.ParseFault.TheVariants as fault
@@ -30,3 +31,5 @@ pub record IsCheckResult (ts : List Token) (b : ℕ) (answer : Result (Unit {0})
   pub deeper : (d : ℕ) (t : Tree) → IsFile ts d t → IfErr answer IsDeep
   -- no memory is taken, so that it does not run out
   pub no_memory : IfErr answer (λ e. e ≢ token.Memory)
+  -- the error is that of the grammar's parser
+  pub first : IfErr answer (λ e. file ts b 0 ≡ Err e)

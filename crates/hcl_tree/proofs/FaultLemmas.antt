@@ -1,5 +1,5 @@
 -- The tokens of a text that parses, and errors by numbers of tokens and by bytes.
-use Rattle.std.proofs.Common.{◌≡◌, ℕ, Bool, true, false, List, Result, Ok, Err, IfOk, IfErr, MatchResult, sym, subst}
+use Rattle.std.proofs.Common.{◌≡◌, ℕ, Bool, true, false, List, Result, Ok, Err, IfOk, IfErr, MatchResult, ◌≢◌, refl, ap, sym, subst, ◌∙◌}
 use Rattle.hcl_reader.specs.ReaderRules.{ReaderState}
 use Rattle.hcl_token.specs.TokenizedText.{TokenizedText}
 use Rattle.hcl_token.specs.Tokens.{Pair}
@@ -17,6 +17,8 @@ use Rattle.hcl_grammar_laws.specs.Pure.ParserResults.{FileParserIsExact, IsParse
 use Rattle.hcl_text_laws.specs.Parses.{Parses}
 use Rattle.hcl_text_laws.proofs.FaultPlaces.{at_token}
 use Rattle.hcl_text_laws.specs.declared.fault.ParseFault.{ParseFault}
+use Rattle.hcl_text_laws.specs.declared.fault.ParseFault.TheVariants as byte
+use Rattle.hcl_tree.specs.FirstError.{IsFirstError}
 use Rattle.hcl_text_laws.specs.Faults.{IsAtToken, IsMemory, IsMemoryOrDeep, to_parse_fault}
 
 -- what is read by a reader of a text is read of the text's own tokens
@@ -55,3 +57,11 @@ module _ (s : TokenizedText) where
   pub place_by_bytes : (read : Result Tree TokenFault) (result : Result Tree ParseFault) → IfOk read (λ t. result ≡ Ok t) → IfErr read (λ f. result ≡ Err (to_parse_fault s f)) → IfErr result (λ e. IsAtToken s e)
   place_by_bytes (Ok t) result tree fault = rw tree tt
   place_by_bytes (Err f) result tree fault = rw fault (at_token s f)
+
+  pub first_by_bytes : (read : Result Tree TokenFault) (result : Result Tree ParseFault) (new : ℕ) → IfOk read (λ t. result ≡ Ok t) → IfErr read (λ f. result ≡ Err (to_parse_fault s f)) → Reads (file (tokens_of s.pairs) MAX_NESTING 0) read new
+      → IfErr result (λ e. e ≢ byte.Memory → IsFirstError s e)
+  first_by_bytes (Ok t) result new tree fault h = rw tree tt
+  first_by_bytes (Err f) result new tree fault h = rw fault (λ other. record { fault = f; found = h (λ m. other (ap (to_parse_fault s) m)); is = refl })
+
+  pub one_error : (a b : ParseFault) → IsFirstError s a → IsFirstError s b → a ≡ b
+  one_error a b x y = let same : x.fault ≡ y.fault = cc (x.found, y.found) in x.is ∙ (ap (to_parse_fault s) same ∙ sym y.is)

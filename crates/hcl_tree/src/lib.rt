@@ -4,6 +4,7 @@
 //! which texts parse, and to which tree.
 #![tactic(auto)]
 
+pub mod laws;
 mod parser;
 pub mod reading;
 

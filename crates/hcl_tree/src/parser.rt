@@ -2,12 +2,14 @@
 //!
 //! HCL native syntax specification, Structural Elements.
 
-ghost use Rattle.std.specs.Prelude.{◌≡◌, ℕ, Ok, Err, IfOk, IfErr, MatchResult};
+ghost use Rattle.std.specs.Prelude.{◌≡◌, ◌≢◌, ℕ, Ok, Err, IfOk, IfErr, MatchResult};
 ghost use Rattle.hcl_grammar.specs.Bodies.{IsFile};
 ghost use Rattle.hcl_grammar.specs.declared.tree.Tree as tree;
 ghost use Rattle.hcl_text_laws.specs.Parses.{Parses};
 ghost use Rattle.hcl_scan.specs.Follows.{tokens_of};
 ghost use Rattle.hcl_text_laws.specs.Faults.{IsAtToken, IsMemory, IsMemoryOrDeep, to_parse_fault};
+ghost use Rattle.hcl_text_laws.specs.declared.fault.ParseFault.TheVariants.{Memory};
+ghost use Rattle.hcl_tree.specs.FirstError.{IsFirstError};
 
 use hcl_grammar::MAX_NESTING;
 use hcl_grammar::fault::TokenFault;
@@ -53,6 +55,8 @@ pub fn parse(alloc: Global, scanned: &Scanned<'_>) -> Result<Tree, ParseFault>
         → MatchResult result (λ x. x ≡ t) IsMemoryOrDeep }
     // The place of an error is where a token begins, or the length of the text.
     ensures place { IfErr result (λ e. IsAtToken scanned.now e) }
+    // Unless memory runs out, the error is the first, which `hcl_check::check` returns too.
+    ensures fault { IfErr result (λ e. e ≢ Memory → IsFirstError scanned.now e) }
 {
     hcl_grammar_laws::laws::file_parser_is_exact();
     hcl_scan::laws::one_tokenization();

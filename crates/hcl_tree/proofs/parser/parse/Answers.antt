@@ -6,7 +6,7 @@ use Rattle.hcl_scan.specs.Follows.{tokens_of}
 use Rattle.hcl_text_laws.proofs.OwnTokens.{own_tokens}
 use Rattle.hcl_text_laws.specs.Faults.{IsMemory, IsMemoryOrDeep}
 use Rattle.hcl_text_laws.specs.Parses.{Parses}
-use Rattle.hcl_tree.proofs.FaultLemmas.{its_answer, memory_to_parse_fault, deep_to_parse_fault, ok_by_bytes, match_by_bytes, place_by_bytes}
+use Rattle.hcl_tree.proofs.FaultLemmas.{its_answer, memory_to_parse_fault, deep_to_parse_fault, ok_by_bytes, match_by_bytes, place_by_bytes, first_by_bytes, its_reading}
 use Rattle.hcl_tree.proofs.parser.parse.Goals as goal
 
 pub returns-clause-parses : goal.returns-clause-parses
@@ -38,3 +38,7 @@ returns-clause-deeper c = λ d t w.
 
 pub returns-clause-place : goal.returns-clause-place
 returns-clause-place c = place_by_bytes c.args.scanned.now _ _ c.to_parse_result.ensures.tree c.to_parse_result.ensures.fault
+
+pub returns-clause-fault : goal.returns-clause-fault
+returns-clause-fault c =
+    first_by_bytes c.args.scanned.now _ _ _ c.to_parse_result.ensures.tree c.to_parse_result.ensures.fault (its_reading (tokens_of c.args.scanned.now.pairs) _ c.new.ensures refl c.parse-read.ensures)
