@@ -1,6 +1,7 @@
 //! The sentence of a character with which no token begins.
 
-use crate::advice::{Advice, is_type_name};
+use crate::advice::Advice;
+use crate::advice::types::is_type_name;
 use crate::context::{Context, context_of, drops_lines};
 use crate::expected::{Expected, expected_after};
 use crate::found::ends_at_token;

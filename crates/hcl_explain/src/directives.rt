@@ -61,3 +61,11 @@ pub fn open_directive(scanned: &Scanned<'_>, from: usize, until: usize) -> Optio
     }
     None
 }
+
+/// Whether token `found` is the `if` of `else if`, or a word for it.
+pub fn is_else_if(scanned: &Scanned<'_>, found: usize) -> bool {
+    is_word(scanned, found, b"elseif")
+        || is_word(scanned, found, b"elsif")
+        || is_word(scanned, found, b"elif")
+        || (found > 0 && is_word(scanned, found, b"if") && is_word(scanned, found - 1, b"else"))
+}

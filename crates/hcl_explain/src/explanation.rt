@@ -10,10 +10,10 @@ ghost use Rattle.hcl_explain.specs.Explanations.{IsToken, IsOfFound, IsOtherExpl
 ghost use Rattle.hcl_explain.specs.Explanations.{ClosesNothing};
 ghost use Rattle.hcl_explain.specs.declared.explanation.Reason.TheVariants.{NotClosed, Before};
 
-use crate::advice::{Advice, advice_for, is_else_if};
+use crate::advice::{Advice, advice_for};
 use crate::beginning::beginning_of;
 use crate::context::{Context, context_of};
-use crate::directives::{directive_advice, end_word, open_directive};
+use crate::directives::{directive_advice, end_word, is_else_if, open_directive};
 use crate::expected::{Expected, expected_after};
 use crate::found::{byte_of, token_at};
 use crate::head::label_advice;

@@ -1,8 +1,10 @@
 //! A line of a body that has no `=` or no `{` yet: a name, and words or strings after it.
 
-use crate::advice::{Advice, is_operator};
+use crate::advice::Advice;
 use crate::context::Context;
-use crate::near::{first_from, is_kind, is_line_end, is_line_start, is_next, is_word, last_before};
+use crate::near::{
+    first_from, is_kind, is_line_end, is_line_start, is_next, is_operator, is_word, last_before,
+};
 use crate::openings::{closing_after, innermost_open};
 use hcl_scan::{Kind, Scanned};
 

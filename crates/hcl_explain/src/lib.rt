@@ -23,6 +23,7 @@ mod marker;
 mod near;
 mod openings;
 mod said;
+mod scan_character;
 mod scan_error;
 mod scan_sentence;
 mod sentence;

@@ -5,6 +5,7 @@ ghost use Rattle.hcl_token.specs.TokenizedText.{kind_of, spelling_of};
 ghost use Rattle.hcl_token.specs.declared.kind.Kind.TheVariants.{Star};
 ghost use Rattle.hcl_explain.specs.Sequences as spec;
 
+use hcl_grammar::operators::binary_operator;
 use hcl_scan::{Kind, Scanned};
 
 /// Returns the kind of token `i`, if there is one.
@@ -57,9 +58,19 @@ pub fn is_next(scanned: &Scanned<'_>, kind: Kind, i: usize) -> bool {
     is_kind(scanned, next, kind) && is_adjacent(scanned, next)
 }
 
+/// Whether token `found` follows token `last`, of this kind, with no gap.
+pub fn is_after(scanned: &Scanned<'_>, kind: Kind, last: usize, found: usize) -> bool {
+    is_kind(scanned, last, kind) && is_adjacent(scanned, found)
+}
+
 /// Whether the kind is one that ends a line.
 pub fn ends_line(kind: Kind) -> bool {
     matches!(kind, Kind::LineEnd | Kind::LineComment)
+}
+
+/// Whether the kind is an operator between values.
+pub fn is_operator(kind: Kind) -> bool {
+    matches!(kind, Kind::Question | Kind::Colon) || binary_operator(kind).is_some()
 }
 
 /// Whether the grammar drops a token of the kind, where it drops line ends or not.

@@ -8,17 +8,14 @@ ghost use Rattle.hcl_explain.specs.ScanExplanations.{IsScanExplanation, IsString
 ghost use Rattle.hcl_explain.specs.ScanExplanations.{IsStringAfter, IsStringIn, HiddenOr};
 ghost use Rattle.hcl_explain.specs.ScanExplanations.{IsSequenceExplanation, IsHeredocExplanation};
 ghost use Rattle.hcl_explain.specs.ScanExplanations.{IsCommentExplanation, IsCommentIn};
-ghost use Rattle.hcl_explain.specs.ScanExplanations.{IsCommentAfter, IsByUnclosed, IsByLine};
-ghost use Rattle.hcl_explain.specs.ScanExplanations.{IsCharacterExplanation, IsCharacterIn};
-ghost use Rattle.hcl_explain.specs.ScanExplanations.{IsNestedIn, IsOtherIn, IsByPlain, IsMarkerOr};
-ghost use Rattle.hcl_explain.specs.ScanExplanations.{of, OpeningOr, IsExplanationHere};
-ghost use Rattle.hcl_explain.specs.ScanExplanations.{place_in_values};
+ghost use Rattle.hcl_explain.specs.ScanExplanations.{IsCommentAfter, of, OpeningOr};
+ghost use Rattle.hcl_explain.specs.ScanExplanations.{IsExplanationHere, place_in_values};
 
 use crate::heredoc::opening_before;
-use crate::lines::{bytes_from, closing_place, line_end, line_start, prefix};
-use crate::marker::is_conflict_marker;
+use crate::lines::{bytes_from, closing_place, line_end, prefix};
+use crate::scan_character::bad_character;
 use crate::sequence::{ends_in_value, is_closed_in_comment, open_sequence};
-use crate::without::{ends_with_line, is_unclosed, is_unclosed_in_plain};
+use crate::without::is_unclosed;
 use hcl_scan::ScanFault;
 use std::alloc::{AllocError, Global};
 
@@ -130,7 +127,7 @@ fn explain_here(
 }
 
 /// Whether the `}` of the template sequence that begins at a byte is in a comment.
-fn is_hidden(alloc: Global, text: &[u8], opened: usize) -> Result<bool, AllocError>
+pub fn is_hidden(alloc: Global, text: &[u8], opened: usize) -> Result<bool, AllocError>
     ensures { IfOk result (λ b. Decides b (IsClosedInComment (drop opened text.now))) }
 {
     is_closed_in_comment(alloc, bytes_from(text, opened))
@@ -289,141 +286,8 @@ pub fn is_blamed(alloc: Global, text: &[u8], opened: usize, at: usize) -> Result
     ends_in_value(alloc, sequence)
 }
 
-/// Explains that no token begins at a byte, by the line of it if that shows a conflict of a merge.
-fn bad_character(alloc: Global, text: &[u8], at: usize) -> Result<ScanExplanation, AllocError>
-    ensures { IfOk result (IsMarkerOr text.now at) }
-{
-    let start = line_start(text, at);
-    if is_conflict_marker(bytes_from(text, start)) {
-        Ok(explanation(start, ScanReason::Marker))
-    } else {
-        character(alloc, text, at)
-    }
-}
-
-/// Explains that no token begins at a byte.
-fn character(alloc: Global, text: &[u8], at: usize) -> Result<ScanExplanation, AllocError>
-    ensures { IfOk result (IsCharacterExplanation text.now at) }
-{
-    match open_sequence(alloc, prefix(text, at))? {
-        Some(opened) => character_in(alloc, text, opened, at),
-        None => Ok(explanation(at, ScanReason::Character)),
-    }
-}
-
-/// Explains that no token begins at a byte in this template sequence.
-fn character_in(
-    alloc: Global,
-    text: &[u8],
-    opened: usize,
-    at: usize,
-) -> Result<ScanExplanation, AllocError>
-    ensures { IfOk result (λ e. HiddenOr text.now opened e (IsCharacterIn text.now opened at e)) }
-{
-    if is_hidden(alloc, text, opened)? {
-        Ok(explanation(opened, ScanReason::Foreign))
-    } else {
-        other_character_in(alloc, text, opened, at)
-    }
-}
-
-/// Explains it in one whose `}` is in no comment.
-fn other_character_in(
-    alloc: Global,
-    text: &[u8],
-    opened: usize,
-    at: usize,
-) -> Result<ScanExplanation, AllocError>
-    ensures { IfOk result (IsCharacterIn text.now opened at) }
-{
-    if bytes_from(text, at).starts_with(b"${") {
-        nested(alloc, text, opened, at)
-    } else {
-        other_in(alloc, text, opened, at)
-    }
-}
-
-/// Explains that no token begins with a character that is no `${`, in this template sequence.
-fn other_in(
-    alloc: Global,
-    text: &[u8],
-    opened: usize,
-    at: usize,
-) -> Result<ScanExplanation, AllocError>
-    ensures { IfOk result (IsOtherIn text.now opened at) }
-{
-    if is_ended(alloc, text, opened, at)? {
-        by_unclosed(alloc, text, opened, at)
-    } else {
-        by_line(alloc, text, opened, at)
-    }
-}
-
-/// Explains that no token begins with the `${` at a byte, in this template sequence.
-fn nested(
-    alloc: Global,
-    text: &[u8],
-    opened: usize,
-    at: usize,
-) -> Result<ScanExplanation, AllocError>
-    ensures { IfOk result (IsNestedIn text.now opened at) }
-{
-    if is_ended(alloc, text, opened, at)? {
-        Ok(explanation(opened, ScanReason::Sequence))
-    } else {
-        by_plain(alloc, text, opened, at)
-    }
-}
-
-/// Explains it by whether this template sequence is closed without the character.
-fn by_unclosed(
-    alloc: Global,
-    text: &[u8],
-    opened: usize,
-    at: usize,
-) -> Result<ScanExplanation, AllocError>
-    ensures { IfOk result (IsByUnclosed text.now opened at) }
-{
-    if is_unclosed(alloc, text, opened, at, 1)? {
-        Ok(explanation(opened, ScanReason::Sequence))
-    } else {
-        Ok(explanation(at, ScanReason::InSequence(opened)))
-    }
-}
-
-/// Explains it by whether this template sequence is closed without the `$` of each `${` in the line.
-fn by_plain(
-    alloc: Global,
-    text: &[u8],
-    opened: usize,
-    at: usize,
-) -> Result<ScanExplanation, AllocError>
-    ensures { IfOk result (IsByPlain text.now opened at) }
-{
-    if is_unclosed_in_plain(alloc, text, opened, at)? {
-        Ok(explanation(opened, ScanReason::Sequence))
-    } else {
-        Ok(explanation(at, ScanReason::InSequence(opened)))
-    }
-}
-
-/// Explains it by whether another line of the template sequence begins where it should be closed.
-fn by_line(
-    alloc: Global,
-    text: &[u8],
-    opened: usize,
-    at: usize,
-) -> Result<ScanExplanation, AllocError>
-    ensures { IfOk result (IsByLine text.now opened at) }
-{
-    if ends_with_line(alloc, text, opened)? {
-        Ok(explanation(opened, ScanReason::Sequence))
-    } else {
-        Ok(explanation(at, ScanReason::InSequence(opened)))
-    }
-}
-
-fn explanation(at: usize, reason: ScanReason) -> ScanExplanation
+/// Returns the explanation that this is so at a byte.
+pub fn explanation(at: usize, reason: ScanReason) -> ScanExplanation
     ensures { result ≡ of at reason }
 {
     ScanExplanation { at, reason }

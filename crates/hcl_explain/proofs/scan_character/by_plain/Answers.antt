@@ -1,6 +1,6 @@
 use Rattle.std.proofs.Common.{rules, ◌≡◌, true, false, inl, inr}
 use Rattle.hcl_explain.proofs.WithoutLemmas.{is_not}
-use Rattle.hcl_explain.proofs.scan_error.by_plain.Goals as goal
+use Rattle.hcl_explain.proofs.scan_character.by_plain.Goals as goal
 
 pub returns-then-branch : goal.returns-then-branch
 returns-then-branch c =

@@ -3,7 +3,7 @@ use Rattle.hcl_explain.specs.ScanExplanations.{IsNestedIn, IsOtherIn}
 use Rattle.hcl_explain.specs.Sequences.{is_interpolation}
 use Rattle.hcl_explain.proofs.SequenceLemmas.{in_first}
 use Rattle.hcl_explain.proofs.WithoutLemmas.{in_second}
-use Rattle.hcl_explain.proofs.scan_error.other_character_in.Goals as goal
+use Rattle.hcl_explain.proofs.scan_character.other_character_in.Goals as goal
 
 pub returns-then-starts_with : goal.returns-then-starts_with
 returns-then-starts_with c =

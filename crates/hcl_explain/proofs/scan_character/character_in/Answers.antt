@@ -3,7 +3,7 @@ use Rattle.hcl_explain.specs.ScanExplanations.{IsCharacterIn, of}
 use Rattle.hcl_explain.specs.Sequences.{IsClosedInComment}
 use Rattle.hcl_explain.specs.declared.scan_error.ScanReason.TheVariants as reason
 use Rattle.hcl_explain.proofs.WithoutLemmas.{in_second, is_not}
-use Rattle.hcl_explain.proofs.scan_error.character_in.Goals as goal
+use Rattle.hcl_explain.proofs.scan_character.character_in.Goals as goal
 
 pub returns-else-branch : goal.returns-else-branch
 returns-else-branch c =

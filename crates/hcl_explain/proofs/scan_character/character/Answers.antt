@@ -1,7 +1,7 @@
 -- No template sequence is open before the byte.
 use Rattle.std.proofs.Common.{◌≡◌, None, inl}
 use Rattle.hcl_explain.proofs.SequenceLemmas.{none_is}
-use Rattle.hcl_explain.proofs.scan_error.character.Goals as goal
+use Rattle.hcl_explain.proofs.scan_character.character.Goals as goal
 
 pub returns-in-None : goal.returns-in-None
 returns-in-None c =

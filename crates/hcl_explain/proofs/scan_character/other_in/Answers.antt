@@ -3,7 +3,7 @@ use Rattle.hcl_explain.specs.ScanExplanations.{IsByUnclosed, IsByLine}
 use Rattle.hcl_explain.specs.Sequences.{IsEnded}
 use Rattle.hcl_explain.proofs.SequenceLemmas.{in_first}
 use Rattle.hcl_explain.proofs.WithoutLemmas.{in_second, is_not}
-use Rattle.hcl_explain.proofs.scan_error.other_in.Goals as goal
+use Rattle.hcl_explain.proofs.scan_character.other_in.Goals as goal
 
 pub returns-then-branch : goal.returns-then-branch
 returns-then-branch c =
