@@ -12,7 +12,8 @@ use Rattle.tf_fix.specs.declared.parsed.Parsed.{Parsed}
 use Rattle.tf_fix.specs.ParsedTexts.{IsParseOf}
 use Rattle.tf_lint.specs.FixResult.{changed_text, changed_edits}
 use Rattle.tf_lint.specs.declared.step.NewText.{NewText}
-use Rattle.tf_session.specs.Formatting.{Formats, fmt_rewrite}
+use Rattle.tf_session.specs.Formatting.{Formats}
+use Rattle.tf_session.specs.Inner.Changes.{fmt_rewrite}
 
 -- edits of which there are none leave each text as it is
 none_changed : (from : ℕ) (ps : List Piece) → changed_entries from ps ≡ [] → new_text ps ≡ old_text ps

@@ -22,7 +22,8 @@ use Rattle.tf_lint.specs.Remaining.{remaining_count}
 use Rattle.tf_lint.specs.declared.steps.FixedText.{FixedText}
 use Rattle.tf_session.specs.Rewrites.{Rewrites}
 use Rattle.tf_session.specs.Machine.{done}
-use Rattle.tf_session.specs.Records.{HasWord, AddsRecord, AddsRecordOf, ReplacesText, DoesStep, StepsTo}
+use Rattle.tf_session.specs.Records.{HasWord, AddsRecordOf, ReplacesText, DoesStep, StepsTo}
+use Rattle.tf_session.specs.Inner.Changes.{AddsRecord}
 use Rattle.tf_session.specs.Session.{with_records, without_records}
 
 -- the edits of a text that differs lead to it

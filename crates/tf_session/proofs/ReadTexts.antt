@@ -4,7 +4,7 @@ use Rattle.tf_rules.specs.declared.finding.Finding.{Finding}
 use Rattle.tf_rules.specs.declared.rule.Rule.{Rule}
 use Rattle.tf_rules.specs.declared.rule_set.RuleSet.{RuleSet}
 use Rattle.tf_session.specs.declared.command.Command.TheVariants.{Fix}
-use Rattle.tf_session.specs.Faults.{fault_of_fix}
+use Rattle.tf_session.specs.Inner.Faults.{fault_of_fix}
 use Rattle.tf_session.specs.Rewrites.{IsSyntaxFault, RefusesText}
 use Rattle.tf_session.specs.Parsing.{DoesParse}
 use Rattle.tf_lint.proofs.DoesNotParse.{parses_of}

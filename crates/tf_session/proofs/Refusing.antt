@@ -7,7 +7,8 @@ use Rattle.tf_session.specs.declared.command.Command.{Command}
 use Rattle.tf_session.specs.declared.command.Command.TheVariants.{Fmt}
 use Rattle.tf_session.specs.declared.command.Done.{Done}
 use Rattle.tf_session.specs.declared.command.Fault.{Fault}
-use Rattle.tf_session.specs.Faults.{run_fault_of, run_fault_of_read}
+use Rattle.tf_session.specs.Faults.{run_fault_of}
+use Rattle.tf_session.specs.Inner.Faults.{run_fault_of_read}
 use Rattle.tf_session.specs.Streams.{ReadsText, ReadAllFault}
 use Rattle.tf_session.specs.Rewrites.{IsSyntaxFault, RefusesText}
 use Rattle.tf_session.specs.Records.{DoesStep, RefusesStep}

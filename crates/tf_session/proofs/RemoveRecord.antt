@@ -14,11 +14,12 @@ use Rattle.edit_record.specs.Swaps.Swap.{IsItem}
 use Rattle.edit_record.specs.Swaps.MoveToEnd.{IsMovedToEnd}
 use Rattle.edit_record.specs.Swaps.MoveToEndResult.{IsMoveToEndResult}
 use Rattle.tf_session.specs.declared.command.Fault.{Fault}
-use Rattle.tf_session.specs.Faults.{fault_of_refused}
+use Rattle.tf_session.specs.Inner.Faults.{fault_of_refused}
 use Rattle.tf_lint.specs.Steps.{texts_differ}
 use Rattle.tf_session.specs.Machine.{done}
 use Rattle.tf_session.specs.NthItem.{Nth}
-use Rattle.tf_session.specs.RemovingRecord.{RemovesRecord, RefusesTake, TakeMayAllocate, fault_of_move, counted_records}
+use Rattle.tf_session.specs.RemovingRecord.{RemovesRecord, RefusesTake, TakeMayAllocate}
+use Rattle.tf_session.specs.Inner.Faults.{fault_of_move, counted_records}
 use Rattle.tf_session.specs.RemovingRecord.RefusesTake.{not_undone, lengths_differ, blocked, too_long, memory}
 use Rattle.tf_session.specs.Session.{SessionContents, with_records}
 

@@ -14,7 +14,7 @@ use Rattle.tf_session.specs.declared.command.Command.TheVariants.{Fmt, Fix, Reve
 use Rattle.tf_session.specs.declared.command.Done.{Done}
 use Rattle.tf_session.specs.declared.command.Fault.{Fault}
 use Rattle.tf_session.specs.declared.command.Fault.TheVariants.{Scan, Parse, FixBroken, TooLong}
-use Rattle.tf_session.specs.Faults.{fault_of_fix}
+use Rattle.tf_session.specs.Inner.Faults.{fault_of_fix}
 use Rattle.tf_session.specs.Fixing.{FixRewrites}
 use Rattle.tf_lint.specs.declared.fault.FixFault.{FixFault}
 use Rattle.tf_lint.specs.Steps.{Rewrite, Breaks, FixIsUnique}

@@ -3,38 +3,13 @@
 use Rattle.std.specs.Prelude.{ℕ, List, ◌++◌, codes, Option, Some, None}
 use Rattle.std.specs.Fmt.{decimal}
 use Rattle.hcl_token.specs.declared.limit.TheConstants.{MAX_TEXT}
-use Rattle.hcl_layout.specs.declared.gaps.fault.LayoutFault.{LayoutFault}
-use Rattle.edit_record.specs.declared.lists.change.Refused.{Refused}
 use Rattle.edit_record.specs.Lists.ChangeResults.{refused_message}
 use Rattle.edit_record.specs.declared.fault.RecordFault.{RecordFault}
 use Rattle.edit_record.specs.declared.fault.RecordFault.TheVariants.{BadHead, BadNumber, CutShort, BadEdits}
 use Rattle.edit_record.specs.declared.fault.RecordFault.TheVariants.{BadEnd, BadSteps}
-use Rattle.tf_fix.specs.declared.fault.LintFault.{LintFault}
-use Rattle.tf_lint.specs.declared.fault.FixFault.{FixFault}
 use Rattle.tf_rules.specs.Table.{name_of}
-use Rattle.tf_stream.specs.declared.fault.ReadFault.{ReadFault}
 use Rattle.tf_session.specs.declared.command.Fault.{Fault}
 use Rattle.tf_session.specs.declared.fault.RunFault.{RunFault}
-
-abbrev pub fault_of_fix : FixFault → Fault
-fault_of_fix (FixFault.Scan fault) = Fault.Scan fault
-fault_of_fix (FixFault.Parse fault) = Fault.Parse fault
-fault_of_fix (FixFault.FixBroken rule) = Fault.FixBroken rule
-fault_of_fix FixFault.TooLong = Fault.TooLong
-fault_of_fix FixFault.Memory = Fault.Memory
-
-abbrev pub fault_of_layout : LayoutFault → Fault
-fault_of_layout LayoutFault.TooLong = Fault.TooLong
-fault_of_layout LayoutFault.Memory = Fault.Memory
-
-abbrev pub fault_of_lint : LintFault → Fault
-fault_of_lint LintFault.TooLong = Fault.TooLong
-fault_of_lint LintFault.Memory = Fault.Memory
-
-abbrev pub fault_of_refused : Refused → Fault
-fault_of_refused (Refused.Length expected found) = Fault.Refused (Refused.Length expected found)
-fault_of_refused (Refused.Differs step edit) = Fault.Refused (Refused.Differs step edit)
-fault_of_refused Refused.Memory = Fault.Memory
 
 abbrev pub run_fault_of : Fault → RunFault
 run_fault_of (Fault.Scan fault) = RunFault.Scan fault
@@ -45,11 +20,6 @@ run_fault_of Fault.NoRecord = RunFault.NoRecord
 run_fault_of (Fault.Refused refused) = RunFault.Refused refused
 run_fault_of Fault.Memory = RunFault.Memory
 run_fault_of (Fault.Blocked number) = RunFault.Blocked number
-
-abbrev pub run_fault_of_read : ReadFault → RunFault
-run_fault_of_read ReadFault.Read = RunFault.Read
-run_fault_of_read ReadFault.Endless = RunFault.Endless
-run_fault_of_read ReadFault.Memory = RunFault.Memory
 
 abbrev pub run_fault_of_record : RecordFault → RunFault
 run_fault_of_record (BadHead at) = RunFault.BadJournal (BadHead at)

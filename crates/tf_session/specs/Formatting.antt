@@ -1,5 +1,5 @@
 -- What `fmt` makes of a text: its layout.
-use Rattle.std.specs.Prelude.{◌≡◌, ◌≤◌, ℕ, List, length, Option, Result, Ok, Err}
+use Rattle.std.specs.Prelude.{◌≡◌, ◌≤◌, ℕ, List, length, Result, Ok, Err}
 use Rattle.hcl_scan.specs.Tokenization.{MAX_TEXT}
 use Rattle.hcl_scan.specs.Fault.{IsFault}
 use Rattle.hcl_layout.specs.Gaps.Layout.{layout_edits}
@@ -9,8 +9,6 @@ use Rattle.tf_session.specs.declared.command.Fault.TheVariants.{Scan, Parse, Too
 use Rattle.tf_session.specs.Parsing.{DoesParse}
 use Rattle.tf_fix.specs.declared.parsed.Parsed.{Parsed}
 use Rattle.tf_fix.specs.ParsedTexts.{IsParseOf}
-use Rattle.tf_lint.specs.declared.step.NewText.{NewText}
-use Rattle.tf_lint.specs.FixResult.{changed_text, changed_edits}
 use Rattle.tf_lint.specs.ParseFaults.{IsParseFault}
 use Rattle.tf_lint.specs.Steps.{Rewrite}
 
@@ -25,11 +23,6 @@ pub record Formats (text : List ℕ) (made : Rewrite) : Type 0 where
   pub edits_are : made.edits ≡ layout_edits parsed.scanned
   pub fixed_is : made.fixed ≡ 0
   pub left_is : made.left ≡ 0
-
--- what a fmt makes of this text, given the change that it returns
-abbrev pub fmt_rewrite : List ℕ → Option NewText → Rewrite
-fmt_rewrite text change =
-    record { text = changed_text text change; edits = changed_edits text change; fixed = 0; left = 0 }
 
 -- what a fmt makes of a text, or why it refuses it
 abbrev pub FmtRewrites : List ℕ → Result Rewrite Fault → Type 0

@@ -1,2 +1,4 @@
 -- For proofs.
 pub mod Saving
+pub mod Faults
+pub mod Changes

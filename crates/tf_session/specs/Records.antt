@@ -1,7 +1,6 @@
 -- What the journal of a session says, in terms of the stack of whole texts.
 use Rattle.std.specs.Prelude.{◌≡◌, ℕ, Bool, true, false, List, [], ◌∷◌, ◌++◌, Ok, Err}
 use Rattle.edit_record.specs.declared.lists.record.Word.{Word}
-use Rattle.edit_record.specs.Lists.Pieces.{EditList}
 use Rattle.edit_record.specs.Lists.ChangeResults.{IsChangeResult, HasExpectedLen}
 use Rattle.edit_record.specs.declared.lists.direction.Direction.TheVariants.{Backward}
 use Rattle.edit_record.specs.Lists.Journal.{JournalEntry, record_transforms}
@@ -32,7 +31,7 @@ pub record IsRecordOf (command : Command) (text : List ℕ) (made : Rewrite) (r 
   pub transforms : record_transforms r text made.text
 
 -- There is one record for each two neighbors, the oldest first: that of the command that made the
--- upper of the lower. Neighbours differ.
+-- upper of the lower. Neighbors differ.
 abbrev pub IsJournalOfStack : List JournalEntry → List ℕ → List StackEntry → Type 0
 IsJournalOfStack records top [] = records ≡ []
 IsJournalOfStack records top (under ∷ rest) =
@@ -43,11 +42,6 @@ IsJournalOfStack records top (under ∷ rest) =
 
 -- ---- One command over any session, its journal from outside too: what the session has before and
 -- after.
-
--- the record with this word and these edits is added, or nothing
-abbrev pub AddsRecord : Bool → Word → EditList → List JournalEntry → List JournalEntry → Type 0
-AddsRecord true word edits js ks = ks ≡ js ++ (record { word = word; edits = edits }) ∷ []
-AddsRecord false word edits js ks = ks ≡ js
 
 -- the record of a command that made this of a text is added, or nothing
 abbrev pub AddsRecordOf : Bool → Command → List ℕ → Rewrite → List JournalEntry

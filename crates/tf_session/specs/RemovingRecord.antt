@@ -7,7 +7,6 @@ use Rattle.edit_record.specs.Lists.ChangeResults.{IsChangeResult, HasExpectedLen
 use Rattle.edit_record.specs.Lists.Journal.{JournalEntry, edits_of, words_of}
 use Rattle.edit_record.specs.declared.lists.change.Refused.{Refused}
 use Rattle.edit_record.specs.declared.lists.direction.Direction.TheVariants.{Backward}
-use Rattle.edit_record.specs.declared.swaps.reorder.MoveFault.{MoveFault}
 use Rattle.edit_record.specs.Swaps.MoveToEnd.{IsMovedToEnd}
 use Rattle.edit_record.specs.Swaps.MoveToEndResult.{LengthMismatch, SomeMeet, SwapIsTooLong, FailsAt}
 use Rattle.edit_record.specs.Swaps.MoveToEndResult.{MoveMayAllocate}
@@ -92,15 +91,3 @@ abbrev pub IsTakeRefusal : ℕ → SessionContents → Option Fault → Type 0
 IsTakeRefusal n contents None =
     (d : Done) × (new : SessionContents) × RemovesRecord n contents d new
 IsTakeRefusal n contents (Some fault) = RefusesTake n contents fault × (fault ≢ Fault.Memory)
-
--- what `move_to_end` returns of the records after record n, of which it counts the first as 0
-abbrev pub fault_of_move : ℕ → MoveFault → Fault
-fault_of_move n (MoveFault.Length expected found) = Fault.Refused (Refused.Length expected found)
-fault_of_move n (MoveFault.Blocked passed) = Fault.Blocked (n + passed + 1)
-fault_of_move n MoveFault.TooLong = Fault.TooLong
-fault_of_move n MoveFault.Memory = Fault.Memory
-
--- how many records, from record n on, are counted for this result
-abbrev pub counted_records : MoveFault → ℕ
-counted_records (MoveFault.Blocked passed) = passed + 1
-counted_records _ = 0

@@ -1,7 +1,7 @@
 //! The commands of a session, and its replies.
 
 ghost use Rattle.std.specs.Prelude.{◌≡◌, ◌<◌, ◌+◌, ◌^◌};
-ghost use Rattle.tf_session.specs.RemovingRecord.{fault_of_move, counted_records};
+ghost use Rattle.tf_session.specs.Inner.Faults.{fault_of_move, counted_records};
 
 use crate::fault::RunFault;
 use edit_record::lists::Refused;
@@ -80,7 +80,7 @@ impl fmt::Debug for Fault {
 }
 
 impl From<FixFault> for Fault {
-    ghost use Rattle.tf_session.specs.Faults.{fault_of_fix};
+    ghost use Rattle.tf_session.specs.Inner.Faults.{fault_of_fix};
 
     ghost from_gives = { λ fault given. given ≡ fault_of_fix fault };
 
@@ -96,7 +96,7 @@ impl From<FixFault> for Fault {
 }
 
 impl From<LayoutFault> for Fault {
-    ghost use Rattle.tf_session.specs.Faults.{fault_of_layout};
+    ghost use Rattle.tf_session.specs.Inner.Faults.{fault_of_layout};
 
     ghost from_gives = { λ fault given. given ≡ fault_of_layout fault };
 
@@ -109,7 +109,7 @@ impl From<LayoutFault> for Fault {
 }
 
 impl From<LintFault> for Fault {
-    ghost use Rattle.tf_session.specs.Faults.{fault_of_lint};
+    ghost use Rattle.tf_session.specs.Inner.Faults.{fault_of_lint};
 
     ghost from_gives = { λ fault given. given ≡ fault_of_lint fault };
 
@@ -122,7 +122,7 @@ impl From<LintFault> for Fault {
 }
 
 impl From<Refused> for Fault {
-    ghost use Rattle.tf_session.specs.Faults.{fault_of_refused};
+    ghost use Rattle.tf_session.specs.Inner.Faults.{fault_of_refused};
 
     ghost from_gives = { λ refused given. given ≡ fault_of_refused refused };
 

@@ -109,7 +109,7 @@ impl<T: Drop> From<AllocFailed<T>> for RunFault {
 }
 
 impl From<ReadFault> for RunFault {
-    ghost use Rattle.tf_session.specs.Faults.{run_fault_of_read};
+    ghost use Rattle.tf_session.specs.Inner.Faults.{run_fault_of_read};
 
     ghost from_gives = { λ fault given. given ≡ run_fault_of_read fault };
 

@@ -10,7 +10,7 @@ ghost use Rattle.hcl_grammar.specs.declared.bounds.TheConstants.{MAX_NESTING};
 ghost use Rattle.hcl_scan.specs.Tokenization.{MAX_TEXT};
 ghost use Rattle.hcl_scan.specs.Follows.{tokens_of};
 ghost use Rattle.tf_session.specs.Parsing.{DoesParse};
-ghost use Rattle.tf_session.specs.Formatting.{fmt_rewrite};
+ghost use Rattle.tf_session.specs.Inner.Changes.{fmt_rewrite};
 ghost use Rattle.tf_lint.specs.FixResult.{changed_text, changed_edits};
 ghost use Rattle.tf_session.specs.Records.{StepsTo};
 ghost use Rattle.tf_session.specs.Rewrites.{Rewrites, RefusesText};

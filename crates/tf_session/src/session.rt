@@ -9,7 +9,8 @@ ghost use Rattle.tf_session.specs.Journals.{BadJournalFault};
 ghost use Rattle.tf_session.specs.Machine.{done};
 ghost use Rattle.tf_lint.specs.FixResult.{changed_text, changed_edits};
 ghost use Rattle.tf_session.specs.Session.{contents_of, text_of, records_of};
-ghost use Rattle.tf_session.specs.Records.{DoesStep, RefusesStep, AddsRecord, RevertsLast, RefusesRevert};
+ghost use Rattle.tf_session.specs.Records.{DoesStep, RefusesStep, RevertsLast, RefusesRevert};
+ghost use Rattle.tf_session.specs.Inner.Changes.{AddsRecord};
 ghost use Rattle.tf_session.specs.RemovingRecord.{RemovesRecord, RefusesTake};
 ghost use Rattle.tf_session.specs.RemovingRecord.{IsTakeRefusal, TakeMayAllocate};
 

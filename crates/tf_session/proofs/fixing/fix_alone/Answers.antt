@@ -3,7 +3,7 @@ use Rattle.std.proofs.Common.{◌≡◌, None, Err, false, rules, refl, sym}
 use Rattle.tf_lint.specs.Remaining.{remaining_count}
 use Rattle.tf_lint.specs.FixResult.{fixed_text_or}
 use Rattle.tf_lint.specs.Steps.{texts_differ}
-use Rattle.tf_session.specs.Faults.{fault_of_fix}
+use Rattle.tf_session.specs.Inner.Faults.{fault_of_fix}
 use Rattle.tf_session.specs.Machine.{done}
 use Rattle.tf_session.proofs.PushChange.{fixes_text, same_differ}
 use Rattle.tf_session.proofs.ReadTexts.{refused_fix}

@@ -2,7 +2,7 @@
 use Rattle.std.proofs.Common.{◌≡◌, ◌∙◌, length, rules, ap, inl, sym}
 use Rattle.std.proofs.lemmas.List.{nil_from_length}
 use Rattle.edit_record.specs.Lists.Pieces.{Transforms}
-use Rattle.tf_session.specs.Faults.{fault_of_refused}
+use Rattle.tf_session.specs.Inner.Faults.{fault_of_refused}
 use Rattle.tf_session.proofs.LayoutLemmas.{made, only_memory, stays}
 use Rattle.tf_session.proofs.formatting.layout_change.Goals as goal
 

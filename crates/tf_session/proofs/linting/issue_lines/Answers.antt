@@ -7,7 +7,7 @@ use Rattle.tf_lint.specs.Reports.{report_of, report_lines}
 use Rattle.tf_rules.specs.declared.finding.Finding.{Finding}
 use Rattle.tf_rules.specs.declared.rule_set.RuleSet.{RuleSet}
 use Rattle.tf_fix.specs.OneStep.{RulesFind}
-use Rattle.tf_session.specs.Faults.{fault_of_fix}
+use Rattle.tf_session.specs.Inner.Faults.{fault_of_fix}
 use Rattle.tf_session.proofs.ReadTexts.{not_read}
 use Rattle.tf_session.proofs.linting.issue_lines.Goals as goal
 

@@ -2,7 +2,8 @@
 -- refused.
 use Rattle.std.proofs.Common.{◌≡◌, Err, refl, rules, inl, inr}
 use Rattle.hcl_scan.specs.Tokenization.{MAX_TEXT}
-use Rattle.tf_session.specs.Faults.{run_fault_of_read, run_fault_of_record}
+use Rattle.tf_session.specs.Faults.{run_fault_of_record}
+use Rattle.tf_session.specs.Inner.Faults.{run_fault_of_read}
 use Rattle.tf_session.specs.Journals.{MAX_JOURNAL}
 use Rattle.tf_session.proofs.Refusing.{not_all_read}
 use Rattle.tf_session.proofs.loader.load.Goals as goal

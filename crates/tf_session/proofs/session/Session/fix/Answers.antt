@@ -4,7 +4,7 @@ use Rattle.std.proofs.Common.{◌≡◌, ◌∙◌, List, ℕ, Result, Err, ap, 
 use Rattle.tf_session.specs.declared.command.Command.TheVariants.{Fix}
 use Rattle.tf_session.specs.declared.command.Done.{Done}
 use Rattle.tf_session.specs.declared.command.Fault.{Fault}
-use Rattle.tf_session.specs.Faults.{fault_of_fix}
+use Rattle.tf_session.specs.Inner.Faults.{fault_of_fix}
 use Rattle.tf_session.specs.Records.{DoesStep}
 use Rattle.tf_session.specs.Rewrites.{RefusesText}
 use Rattle.tf_session.specs.Session.{contents_of, text_of, records_of}

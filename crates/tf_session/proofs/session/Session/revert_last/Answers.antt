@@ -7,7 +7,7 @@ use Rattle.edit_record.specs.declared.lists.change.Refused.{Refused}
 use Rattle.edit_record.specs.declared.lists.change.Refused.TheVariants.{Length, Differs, Memory}
 use Rattle.edit_record.specs.declared.lists.direction.Direction.TheVariants.{Backward}
 use Rattle.tf_session.specs.declared.command.Fault.{Fault}
-use Rattle.tf_session.specs.Faults.{fault_of_refused}
+use Rattle.tf_session.specs.Inner.Faults.{fault_of_refused}
 use Rattle.tf_session.specs.Records.{IsLast, IsUniqueOld, RefusesRevert}
 use Rattle.tf_session.specs.Session.{contents_of, text_of, records_of, with_records}
 use Rattle.tf_session.proofs.Lists.{ends_with_last, popped}
