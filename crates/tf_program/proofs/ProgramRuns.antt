@@ -6,7 +6,7 @@ use Rattle.tf_cli.specs.Reading.{IsTaskOfArguments}
 use Rattle.tf_cli.specs.declared.options.Action.{Action}
 use Rattle.tf_cli.specs.declared.outcome.FileOutcome.{FileOutcome}
 use Rattle.tf_cli.specs.declared.tasks.Task.{Task}
-use Rattle.tf_session.specs.Invocations.{FileContents, HasEffect, HasNoEffect, Invokes, InvokesAll, InvocationsAreStackRun, InvocationsAreHistoryRun, contents_after}
+use Rattle.tf_session.specs.Invocations.{FileContents, without_journal, HasEffect, HasNoEffect, Invokes, InvokesAll, InvocationsStepFiles, InvocationsAreStackRun, InvocationsAreHistoryRun, contents_after}
 use Rattle.tf_session.specs.declared.command.Command.{Command}
 use Rattle.tf_session.specs.declared.command.Done.{Done}
 use Rattle.tf_session.specs.declared.fault.RunFault.{RunFault}
@@ -312,13 +312,13 @@ runs_done place (run ∷ runs) old new named turns =
       invokes = both_invoke (contents_at old place) (contents_at turns.0 place) (contents_at new place) one.commands rest.commands one.results rest.results one.invokes rest.invokes;
     }
 
-pub program_runs : InvocationsAreStackRun → InvocationsAreHistoryRun → ProgramRunsAreOneRun
-program_runs stack history text name runs old new is named turns =
+pub program_runs : InvocationsStepFiles → InvocationsAreStackRun → InvocationsAreHistoryRun → ProgramRunsAreOneRun
+program_runs steps stack history text name runs old new is named turns =
     let place = old.spot name in
     let done = runs_done place runs old new named turns in
     let invokes = subst (λ (c : FileContents). InvokesAll c done.commands done.results (contents_at new place)) is done.invokes in (
       done.commands,
       done.results,
       done.of,
-      (invokes, λ without. stack text done.commands done.results (contents_at new place) without invokes, history text done.commands done.results (contents_at new place) invokes),
+      (invokes, λ without. stack text done.commands done.results (contents_at new place) without (steps (without_journal text) (contents_at new place) done.commands done.results invokes), history text done.commands done.results (contents_at new place) invokes),
     )

@@ -1,47 +1,57 @@
 -- Commands on a file, one after another, are one run: by induction on the commands.
-use Rattle.std.proofs.Common.{◌≡◌, ◌∙◌, ◌⊎◌, ℕ, List, [], ◌∷◌, map, true, false, Option, Some, None, Result, Ok, Err, ap, sym, subst, refl, inl, inr, arith}
+use Rattle.std.proofs.Common.{◌≡◌, ◌∙◌, ◌⊎◌, ◌<◌, ℕ, List, [], ◌∷◌, map, length, Bool, true, false, MatchBool, Option, Some, None, Result, Ok, Err, IfOk, IfErr, ap, sym, subst, refl, inl, inr, arith}
 use Rattle.std.specs.List.{AllByRecursion}
 use Rattle.edit_record.specs.Decoding.{IsDecodeResult}
 use Rattle.edit_record.specs.Lists.ChangeResults.{ChangeResultIsUnique}
-use Rattle.edit_record.specs.Lists.Journal.{JournalEntry}
+use Rattle.edit_record.specs.Lists.Journal.{JournalEntry, record_transforms}
 use Rattle.edit_record.specs.Swaps.MoveToEnd.{MoveToEndIsUnique}
-use Rattle.edit_record.specs.Text.{IsJournalText}
+use Rattle.edit_record.specs.Text.{journal_text, IsJournalText}
 use Rattle.edit_record.specs.declared.fault.RecordFault.{RecordFault}
 use Rattle.edit_record.specs.declared.fault.RecordFault.TheVariants.{BadHead, BadNumber, CutShort, BadEdits, BadEnd, BadSteps}
 use Rattle.tf_session.specs.declared.command.Command.{Command}
+use Rattle.tf_session.specs.declared.command.Command.TheVariants.{Fmt, Fix, Revert, Take}
 use Rattle.tf_session.specs.declared.command.Done.{Done}
 use Rattle.tf_session.specs.declared.command.Fault.{Fault}
 use Rattle.tf_session.specs.declared.fault.RunFault.{RunFault}
+use Rattle.tf_session.specs.declared.invocation.Effect.{Effect}
 use Rattle.tf_session.specs.declared.saver.SavedTexts.{SavedTexts}
 use Rattle.tf_session.specs.Faults.{run_fault_of, run_fault_of_record}
-use Rattle.tf_session.specs.Invocations.{FileContents, without_journal, AreSaved, HasNoEffect, Invokes, InvokesAll, AreOneRun, HasStackRecords, HasHistoryRecords, InvocationsAreStackRun, InvocationsAreHistoryRun, is_limit_result, contents_after, results_within, result_of}
-use Rattle.tf_session.specs.Journals.{IsSavedText, JournalTextFault}
+use Rattle.tf_session.specs.Invocations.{FileContents, file_of, without_journal, contents_after, IsFileOf, StepFileFault, StepsFile, AreSaved, HasEffect, HasNoEffect, Invokes, InvocationsStepFiles}
+use Rattle.tf_session.specs.Invocations.{AreOneRun, HasStackRecords, HasHistoryRecords, InvocationsAreStackRun, InvocationsAreHistoryRun, StepOrLimit, is_limit}
+use Rattle.tf_session.specs.Invocations.{is_limit_result, commands_within, results_within, result_of, LimitsChangeNothing}
+use Rattle.tf_session.specs.Journals.{MAX_JOURNAL, IsSavedText, JournalTextFault}
 use Rattle.tf_session.specs.Layers.{History, initial_history, top_text, records_in, HistoryStep, HistoryMayAllocate, HistoryStepOrMemory}
-use Rattle.tf_session.specs.Machine.{initial_stack, StackStep, StackMayAllocate, IsNotTake}
-use Rattle.tf_session.specs.Records.{DoesStep, RefusesStep}
-use Rattle.tf_session.specs.Runs.{StepOrMemory}
+use Rattle.tf_session.specs.Machine.{StackEntry, Stack, initial_stack, StackStep, StackMayAllocate, StackStepOrMemory, IsNotTake}
+use Rattle.tf_session.specs.Records.{IsJournalOfStack, ChangesContents, CannotRevert, RefusesContents, DoesStep, RefusesRevert, RefusesStep}
+use Rattle.tf_session.specs.Rewrites.{Rewrites, RefusesText}
+use Rattle.tf_session.specs.Runs.{StepOrMemory, RunBy}
 use Rattle.tf_session.specs.Session.{SessionContents, with_records}
 use Rattle.tf_session.proofs.Contents.{with_same}
 use Rattle.tf_session.proofs.Histories.{acted, stays}
 use Rattle.tf_session.proofs.JournalOne.{TransformLengths}
-use Rattle.tf_session.proofs.Stacks.{did, refused}
+use Rattle.tf_session.proofs.Lists.{not_nil, same_last}
+use Rattle.tf_session.proofs.Stacks.{did, last_transforms, undone_or_refused}
 
 -- a journal's text is that of one list of records at most
 abbrev pub Unambiguous : Type 0
 Unambiguous = (text : List ℕ) (rs ss : List JournalEntry) → IsJournalText text rs → IsJournalText text ss → rs ≡ ss
 
 -- what is saved, or else the file as it was, has the new text and records
-after : (old : FileContents) (saved : Option SavedTexts) (js : List JournalEntry) (new : SessionContents) → IsSavedText js old.journal → AreSaved (with_records old.text js) new saved
-    → ((contents_after old saved).text ≡ new.text) × IsSavedText new.records (contents_after old saved).journal
-after old None js new is same = (sym same.0, subst (λ (rs : List JournalEntry). IsSavedText rs old.journal) (sym same.1) is)
+after : (old : FileContents) (saved : Option SavedTexts) (js : List JournalEntry) (new : SessionContents)
+    → IsSavedText js old.journal → AreSaved (with_records old.text js) new saved
+    → IsFileOf new (contents_after old saved)
+after old None js new is same =
+    (sym same.0, subst (λ (rs : List JournalEntry). IsSavedText rs old.journal) (sym same.1) is)
 after old (Some saved) js new is are = (are.1, are.2)
 
 -- what is saved is the text of a journal
-journal_text_of : (records : List JournalEntry) (bytes : List ℕ) → IsSavedText records bytes → IsJournalText bytes records
+journal_text_of : (records : List JournalEntry) (bytes : List ℕ) → IsSavedText records bytes
+    → IsJournalText bytes records
 journal_text_of records bytes is = inl is.0
 
 -- a text of a journal is decoded, unless memory runs out
-decoded : (text : List ℕ) (js : List JournalEntry) (reading : RecordFault) → IsJournalText text js → IsDecodeResult text (Err reading) → is_limit_result (Err (run_fault_of_record reading)) ≡ true
+decoded : (text : List ℕ) (js : List JournalEntry) (reading : RecordFault) → IsJournalText text js
+    → IsDecodeResult text (Err reading) → run_fault_of_record reading ≡ RunFault.Memory
 decoded text js (BadHead at) is why = absurd (why.0 js is)
 decoded text js (BadNumber at) is why = absurd (why.0 js is)
 decoded text js (CutShort at) is why = absurd (why.0 js is)
@@ -50,170 +60,356 @@ decoded text js (BadEnd at) is why = absurd (why.0 js is)
 decoded text js RecordFault.Memory is why = refl
 decoded text js (BadSteps at) is why = absurd (why.0 js is)
 
+-- the text of these records would be too long
+abbrev TooLong : List JournalEntry → Type 0
+TooLong records = MAX_JOURNAL < length (journal_text records)
+
 -- there is no text of a new journal at a limit alone
-unsaved : (ks : List JournalEntry) (fault : RunFault) → JournalTextFault ks fault → is_limit_result (Err fault) ≡ true
+unsaved : (ks : List JournalEntry) (fault : RunFault) → JournalTextFault ks fault
+    → (fault ≡ RunFault.Memory) ⊎ ((fault ≡ RunFault.Endless) × TooLong ks)
 unsaved ks (RunFault.Scan fault) why = absurd why
 unsaved ks (RunFault.Parse fault) why = absurd why
 unsaved ks (RunFault.FixBroken rule) why = absurd why
 unsaved ks RunFault.TooLong why = absurd why
 unsaved ks RunFault.NoRecord why = absurd why
 unsaved ks (RunFault.Refused refused) why = absurd why
-unsaved ks RunFault.Memory why = refl
+unsaved ks RunFault.Memory why = inl refl
 unsaved ks (RunFault.Blocked number) why = absurd why
 unsaved ks RunFault.Read why = absurd why
 unsaved ks (RunFault.Write part sent) why = absurd why
-unsaved ks RunFault.Endless why = refl
+unsaved ks RunFault.Endless why = inr (refl, why)
 unsaved ks (RunFault.BadJournal fault) why = absurd why
+
+-- ---- what a command does to a file of these contents, if this is what it does and why it is refused
+
+module _ (DoesIt : Command → SessionContents → Done → SessionContents → Type 0) (RefusesIt : Command → SessionContents → Fault → Type 0) where
+  abbrev FailsOn : Command → SessionContents → RunFault → Type 0
+  FailsOn command contents fault =
+      (fault ≡ RunFault.Memory)
+      ⊎ ((fault ≡ RunFault.Endless) × (d : Done) × (new : SessionContents) × DoesIt command contents d new × TooLong new.records)
+      ⊎ ((refusal : Fault) × (fault ≡ run_fault_of refusal) × RefusesIt command contents refusal)
+
+  abbrev StepsContents : Command → SessionContents → Result Done RunFault → FileContents → FileContents → Type 0
+  StepsContents command contents (Ok d) old new =
+      (left : SessionContents) × DoesIt command contents d left × IsFileOf left new
+  StepsContents command contents (Err fault) old new = (new ≡ old) × FailsOn command contents fault
+
+-- by `StepsFile`
+steps_contents : (command : Command) (contents : SessionContents) (result : Result Done RunFault) (old new : FileContents)
+    → IsNotTake command → IsFileOf contents old → StepsFile command old result new
+    → StepsContents ChangesContents RefusesContents command contents result old new
+steps_contents command contents (Ok d) old new untaken file steps = steps contents untaken file
+steps_contents command contents (Err fault) old new untaken file steps =
+    (steps.0, steps.1 contents untaken file)
+
+-- ---- of a fmt, a fix and a revert less is said of why it is refused
+
+changes : (command : Command) (old new : SessionContents) (d : Done) → IsNotTake command
+    → DoesStep command old d new → ChangesContents command old d new
+changes Fmt old new d untaken h = h
+changes (Fix rules) old new d untaken h = h
+changes Revert old new d untaken h = h
+changes (Take n) old new d untaken h = absurd untaken
+
+refuses_text : (command : Command) (text : List ℕ) (fault : Fault) → RefusesText command text fault
+    → (fault ≡ Fault.Memory) ⊎ Rewrites command text (Err fault)
+refuses_text command text Fault.Memory h = inl refl
+refuses_text command text _ h = inr h
+
+cannot_revert : ChangeResultIsUnique → (contents : SessionContents) (fault : Fault)
+    → RefusesRevert contents fault → (fault ≡ Fault.Memory) ⊎ CannotRevert contents fault
+cannot_revert unique contents Fault.NoRecord h = inr h
+cannot_revert unique contents (Fault.Refused refused) (r, last, why) =
+    inr (r, last, λ u turns. undone_or_refused unique r.edits contents.text u refused why turns)
+cannot_revert unique contents Fault.Memory h = inl refl
+cannot_revert unique contents _ h = absurd h
+
+refuses : ChangeResultIsUnique → (command : Command) (contents : SessionContents) (fault : Fault)
+    → IsNotTake command → RefusesStep command contents fault
+    → (fault ≡ Fault.Memory) ⊎ RefusesContents command contents fault
+refuses unique Fmt contents fault untaken h = refuses_text Fmt contents.text fault h
+refuses unique (Fix rules) contents fault untaken h = refuses_text (Fix rules) contents.text fault h
+refuses unique Revert contents fault untaken h = cannot_revert unique contents fault h
+refuses unique (Take n) contents fault untaken h = absurd untaken
+
+step_file_fault : ChangeResultIsUnique
+    → (command : Command) (contents : SessionContents) (fault : RunFault) → IsNotTake command
+    → FailsOn DoesStep RefusesStep command contents fault → StepFileFault command contents fault
+step_file_fault unique command contents fault untaken (inl memory) = inl memory
+step_file_fault unique command contents fault untaken (inr (inl (is, d, new, does, long))) =
+    inr (inl (is, d, new, changes command contents new d untaken does, long))
+step_file_fault unique command contents fault untaken (inr (inr (refusal, is, why))) =
+    elim (refuses unique command contents refusal untaken why) [
+      | inl memory ↦ inl (is ∙ ap run_fault_of memory)
+      | inr refuses ↦ inr (inr (refusal, is, refuses))
+    ]
+
+-- ---- by `Invokes`
+
+module _ (one : Unambiguous) where
+  -- the records of a file are those that its journal is read as
+  same_records : (contents : SessionContents) (file : FileContents) (js : List JournalEntry)
+      → IsFileOf contents file → IsJournalText file.journal js → js ≡ contents.records
+  same_records contents file js is read =
+      one file.journal js contents.records read (journal_text_of contents.records file.journal is.1)
+
+  done_on : (command : Command) (contents : SessionContents) (old new : FileContents) (d : Done)
+      → IsFileOf contents old → Invokes command old (Ok d) new
+      → StepsContents DoesStep RefusesStep command contents (Ok d) old new
+  done_on command contents old new d file (name, effect, has, is_done, is_new) =
+      let same = same_records contents old has.records file has.is_journal in
+      let read : IsSavedText has.records old.journal = subst (λ (rs : List JournalEntry). IsSavedText rs old.journal) (sym same) file.1 in
+      let here : DoesStep command contents d has.new =
+      subst (λ (x : Done). DoesStep command contents x has.new) (sym is_done)
+      (with_same (λ (x : SessionContents). DoesStep command x effect.done has.new) old.text contents.text has.records contents.records file.0 same has.does) in
+      (has.new, here, subst (λ (x : FileContents). IsFileOf has.new x) (sym is_new) (after old effect.saved has.records has.new read has.saved))
+
+  failed_on : (command : Command) (contents : SessionContents) (old : FileContents) (fault : RunFault)
+      → IsFileOf contents old → HasNoEffect command old.text old.journal fault
+      → FailsOn DoesStep RefusesStep command contents fault
+  failed_on command contents old fault file (inl (reading, is, why)) =
+      inl (is ∙ decoded old.journal contents.records reading (journal_text_of contents.records old.journal file.1) why)
+  failed_on command contents old fault file (inr (inl (js, is, inl (refusal, is_fault, why)))) =
+      inr (inr (refusal, is_fault, with_same (λ (x : SessionContents). RefusesStep command x refusal) old.text contents.text js contents.records file.0 (same_records contents old js file is) why))
+  failed_on command contents old fault file (inr (inl (js, is, inr (memory, _, _, _, _)))) = inl memory
+  failed_on command contents old fault file (inr (inr (js, is, (d, new, does, _, why)))) =
+      elim (unsaved new.records fault why) [
+        | inl memory ↦ inl memory
+        | inr (endless, long) ↦
+            inr (inl (endless, d, new, with_same (λ (x : SessionContents). DoesStep command x d new) old.text contents.text js contents.records file.0 (same_records contents old js file is) does, long))
+      ]
+
+  invoked_on : (command : Command) (contents : SessionContents) (result : Result Done RunFault) (old new : FileContents)
+      → IsFileOf contents old → Invokes command old result new
+      → StepsContents DoesStep RefusesStep command contents result old new
+  invoked_on command contents (Ok d) old new file h = done_on command contents old new d file h
+  invoked_on command contents (Err fault) old new file h =
+      (h.1, failed_on command contents old fault file h.0)
+
+  invocation_steps : ChangeResultIsUnique
+      → (command : Command) (result : Result Done RunFault) (old new : FileContents)
+      → Invokes command old result new → StepsFile command old result new
+  invocation_steps unique command (Ok d) old new h = λ contents untaken file.
+      let steps = done_on command contents old new d file h in
+      (steps.0, changes command contents steps.0 d untaken steps.1, steps.2)
+  invocation_steps unique command (Err fault) old new h =
+      (h.1, λ contents untaken file. step_file_fault unique command contents fault untaken (failed_on command contents old fault file h.0))
+
+  pub invocations_step : ChangeResultIsUnique → InvocationsStepFiles
+  invocations_step unique old new [] [] h = h
+  invocations_step unique old new [] (result ∷ results) h = h
+  invocations_step unique old new (command ∷ commands) [] h = h
+  invocations_step unique old new (command ∷ commands) (result ∷ results) (mid, first, rest) =
+      (mid, invocation_steps unique command result old mid first, invocations_step unique mid new commands results rest)
+
+  -- as clauses of `invoke`
+  pub effect_steps : ChangeResultIsUnique
+      → (command : Command) (name text journal : List ℕ) (r : Result Effect RunFault)
+      → IfOk r (HasEffect command name text journal)
+      → IfOk r (λ effect. StepsFile command (file_of text journal) (Ok effect.done) (contents_after (file_of text journal) effect.saved))
+  effect_steps unique command name text journal (Ok effect) h =
+      invocation_steps unique command (Ok effect.done) (file_of text journal) (contents_after (file_of text journal) effect.saved) (name, effect, h, refl, refl)
+  effect_steps unique command name text journal (Err fault) h = h
+
+  pub fault_steps : ChangeResultIsUnique
+      → (command : Command) (text journal : List ℕ) (r : Result Effect RunFault)
+      → IfErr r (HasNoEffect command text journal)
+      → IfErr r (λ fault. StepsFile command (file_of text journal) (Err fault) (file_of text journal))
+  fault_steps unique command text journal (Ok effect) h = h
+  fault_steps unique command text journal (Err fault) h =
+      invocation_steps unique command (Err fault) (file_of text journal) (file_of text journal) (h, refl)
 
 -- ---- over any machine, by what one command does there
 
-module _ {State : Type 0} (MayAllocate : Command → State → Type 0) (Step : Command → State → Result Done Fault → State → Type 0) (top : State → List ℕ) (HasRecords : State → List JournalEntry → Type 0) (one : Unambiguous) where
+module _ {State : Type 0} (MayAllocate : Command → State → Type 0) (Step : Command → State → Result Done Fault → State → Type 0) (top : State → List ℕ) (HasRecords : State → List JournalEntry → Type 0)
+    (DoesIt : Command → SessionContents → Done → SessionContents → Type 0) (RefusesIt : Command → SessionContents → Fault → Type 0) where
   -- a state of the machine is that of a file
   record Represents (file : FileContents) (s : State) : Type 0 where
-    text : file.text ≡ top s
     records : List JournalEntry
-    journal : IsSavedText records file.journal
+    is_file : IsFileOf (with_records (top s) records) file
     records_are : HasRecords s records
 
-  -- the command ended at a limit and changed nothing, or it has its reply and leaves another state
-  abbrev StepsOrStops : Command → State → Result Done RunFault → FileContents → FileContents → Type 0
-  StepsOrStops command s result old new =
-      ((is_limit_result result ≡ true) × (new ≡ old))
-      ⊎ ((reply : Result Done Fault) × (is_limit_result result ≡ false) × (result ≡ result_of reply)
-      × (mid : State) × Step command s reply mid × Represents new mid)
+  -- the command leaves a state of the file after it
+  abbrev StepsOrStops : Command → State → Result Done RunFault → FileContents → Type 0
+  StepsOrStops command s result new =
+      (mid : State) × StepOrLimit Step command s result mid × Represents new mid
 
   abbrev Does : Command → Type 0
-  Does command = (s : State) (js : List JournalEntry) (d : Done) (u : List ℕ) (ks : List JournalEntry) → DoesStep command (with_records (top s) js) d (with_records u ks) → HasRecords s js
+  Does command =
+      (s : State) (js : List JournalEntry) (d : Done) (u : List ℕ) (ks : List JournalEntry) → DoesIt command (with_records (top s) js) d (with_records u ks) → HasRecords s js
       → (n : State) × Step command s (Ok d) n × (u ≡ top n) × HasRecords n ks
 
   abbrev Refuses : Command → Type 0
-  Refuses command = (s : State) (js : List JournalEntry) (fault : Fault) → RefusesStep command (with_records (top s) js) fault → HasRecords s js → StepOrMemory MayAllocate Step command s (Err fault) s
+  Refuses command =
+      (s : State) (js : List JournalEntry) (fault : Fault) → RefusesIt command (with_records (top s) js) fault → HasRecords s js → StepOrMemory MayAllocate Step command s (Err fault) s
 
-  done : (command : Command) → Does command → (s : State) (old new : FileContents) (d : Done) → Represents old s → Invokes command old (Ok d) new → StepsOrStops command s (Ok d) old new
-  done command does s old new d rep (name, effect, has, is_done, is_new) =
-      let same : has.records ≡ rep.records = one old.journal has.records rep.records has.is_journal (journal_text_of rep.records old.journal rep.journal) in
-      let read : IsSavedText has.records old.journal = subst (λ (rs : List JournalEntry). IsSavedText rs old.journal) (sym same) rep.journal in
-      let here : DoesStep command (with_records (top s) rep.records) d has.new =
-      subst (λ (x : Done). DoesStep command (with_records (top s) rep.records) x has.new) (sym is_done)
-      (with_same (λ (x : SessionContents). DoesStep command x effect.done has.new) old.text (top s) has.records rep.records rep.text same has.does) in
-      let step = does s rep.records d has.new.text has.new.records here rep.records_are in
-      let saved = after old effect.saved has.records has.new read has.saved in
-      inr (
-        Ok d,
-        refl,
-        refl,
-        step.0,
-        step.1,
-        subst (λ (file : FileContents). Represents file step.0) (sym is_new) (record {
-          text = saved.0 ∙ step.2;
-          records = has.new.records;
-          journal = saved.1;
-          records_are = step.3;
-        }),
-      )
+  done : (command : Command) → Does command
+      → (s : State) (old new : FileContents) (d : Done) (rep : Represents old s)
+      → StepsContents DoesIt RefusesIt command (with_records (top s) rep.records) (Ok d) old new
+      → StepsOrStops command s (Ok d) new
+  done command does s old new d rep (left, here, file) =
+      let step = does s rep.records d left.text left.records here rep.records_are in
+      (step.0, step.1, record { records = left.records; is_file = (file.0 ∙ step.2, file.1); records_are = step.3 })
+
+  stays_there : (s : State) (old new : FileContents) → new ≡ old → Represents old s
+      → Represents new s
+  stays_there s old new same rep = subst (λ (file : FileContents). Represents file s) (sym same) rep
 
   -- a refusal is a limit or the machine's
-  refusal : (command : Command) (s : State) (old new : FileContents) (fault : Fault) → new ≡ old → Represents old s → StepOrMemory MayAllocate Step command s (Err fault) s → StepsOrStops command s (Err (run_fault_of fault)) old new
-  refusal command s old new (Fault.Scan fault) same rep step = inr (Err (Fault.Scan fault), refl, refl, s, step, subst (λ (file : FileContents). Represents file s) (sym same) rep)
-  refusal command s old new (Fault.Parse fault) same rep step = inr (Err (Fault.Parse fault), refl, refl, s, step, subst (λ (file : FileContents). Represents file s) (sym same) rep)
-  refusal command s old new (Fault.FixBroken rule) same rep step = inr (Err (Fault.FixBroken rule), refl, refl, s, step, subst (λ (file : FileContents). Represents file s) (sym same) rep)
-  refusal command s old new Fault.TooLong same rep step = inr (Err Fault.TooLong, refl, refl, s, step, subst (λ (file : FileContents). Represents file s) (sym same) rep)
-  refusal command s old new Fault.NoRecord same rep step = inr (Err Fault.NoRecord, refl, refl, s, step, subst (λ (file : FileContents). Represents file s) (sym same) rep)
-  refusal command s old new (Fault.Refused refused) same rep step = inr (Err (Fault.Refused refused), refl, refl, s, step, subst (λ (file : FileContents). Represents file s) (sym same) rep)
-  refusal command s old new Fault.Memory same rep step = inl (refl, same)
-  refusal command s old new (Fault.Blocked number) same rep step = inr (Err (Fault.Blocked number), refl, refl, s, step, subst (λ (file : FileContents). Represents file s) (sym same) rep)
+  refusal : (command : Command) (s : State) (new : FileContents) (fault : Fault) → Represents new s
+      → StepOrMemory MayAllocate Step command s (Err fault) s
+      → StepsOrStops command s (Err (run_fault_of fault)) new
+  refusal command s new (Fault.Scan fault) rep step = (s, (Fault.Scan fault, refl, step), rep)
+  refusal command s new (Fault.Parse fault) rep step = (s, (Fault.Parse fault, refl, step), rep)
+  refusal command s new (Fault.FixBroken rule) rep step = (s, (Fault.FixBroken rule, refl, step), rep)
+  refusal command s new Fault.TooLong rep step = (s, (Fault.TooLong, refl, step), rep)
+  refusal command s new Fault.NoRecord rep step = (s, (Fault.NoRecord, refl, step), rep)
+  refusal command s new (Fault.Refused refused) rep step = (s, (Fault.Refused refused, refl, step), rep)
+  refusal command s new Fault.Memory rep step = (s, refl, rep)
+  refusal command s new (Fault.Blocked number) rep step = (s, (Fault.Blocked number, refl, step), rep)
 
-  refused_step : (command : Command) → Refuses command → (s : State) (old new : FileContents) (js : List JournalEntry) (fault : Fault) → new ≡ old → Represents old s → IsJournalText old.journal js → RefusesStep command (with_records old.text js) fault → StepsOrStops command s (Err (run_fault_of fault)) old new
-  refused_step command refuses s old new js fault same rep is why =
-      let records : js ≡ rep.records = one old.journal js rep.records is (journal_text_of rep.records old.journal rep.journal) in
-      let here = with_same (λ (x : SessionContents). RefusesStep command x fault) old.text (top s) js rep.records rep.text records why in
-      refusal command s old new fault same rep (refuses s rep.records fault here rep.records_are)
+  stopped : (command : Command) → Refuses command
+      → (s : State) (old new : FileContents) (fault : RunFault) (rep : Represents old s)
+      → StepsContents DoesIt RefusesIt command (with_records (top s) rep.records) (Err fault) old new
+      → StepsOrStops command s (Err fault) new
+  stopped command refuses s old new fault rep (same, inl memory) =
+      subst (λ (f : RunFault). StepsOrStops command s (Err f) new) (sym memory) (s, refl, stays_there s old new same rep)
+  stopped command refuses s old new fault rep (same, inr (inl (endless, _, _, _, _))) =
+      subst (λ (f : RunFault). StepsOrStops command s (Err f) new) (sym endless) (s, refl, stays_there s old new same rep)
+  stopped command refuses s old new fault rep (same, inr (inr (refusing, is_fault, why))) =
+      subst (λ (f : RunFault). StepsOrStops command s (Err f) new) (sym is_fault)
+      (refusal command s new refusing (stays_there s old new same rep) (refuses s rep.records refusing why rep.records_are))
 
-  stopped : (command : Command) → Refuses command → (s : State) (old new : FileContents) (fault : RunFault) → Represents old s → HasNoEffect command old.text old.journal fault → new ≡ old → StepsOrStops command s (Err fault) old new
-  stopped command refuses s old new fault rep (inl (reading, is, why)) same =
-      inl (ap (λ (f : RunFault). is_limit_result (Err f)) is ∙ decoded old.journal rep.records reading (journal_text_of rep.records old.journal rep.journal) why, same)
-  stopped command refuses s old new fault rep (inr (inl (js, is, inl (refusing, is_fault, why)))) same =
-      subst (λ (f : RunFault). StepsOrStops command s (Err f) old new) (sym is_fault) (refused_step command refuses s old new js refusing same rep is why)
-  stopped command refuses s old new fault rep (inr (inl (js, is, inr (memory, _, _, _, _)))) same =
-      inl (ap (λ (f : RunFault). is_limit_result (Err f)) memory, same)
-  stopped command refuses s old new fault rep (inr (inr (js, is, (d, new_contents, does, _, why)))) same = inl (unsaved new_contents.records fault why, same)
-
-  invoked : (command : Command) → Does command → Refuses command → (s : State) (old new : FileContents) (result : Result Done RunFault) → Represents old s → Invokes command old result new → StepsOrStops command s result old new
-  invoked command does refuses s old new (Ok d) rep h = done command does s old new d rep h
-  invoked command does refuses s old new (Err fault) rep h = stopped command refuses s old new fault rep h.0 h.1
+  stepped_on : (command : Command) → Does command → Refuses command
+      → (s : State) (old new : FileContents) (result : Result Done RunFault) (rep : Represents old s)
+      → StepsContents DoesIt RefusesIt command (with_records (top s) rep.records) result old new
+      → StepsOrStops command s result new
+  stepped_on command does refuses s old new (Ok d) rep h = done command does s old new d rep h
+  stepped_on command does refuses s old new (Err fault) rep h = stopped command refuses s old new fault rep h
 
   -- ---- commands one after another
 
   abbrev Are : State → List Command → List (Result Done RunFault) → FileContents → Type 0
   Are = AreOneRun Step top HasRecords
 
-  skipped : (s : State) (command : Command) (commands : List Command) (result : Result Done RunFault) (results : List (Result Done RunFault)) (end : FileContents)
-      → is_limit_result result ≡ true → Are s commands results end → Are s (command ∷ commands) (result ∷ results) end
-  skipped s command commands result results end limit r = record {
-    replies = r.replies;
-    replies_are = rw limit r.replies_are;
-    state = r.state;
-    run = rw limit r.run;
-    text = r.text;
-    records = r.records;
-    journal = r.journal;
-    records_are = r.records_are;
-  }
-
-  counted : (s mid : State) (command : Command) (commands : List Command) (result : Result Done RunFault) (reply : Result Done Fault) (results : List (Result Done RunFault)) (end : FileContents)
-      → is_limit_result result ≡ false → result ≡ result_of reply → Step command s reply mid → Are mid commands results end
-      → Are s (command ∷ commands) (result ∷ results) end
-  counted s mid command commands result reply results end within is step r =
-      let rest = r.replies_are in
-      let replies : result ∷ results_within results ≡ result_of reply ∷ map result_of r.replies = cc in
-      record {
-        replies = reply ∷ r.replies;
-        replies_are = rw within replies;
-        state = r.state;
-        run = rw within (mid, step, r.run);
-        text = r.text;
-        records = r.records;
-        journal = r.journal;
-        records_are = r.records_are;
-      }
-
-  -- the commands that the machine has
-  module _ (Allowed : Command → Type 0) (does : (command : Command) → Allowed command → Does command) (refuses : (command : Command) → Allowed command → Refuses command) where
-    invoked_in_order : (s : State) (old end : FileContents) (commands : List Command) (results : List (Result Done RunFault)) → AllByRecursion Allowed commands → Represents old s → InvokesAll old commands results end → Are s commands results end
+  -- the commands that the machine has, and what is known of one on a file
+  module _ (Allowed : Command → Type 0) (does : (command : Command) → Allowed command → Does command) (refuses : (command : Command) → Allowed command → Refuses command) (Known : Command → FileContents → Result Done RunFault → FileContents → Type 0)
+      (known : (command : Command) (contents : SessionContents) (result : Result Done RunFault) (old new : FileContents) → Allowed command → IsFileOf contents old → Known command old result new → StepsContents DoesIt RefusesIt command contents result old new) where
+    invoked_in_order : (s : State) (old end : FileContents) (commands : List Command) (results : List (Result Done RunFault))
+        → AllByRecursion Allowed commands → Represents old s → RunBy Known old commands results end
+        → Are s commands results end
     invoked_in_order s old end [] [] allowed rep same = record {
-      replies = [];
-      replies_are = refl;
       state = s;
       run = refl;
-      text = ap (λ (file : FileContents). file.text) same ∙ rep.text;
+      text = ap (λ (file : FileContents). file.text) same ∙ rep.is_file.0;
       records = rep.records;
-      journal = subst (λ (file : FileContents). IsSavedText rep.records file.journal) (sym same) rep.journal;
+      journal = subst (λ (file : FileContents). IsSavedText rep.records file.journal) (sym same) rep.is_file.1;
       records_are = rep.records_are;
     }
     invoked_in_order s old end [] (result ∷ results) allowed rep h = absurd h
     invoked_in_order s old end (command ∷ commands) [] allowed rep h = absurd h
     invoked_in_order s old end (command ∷ commands) (result ∷ results) allowed rep (between, first, rest) =
-        elim (invoked command (does command allowed.0) (refuses command allowed.0) s old between result rep first) [
-          | inl (limit, same) ↦
-              skipped s command commands result results end limit
-              (invoked_in_order s between end commands results allowed.1 (subst (λ (file : FileContents). Represents file s) (sym same) rep) rest)
-          | inr (reply, within, is, mid, step, new) ↦
-              counted s mid command commands result reply results end within is step
-              (invoked_in_order mid between end commands results allowed.1 new rest)
-        ]
+        let step = stepped_on command (does command allowed.0) (refuses command allowed.0) s old between result rep (known command (with_records (top s) rep.records) result old between allowed.0 rep.is_file first) in
+        let run = invoked_in_order step.0 between end commands results allowed.1 step.2 rest in
+        record {
+          state = run.state;
+          run = (step.0, step.1, run.run);
+          text = run.text;
+          records = run.records;
+          journal = run.journal;
+          records_are = run.records_are;
+        }
 
-    pub invoked_on_text : (text : List ℕ) (s : State) (commands : List Command) (results : List (Result Done RunFault)) (end : FileContents) → text ≡ top s → HasRecords s [] → AllByRecursion Allowed commands → InvokesAll (without_journal text) commands results end → Are s commands results end
-    invoked_on_text text s commands results end is none allowed h =
+    pub are_one_run : (text : List ℕ) (s : State) (commands : List Command) (results : List (Result Done RunFault)) (end : FileContents)
+        → text ≡ top s → HasRecords s [] → AllByRecursion Allowed commands
+        → RunBy Known (without_journal text) commands results end → Are s commands results end
+    are_one_run text s commands results end is none allowed h =
         invoked_in_order s (without_journal text) end commands results allowed
-        (record { text = is; records = []; journal = (record { made = tt; is = refl }, omega arith); records_are = none }) h
+        (record { records = []; is_file = (is, (record { made = tt; is = refl }, omega arith)); records_are = none }) h
+
+-- ---- without the commands that ended at a limit
+
+module _ {State : Type 0} (Step : Command → State → Result Done Fault → State → Type 0) where
+  abbrev Within : State → List Command → List (Result Done RunFault) → State → Type 0
+  Within first commands results end =
+      (replies : List (Result Done Fault)) × (results_within results ≡ map result_of replies)
+      × RunBy Step first (commands_within commands results) replies end
+
+  skipped : (s end : State) (command : Command) (commands : List Command) (fault : RunFault) (results : List (Result Done RunFault))
+      → is_limit fault ≡ true
+      → Within s commands results end → Within s (command ∷ commands) (Err fault ∷ results) end
+  skipped s end command commands fault results limit (replies, are, run) =
+      (replies, rw limit are, rw limit run)
+
+  counted : (s mid end : State) (command : Command) (commands : List Command) (result : Result Done RunFault) (reply : Result Done Fault) (results : List (Result Done RunFault))
+      → is_limit_result result ≡ false → result ≡ result_of reply
+      → Step command s reply mid → Within mid commands results end → Within s (command ∷ commands) (result ∷ results) end
+  counted s mid end command commands result reply results within is step (replies, are, run) =
+      let same : result ∷ results_within results ≡ result_of reply ∷ map result_of replies = cc in
+      (reply ∷ replies, rw within same, rw within (mid, step, run))
+
+  ended : (b : Bool) (s mid end : State) (command : Command) (commands : List Command) (fault : RunFault) (results : List (Result Done RunFault))
+      → is_limit fault ≡ b
+      → MatchBool b (mid ≡ s) ((refusal : Fault) × (fault ≡ run_fault_of refusal) × Step command s (Err refusal) mid)
+      → Within mid commands results end → Within s (command ∷ commands) (Err fault ∷ results) end
+  ended true s mid end command commands fault results limit same rest =
+      skipped s end command commands fault results limit (subst (λ (x : State). Within x commands results end) same rest)
+  ended false s mid end command commands fault results limit (refusal, is, step) rest =
+      counted s mid end command commands (Err fault) (Err refusal) results limit (ap Err is) step rest
+
+  pub limits_change_nothing : LimitsChangeNothing Step
+  limits_change_nothing s end [] [] same = ([], refl, same)
+  limits_change_nothing s end [] (result ∷ results) h = absurd h
+  limits_change_nothing s end (command ∷ commands) [] h = absurd h
+  limits_change_nothing s end (command ∷ commands) (Ok d ∷ results) (mid, step, rest) =
+      counted s mid end command commands (Ok d) (Ok d) results refl refl step (limits_change_nothing mid end commands results rest)
+  limits_change_nothing s end (command ∷ commands) (Err fault ∷ results) (mid, step, rest) =
+      ended (is_limit fault) s mid end command commands fault results refl step (limits_change_nothing mid end commands results rest)
 
 -- ---- the two machines
 
-pub are_stack_run : Unambiguous → ChangeResultIsUnique → InvocationsAreStackRun
-are_stack_run one unique text commands results end untaken h =
-    invoked_on_text StackMayAllocate StackStep (λ s. s.top) HasStackRecords one IsNotTake
-    (λ command allowed s js d u ks does st. did command allowed s.top s.below js d u ks does st)
-    (λ command allowed s js fault why st. refused unique command allowed s.top s.below js fault why st)
+does_step : (command : Command) (old new : SessionContents) (d : Done) → IsNotTake command
+    → ChangesContents command old d new → DoesStep command old d new
+does_step Fmt old new d untaken h = h
+does_step (Fix rules) old new d untaken h = h
+does_step Revert old new d untaken h = h
+does_step (Take n) old new d untaken h = absurd untaken
+
+stays_text : (command : Command) (s : Stack) (fault : Fault)
+    → ¬ (Rewrites command s.top (Err Fault.Memory))
+    → (Rewrites command s.top (Err fault) → StackStep command s (Err fault) s)
+    → Rewrites command s.top (Err fault) → StackStepOrMemory command s (Err fault) s
+stays_text command s Fault.Memory never step h = absurd (never h)
+stays_text command s _ never step h = step h
+
+stays_revert : (t : List ℕ) (below : List StackEntry) (js : List JournalEntry) (fault : Fault)
+    → CannotRevert (with_records t js) fault → IsJournalOfStack js t below
+    → StackStepOrMemory Revert (record { top = t; below = below }) (Err fault) (record { top = t; below = below })
+stays_revert t [] js Fault.NoRecord why st = (refl, refl)
+stays_revert t (under ∷ rest) js Fault.NoRecord why st = absurd (not_nil st.0 st.1 (sym st.2 ∙ why))
+stays_revert t [] js (Fault.Refused refused) (r, last, never) st = absurd (not_nil last.0 r (sym last.1 ∙ st))
+stays_revert t (under ∷ rest) js (Fault.Refused refused) (r, last, never) st =
+    let lasts = same_last last.0 st.0 r st.1 (sym last.1 ∙ st.2) in
+    absurd (never under.text (subst (λ (r : JournalEntry). record_transforms r under.text t) (sym lasts.1) (last_transforms js t under rest st)))
+stays_revert t below js _ why st = absurd why
+
+stays_refused : (command : Command) → IsNotTake command
+    → (s : Stack) (js : List JournalEntry) (fault : Fault)
+    → RefusesContents command (with_records s.top js) fault → HasStackRecords s js
+    → StackStepOrMemory command s (Err fault) s
+stays_refused Fmt untaken s js fault why st =
+    stays_text Fmt s fault (λ never. never) (λ h. (Err fault, h, (refl, refl))) why
+stays_refused (Fix rules) untaken s js fault why st =
+    stays_text (Fix rules) s fault (λ never. never) (λ h. (Err fault, h, (refl, refl))) why
+stays_refused Revert untaken s js fault why st = stays_revert s.top s.below js fault why st
+stays_refused (Take n) untaken s js fault why st = absurd untaken
+
+pub are_stack_run : InvocationsAreStackRun
+are_stack_run text commands results end untaken h =
+    are_one_run StackMayAllocate StackStep (λ s. s.top) HasStackRecords ChangesContents RefusesContents IsNotTake
+    (λ command allowed s js d u ks does st. did command allowed s.top s.below js d u ks (does_step command (with_records s.top js) (with_records u ks) d allowed does) st)
+    stays_refused
+    StepsFile steps_contents
     text (initial_stack text) commands results end refl refl untaken h
 
 -- any command
@@ -224,21 +420,28 @@ all_are_any : (commands : List Command) → AllByRecursion IsAny commands
 all_are_any [] = tt
 all_are_any (command ∷ commands) = (tt, all_are_any commands)
 
-layer_did : MoveToEndIsUnique → (command : Command) (s : History) (js : List JournalEntry) (d : Done) (u : List ℕ) (ks : List JournalEntry) → DoesStep command (with_records (top_text s) js) d (with_records u ks) → HasHistoryRecords s js
+layer_did : MoveToEndIsUnique
+    → (command : Command) (s : History) (js : List JournalEntry) (d : Done) (u : List ℕ) (ks : List JournalEntry)
+    → DoesStep command (with_records (top_text s) js) d (with_records u ks) → HasHistoryRecords s js
     → (n : History) × HistoryStep command s (Ok d) n × (u ≡ top_text n) × HasHistoryRecords n ks
 layer_did takes_one command s js d u ks does st =
     let here : DoesStep command (with_records (top_text s) (records_in s.layers)) d (with_records u ks) = subst (λ (x : List JournalEntry). DoesStep command (with_records (top_text s) x) d (with_records u ks)) st.0 does in
     let h = acted takes_one command s d u ks here st.1 in
     (h.0, h.1, h.2, (h.3, h.4))
 
-layer_refused : ChangeResultIsUnique → MoveToEndIsUnique → TransformLengths → (command : Command) (s : History) (js : List JournalEntry) (fault : Fault) → RefusesStep command (with_records (top_text s) js) fault → HasHistoryRecords s js → HistoryStepOrMemory command s (Err fault) s
+layer_refused : ChangeResultIsUnique → MoveToEndIsUnique → TransformLengths
+    → (command : Command) (s : History) (js : List JournalEntry) (fault : Fault)
+    → RefusesStep command (with_records (top_text s) js) fault → HasHistoryRecords s js
+    → HistoryStepOrMemory command s (Err fault) s
 layer_refused unique takes_one lengths command s js fault why st =
     let here : RefusesStep command (with_records (top_text s) (records_in s.layers)) fault = subst (λ (x : List JournalEntry). RefusesStep command (with_records (top_text s) x) fault) st.0 why in
     stays unique takes_one lengths command s fault here st.1
 
-pub are_history_run : Unambiguous → ChangeResultIsUnique → MoveToEndIsUnique → TransformLengths → InvocationsAreHistoryRun
+pub are_history_run : Unambiguous → ChangeResultIsUnique → MoveToEndIsUnique → TransformLengths
+    → InvocationsAreHistoryRun
 are_history_run one unique takes_one lengths text commands results end h =
-    invoked_on_text HistoryMayAllocate HistoryStep top_text HasHistoryRecords one IsAny
+    are_one_run HistoryMayAllocate HistoryStep top_text HasHistoryRecords DoesStep RefusesStep IsAny
     (λ command allowed. layer_did takes_one command)
     (λ command allowed. layer_refused unique takes_one lengths command)
+    Invokes (λ command contents result old new allowed file h. invoked_on one command contents result old new file h)
     text (initial_history text) commands results end refl (refl, tt) (all_are_any commands) h

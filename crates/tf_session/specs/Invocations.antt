@@ -1,10 +1,10 @@
 -- What a command does to a file and its journal: from the bytes of both, as they were read, to what
 -- is to be saved and reported. And what commands do one after another, each of which reads what the
 -- one before it saved.
-use Rattle.std.specs.Prelude.{◌≡◌, ◌<◌, ◌⊎◌, ℕ, Bool, true, false, List, [], ◌∷◌, ◌++◌, map, codes, Option}
-use Rattle.std.specs.Prelude.{Some, None, Result, Ok, Err, if◌then◌else◌}
+use Rattle.std.specs.Prelude.{◌≡◌, ◌<◌, ◌⊎◌, ℕ, Bool, true, false, List, [], ◌∷◌, ◌++◌, length, map, codes}
+use Rattle.std.specs.Prelude.{Option, Some, None, Result, Ok, Err, MatchBool, if◌then◌else◌}
 use Rattle.edit_record.specs.Lists.Journal.{JournalEntry}
-use Rattle.edit_record.specs.Text.{IsJournalText}
+use Rattle.edit_record.specs.Text.{journal_text, IsJournalText}
 use Rattle.tf_lint.specs.Reports.{Report, report_lines}
 use Rattle.tf_lint.specs.Steps.{IsReport}
 use Rattle.tf_session.specs.declared.command.Command.{Command}
@@ -16,14 +16,103 @@ use Rattle.tf_session.specs.declared.fault.RunFault.TheVariants.{Memory, Endless
 use Rattle.tf_session.specs.declared.invocation.Effect.{Effect}
 use Rattle.tf_session.specs.declared.saver.SavedTexts.{SavedTexts}
 use Rattle.tf_session.specs.Faults.{run_fault_of}
-use Rattle.tf_session.specs.Journals.{IsSavedText, JournalTextFault, BadJournalFault}
+use Rattle.tf_session.specs.Journals.{MAX_JOURNAL, IsSavedText, JournalTextFault, BadJournalFault}
 use Rattle.tf_session.specs.Layers.{History, initial_history, top_text, records_in, IsHistory, HistoryStep}
-use Rattle.tf_session.specs.Machine.{Stack, initial_stack, StackStep, WithoutTake}
-use Rattle.tf_session.specs.Records.{DoesStep, RefusesStep, IsJournalOfStack}
+use Rattle.tf_session.specs.Machine.{Stack, initial_stack, StackStep, IsNotTake, WithoutTake}
+use Rattle.tf_session.specs.Records.{ChangesContents, RefusesContents, DoesStep, RefusesStep, IsJournalOfStack}
 use Rattle.tf_session.specs.Runs.{RunBy}
 use Rattle.tf_session.specs.Session.{SessionContents, with_records}
 
--- ---- one command: what a session has before it and after it
+-- ---- one command on a file
+
+-- a file's text, and the text of its journal; where there is no journal, that is empty
+pub record FileContents : Type 0 where
+  pub text : List ℕ
+  pub journal : List ℕ
+
+abbrev pub file_of : List ℕ → List ℕ → FileContents
+file_of text journal = record { text = text; journal = journal }
+
+abbrev pub without_journal : List ℕ → FileContents
+without_journal text = file_of text []
+
+abbrev pub contents_after : FileContents → Option SavedTexts → FileContents
+contents_after old None = old
+contents_after old (Some saved) = file_of saved.text.items saved.journal.items
+
+-- This is a file with this text, whose journal is the text of these records, as it is saved. A file
+-- without a journal is one without records.
+abbrev pub IsFileOf : SessionContents → FileContents → Type 0
+IsFileOf contents file = (file.text ≡ contents.text) × IsSavedText contents.records file.journal
+
+-- Why a command returns an error: memory ran out; or it succeeds, and the text of the new journal
+-- would be too long; or it is refused.
+abbrev pub StepFileFault : Command → SessionContents → RunFault → Type 0
+StepFileFault command old fault =
+    (fault ≡ Memory)
+    ⊎ ((fault ≡ Endless) × (d : Done) × (new : SessionContents) × ChangesContents command old d new
+    × (MAX_JOURNAL < length (journal_text new.records)))
+    ⊎ ((refusal : Fault) × (fault ≡ run_fault_of refusal) × RefusesContents command old refusal)
+
+-- A fmt, a fix or a revert is given on a file without a journal, or with one that was saved: what it
+-- returns, and the file after it. At an error that is the file before it.
+abbrev pub StepsFile : Command → FileContents → Result Done RunFault → FileContents → Type 0
+StepsFile command old (Ok d) new =
+    (contents : SessionContents) → IsNotTake command → IsFileOf contents old
+    → (after : SessionContents) × ChangesContents command contents d after × IsFileOf after new
+StepsFile command old (Err fault) new =
+    (new ≡ old) × ((contents : SessionContents) → IsNotTake command → IsFileOf contents old
+    → StepFileFault command contents fault)
+
+-- ---- commands one after another are one run
+
+-- memory ran out, or the new journal would be too long
+abbrev pub is_limit : RunFault → Bool
+is_limit Memory = true
+is_limit Endless = true
+is_limit _ = false
+
+-- One command, by a step of a machine: it ended at a limit and changed nothing, or it has the
+-- machine's reply.
+abbrev pub StepOrLimit : {State : Type 0} → (Command → State → Result Done Fault → State → Type 0)
+    → Command → State → Result Done RunFault → State → Type 0
+StepOrLimit Step command old (Ok d) new = Step command old (Ok d) new
+StepOrLimit Step command old (Err fault) new =
+    MatchBool (is_limit fault) (new ≡ old)
+    ((refusal : Fault) × (fault ≡ run_fault_of refusal) × Step command old (Err refusal) new)
+
+-- The commands are a run of a machine, of which this is the step, but for those that ended at a
+-- limit: its text is the file's, and the text of the file's journal is that of its records, of the
+-- current version and within the limit, so that the next command can read it.
+pub record AreOneRun {State : Type 0} (Step : Command → State → Result Done Fault → State → Type 0)
+    (top : State → List ℕ) (HasRecords : State → List JournalEntry → Type 0) (first : State)
+    (commands : List Command) (results : List (Result Done RunFault)) (end : FileContents)
+    : Type 0 where
+  pub state : State
+  pub run : RunBy (StepOrLimit Step) first commands results state
+  pub text : end.text ≡ top state
+  pub records : List JournalEntry
+  pub journal : IsSavedText records end.journal
+  pub records_are : HasRecords state records
+
+-- the records of the file's journal are those of the stack
+abbrev pub HasStackRecords : Stack → List JournalEntry → Type 0
+HasStackRecords s records = IsJournalOfStack records s.top s.below
+
+-- a run of the machine of whole texts
+abbrev pub AreStackRun : Stack → List Command → List (Result Done RunFault) → FileContents → Type 0
+AreStackRun = AreOneRun StackStep (λ s. s.top) HasStackRecords
+
+-- Fmt, fix and revert on a file that has no journal, one after another, each on what the one before
+-- it left, are one run of the machine of whole texts.
+abbrev pub InvocationsAreStackRun : Type 0
+InvocationsAreStackRun =
+    (text : List ℕ) (commands : List Command) (results : List (Result Done RunFault))
+    (end : FileContents) → WithoutTake commands
+    → RunBy StepsFile (without_journal text) commands results end
+    → AreStackRun (initial_stack text) commands results end
+
+-- ---- one command, a take too, over any bytes: what a session has before it and after it
 
 -- a command leaves text and records as they were
 abbrev pub KeepsContents : SessionContents → SessionContents → Type 0
@@ -88,27 +177,7 @@ HasNoEffect command text journal fault =
     ⊎ ((records : List JournalEntry) × IsJournalText journal records
     × NewJournalFault command (with_records text records) fault)
 
--- memory ran out, or the new journal would be too long
-abbrev pub is_limit : RunFault → Bool
-is_limit Memory = true
-is_limit Endless = true
-is_limit _ = false
-
--- ---- commands one after another
-
--- a file's text, and the text of its journal; where there is no journal, that is empty
-pub record FileContents : Type 0 where
-  pub text : List ℕ
-  pub journal : List ℕ
-
-abbrev pub without_journal : List ℕ → FileContents
-without_journal text = record { text = text; journal = [] }
-
-abbrev pub contents_after : FileContents → Option SavedTexts → FileContents
-contents_after old None = old
-contents_after old (Some saved) = record { text = saved.text.items; journal = saved.journal.items }
-
--- A command is given on a file: what it returns, and the file after it, with what was saved.
+-- Any command is given on any file: what it returns, and the file after it, with what was saved.
 abbrev pub Invokes : Command → FileContents → Result Done RunFault → FileContents → Type 0
 Invokes command old (Ok d) new =
     (name : List ℕ) × (effect : Effect) × HasEffect command name old.text old.journal effect
@@ -119,7 +188,29 @@ Invokes command old (Err fault) new = HasNoEffect command old.text old.journal f
 abbrev pub InvokesAll : FileContents → List Command → List (Result Done RunFault) → FileContents → Type 0
 InvokesAll = RunBy Invokes
 
--- ---- they are one run
+-- What is so of any file is so of one whose journal was saved.
+abbrev pub InvocationsStepFiles : Type 0
+InvocationsStepFiles =
+    (old new : FileContents) (commands : List Command) (results : List (Result Done RunFault))
+    → InvokesAll old commands results new → RunBy StepsFile old commands results new
+
+-- ---- with takes they are one run of the machine that keeps the edits
+
+abbrev pub HasHistoryRecords : History → List JournalEntry → Type 0
+HasHistoryRecords h records = (records ≡ records_in h.layers) × IsHistory h
+
+-- a run of the machine that keeps the edits
+abbrev pub AreHistoryRun : History → List Command → List (Result Done RunFault) → FileContents → Type 0
+AreHistoryRun = AreOneRun HistoryStep top_text HasHistoryRecords
+
+-- With takes among them they are one run of the machine that keeps the edits.
+abbrev pub InvocationsAreHistoryRun : Type 0
+InvocationsAreHistoryRun =
+    (text : List ℕ) (commands : List Command) (results : List (Result Done RunFault))
+    (end : FileContents) → InvokesAll (without_journal text) commands results end
+    → AreHistoryRun (initial_history text) commands results end
+
+-- ---- a command that ended at a limit might as well not have been given
 
 abbrev pub is_limit_result : Result Done RunFault → Bool
 is_limit_result (Ok d) = false
@@ -143,48 +234,11 @@ abbrev pub result_of : Result Done Fault → Result Done RunFault
 result_of (Ok d) = Ok d
 result_of (Err fault) = Err (run_fault_of fault)
 
--- The commands that did not end at a limit are a run of a machine, of which this is the step: it has
--- their replies, its text is the file's, and the text of the file's journal is that of its records,
--- of the current version and within the limit, so that the next command can read it.
-pub record AreOneRun {State : Type 0} (Step : Command → State → Result Done Fault → State → Type 0)
-    (top : State → List ℕ) (HasRecords : State → List JournalEntry → Type 0) (first : State)
-    (commands : List Command) (results : List (Result Done RunFault)) (end : FileContents)
-    : Type 0 where
-  pub replies : List (Result Done Fault)
-  pub replies_are : results_within results ≡ map result_of replies
-  pub state : State
-  pub run : RunBy Step first (commands_within commands results) replies state
-  pub text : end.text ≡ top state
-  pub records : List JournalEntry
-  pub journal : IsSavedText records end.journal
-  pub records_are : HasRecords state records
-
--- the records of the file's journal are those of the stack
-abbrev pub HasStackRecords : Stack → List JournalEntry → Type 0
-HasStackRecords s records = IsJournalOfStack records s.top s.below
-
--- a run of the machine of whole texts
-abbrev pub AreStackRun : Stack → List Command → List (Result Done RunFault) → FileContents → Type 0
-AreStackRun = AreOneRun StackStep (λ s. s.top) HasStackRecords
-
-abbrev pub HasHistoryRecords : History → List JournalEntry → Type 0
-HasHistoryRecords h records = (records ≡ records_in h.layers) × IsHistory h
-
--- a run of the machine that keeps the edits
-abbrev pub AreHistoryRun : History → List Command → List (Result Done RunFault) → FileContents → Type 0
-AreHistoryRun = AreOneRun HistoryStep top_text HasHistoryRecords
-
--- Fmt, fix and revert on a file that has no journal, one after another, each on what the one before
--- it left, are one run of the machine of whole texts.
-abbrev pub InvocationsAreStackRun : Type 0
-InvocationsAreStackRun =
-    (text : List ℕ) (commands : List Command) (results : List (Result Done RunFault))
-    (end : FileContents) → WithoutTake commands → InvokesAll (without_journal text) commands results end
-    → AreStackRun (initial_stack text) commands results end
-
--- With takes among them they are one run of the machine that keeps the edits.
-abbrev pub InvocationsAreHistoryRun : Type 0
-InvocationsAreHistoryRun =
-    (text : List ℕ) (commands : List Command) (results : List (Result Done RunFault))
-    (end : FileContents) → InvokesAll (without_journal text) commands results end
-    → AreHistoryRun (initial_history text) commands results end
+-- The commands that did not end at a limit, alone, are a run of the machine, and have its replies.
+abbrev pub LimitsChangeNothing : {State : Type 0}
+    → (Command → State → Result Done Fault → State → Type 0) → Type 0
+LimitsChangeNothing {State} Step =
+    (first end : State) (commands : List Command) (results : List (Result Done RunFault))
+    → RunBy (StepOrLimit Step) first commands results end
+    → (replies : List (Result Done Fault)) × (results_within results ≡ map result_of replies)
+    × RunBy Step first (commands_within commands results) replies end

@@ -66,15 +66,20 @@ RevertsLast old d new =
     (r : JournalEntry) × (old.records ≡ new.records ++ r ∷ []) × IsUniqueOld r new.text old.text
     × (d ≡ done (texts_differ new.text old.text) 0 0)
 
--- what a command that succeeds does
-abbrev pub DoesStep : Command → SessionContents → Done → SessionContents → Type 0
-DoesStep Fmt old d new =
+-- what a fmt, a fix or a revert that succeeds does
+abbrev pub ChangesContents : Command → SessionContents → Done → SessionContents → Type 0
+ChangesContents Fmt old d new =
     (made : Rewrite) × Rewrites Fmt old.text (Ok made) × ReplacesText Fmt made old d new
-DoesStep (Fix rules) old d new =
+ChangesContents (Fix rules) old d new =
     (made : Rewrite) × Rewrites (Fix rules) old.text (Ok made)
     × ReplacesText (Fix rules) made old d new
-DoesStep Revert old d new = RevertsLast old d new
+ChangesContents Revert old d new = RevertsLast old d new
+ChangesContents (Take n) old d new = ⊥
+
+-- what a command that succeeds does
+abbrev pub DoesStep : Command → SessionContents → Done → SessionContents → Type 0
 DoesStep (Take n) old d new = RemovesRecord n old d new
+DoesStep command old d new = ChangesContents command old d new
 
 -- what a command makes of a text that has no record before it, whatever it returns and records
 abbrev pub StepsTo : Command → List ℕ → List ℕ → Type 0
@@ -97,6 +102,22 @@ RefusesRevert contents (Refused refused) =
 RefusesRevert contents Memory =
     (r : JournalEntry) × IsLast contents.records r × HasExpectedLen Backward r.edits contents.text
 RefusesRevert contents _ = ⊥
+
+-- why a revert is refused, memory aside: there is no record, or there is no text that the last one
+-- turns into this one
+abbrev pub CannotRevert : SessionContents → Fault → Type 0
+CannotRevert contents NoRecord = contents.records ≡ []
+CannotRevert contents (Refused refused) =
+    (r : JournalEntry) × IsLast contents.records r
+    × ((u : List ℕ) → ¬ (record_transforms r u contents.text))
+CannotRevert contents _ = ⊥
+
+-- why a fmt, a fix or a revert is refused, memory aside
+abbrev pub RefusesContents : Command → SessionContents → Fault → Type 0
+RefusesContents Fmt contents fault = Rewrites Fmt contents.text (Err fault)
+RefusesContents (Fix rules) contents fault = Rewrites (Fix rules) contents.text (Err fault)
+RefusesContents Revert contents fault = CannotRevert contents fault
+RefusesContents (Take n) contents fault = ⊥
 
 -- why a command is refused
 abbrev pub RefusesStep : Command → SessionContents → Fault → Type 0

@@ -1,11 +1,12 @@
 //! One command on a file's text and the text of its journal: from their bytes to what is to be
 //! saved and reported.
 
-ghost use Rattle.std.specs.Prelude.{◌≡◌, ◌++◌, true, false, [], codes, IfOk, IfErr, string_bytes};
+ghost use Rattle.std.specs.Prelude.{◌≡◌, ◌++◌, true, false, [], codes, Ok, Err, IfOk, IfErr, string_bytes};
 ghost use Rattle.tf_session.specs.declared.command.Command.TheVariants.{Fmt, Fix};
 ghost use Rattle.tf_session.specs.Session.{contents_of, text_of, records_of};
 ghost use Rattle.tf_session.specs.Journals.{JournalTextFault};
 ghost use Rattle.tf_session.specs.Records.{DoesStep};
+ghost use Rattle.tf_session.specs.Invocations.{file_of, contents_after, StepsFile};
 ghost use Rattle.tf_session.specs.Invocations.{AreReportLines, HasEffect, HasNoEffect};
 ghost use Rattle.tf_session.specs.Invocations.{StepOrLinesFault, is_limit};
 ghost use Rattle.tf_session.specs.Inner.Saving.{must_save, AreSavedTexts};
@@ -15,6 +16,7 @@ use crate::fault::RunFault;
 use crate::saver::{SavedTexts, saved_texts};
 use crate::session::Session;
 use edit_record::decode_owned;
+use edit_record::laws::{change_result_is_unique, text_is_unambiguous};
 use std::alloc::{AllocError, Global};
 use std::mem;
 use tf_rules::RuleSet;
@@ -53,11 +55,18 @@ pub fn invoke(
     command: Command,
     name: &str,
 ) -> Result<Effect, RunFault>
+    ensures done { IfOk result (λ effect. StepsFile command (file_of text.old.items journal.items)
+        (Ok effect.done) (contents_after (file_of text.old.items journal.items) effect.saved)) }
+    ensures refused { IfErr result (λ fault. StepsFile command
+        (file_of text.old.items journal.items) (Err fault)
+        (file_of text.old.items journal.items)) }
     ensures effect { IfOk result (HasEffect command name.now text.old.items journal.items) }
     ensures fault { IfErr result (HasNoEffect command text.old.items journal.items) }
     ensures text { IfErr result
         (λ fault. is_limit fault ≡ false → text.new.items ≡ text.old.items) }
 {
+    text_is_unambiguous();
+    change_result_is_unique();
     let journal = decode_owned(alloc, journal)?;
     let mut session = Session::start(mem::replace(text, Vec::new(alloc)), journal);
     match report_step(alloc, &mut session, command, name) {

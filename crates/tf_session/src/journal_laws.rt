@@ -2,6 +2,9 @@
 //! available to the proof of its caller.
 
 ghost use Rattle.tf_session.specs.Invocations.{InvocationsAreStackRun, InvocationsAreHistoryRun};
+ghost use Rattle.tf_session.specs.Invocations.{InvocationsStepFiles, LimitsChangeNothing};
+ghost use Rattle.tf_session.specs.Layers.{HistoryStep};
+ghost use Rattle.tf_session.specs.Machine.{StackStep};
 ghost use Rattle.tf_session.specs.RevertRestores.{RevertRestores, RevertSucceeds};
 
 use edit_record::laws::{
@@ -31,10 +34,23 @@ pub fn revert_fails_only_from_outside()
 /// might as well not have been given.
 pub fn invocations_are_stack_run()
     ensures { InvocationsAreStackRun }
+{}
+
+/// What `invoke` does to any file is, for a file whose journal was saved, what it is said to do to
+/// such a file.
+pub fn invocations_step_files()
+    ensures { InvocationsStepFiles }
 {
     text_is_unambiguous();
     change_result_is_unique();
 }
+
+/// A command that ended at a limit might as well not have been given: of each such run the others,
+/// alone, are a run of the machine, with its replies.
+pub fn limits_change_nothing()
+    ensures stack { LimitsChangeNothing StackStep }
+    ensures layers { LimitsChangeNothing HistoryStep }
+{}
 
 /// Fmt, fix, revert and take on a file that has no journal, each on what the one before it saved,
 /// are one run of the layers of edits.
