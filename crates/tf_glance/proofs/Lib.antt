@@ -1,0 +1,10 @@
+pub mod Nothing
+pub mod Free
+pub mod Expressions
+pub mod Equality
+pub mod Lookup
+pub mod Templates
+pub mod Bodies
+pub mod Blocks
+pub mod Respects
+pub mod QuietMember

@@ -1,0 +1,112 @@
+-- What is seen of a node says of it what it says: whatever the makers of `glance` make of what is
+-- seen of some nodes, is seen of the node that is made of them.
+use Rattle.std.proofs.Common.{ℕ, ◌&&◌, true, false, List, refl}
+use Rattle.hcl_grammar.specs.Nodes as node
+use Rattle.hcl_grammar.specs.declared.tree.Expr.{Expr}
+use Rattle.hcl_grammar.specs.declared.tree.ExprKind.TheVariants as form
+use Rattle.hcl_grammar.specs.declared.tree.Primary.TheVariants as shape
+use Rattle.hcl_grammar.specs.declared.tree.Tail.TheVariants as variant
+use Rattle.hcl_grammar_laws.proofs.Opens.{open_conditional, open_prefixed, open_number, open_identifier, open_object, open_parens, open_name, open_attribute_splat, open_full_splat, open_index}
+use Rattle.hcl_parse.specs.Alike.{Relations, Respects}
+use Rattle.hcl_parse.specs.Nodes.{node_types, nodes}
+use Rattle.hcl_token.specs.Tokens.{Pair}
+use Rattle.tf_glance.proofs.Blocks.{LabelOf, LabelsOf, label, no_labels, labels, blocks}
+use Rattle.tf_glance.proofs.Bodies.{AttributeOf, MemberOf, MembersOf, BodyOf, ContentOf, attributes, attribute_member, no_members, members, body, block_body, line_body}
+use Rattle.tf_glance.proofs.Equality.{OperationsOf, operations, chain}
+use Rattle.tf_glance.proofs.Expressions.{left, right, ExprOf, TermOf, TailOf, TailsOf, ExprsOf, ElementsOf, IntroOf, quiet_expr, made_expr, made_term, tail_free, tails_more, postfix, exprs, tuple, elements, intro, for_tuple, for_object}
+use Rattle.tf_glance.proofs.Free.{none, more, one}
+use Rattle.tf_glance.proofs.Lookup.{NamesOf, first_name, names, call}
+use Rattle.tf_glance.proofs.Templates.{PartOf, PartsOf, TemplateOf, parts, template, literal, interpolation, if_directive, for_directive, quoted, heredoc}
+use Rattle.tf_glance.specs.Glance.{glance_types, glance}
+use Rattle.tf_glance.specs.Seen.{is_quiet}
+use Rattle.tf_glance.specs.declared.seen.Value.{Value}
+use Rattle.tf_glance.specs.declared.word.Word.{Word}
+use Rattle.tf_rules.specs.declared.role.Role.TheVariants.{Parentheses, Index, Elsewhere}
+
+module _ (pairs : List Pair) (seen_as : Word) where
+  abbrev pub seen_of : Relations glance_types node_types
+  seen_of = record {
+    Expr = ExprOf pairs;
+    Exprs = ExprsOf pairs;
+    Operations = OperationsOf pairs;
+    Term = TermOf pairs;
+    Tail = TailOf pairs;
+    Tails = TailsOf pairs;
+    Names = NamesOf pairs;
+    Elements = ElementsOf pairs;
+    Intro = IntroOf pairs;
+    Template = TemplateOf pairs;
+    Part = PartOf pairs;
+    Parts = PartsOf pairs;
+    Attribute = AttributeOf pairs seen_as;
+    Label = LabelOf pairs;
+    Labels = LabelsOf pairs seen_as;
+    Content = ContentOf pairs seen_as;
+    Member = MemberOf pairs seen_as;
+    Members = MembersOf pairs seen_as;
+    Body = BodyOf pairs seen_as;
+    Tree = λ x t. BodyOf pairs seen_as x t.body;
+  }
+
+  conditional : (i j : ℕ) (c : Value) (d : Expr) (x : Value) (y : Expr) (v : Value) (w : Expr) → ExprOf pairs c d → ExprOf pairs x y → ExprOf pairs v w
+      → ExprOf pairs ((glance pairs seen_as).conditional i j c x v) (node.expr i j (form.Conditional d y w))
+  conditional i j c d x y v w e f g = made_expr pairs (is_quiet c && (is_quiet x && is_quiet v)) i j (form.Conditional d y w) _ (open_conditional d y w) refl refl
+      (λ q role. let two = right (is_quiet c) _ q in
+      (refl, more _ _ (quiet_expr pairs c d e (left (is_quiet c) _ q) Elsewhere) (more _ _ (quiet_expr pairs x y f (left (is_quiet x) _ two) Elsewhere) (one _ (quiet_expr pairs v w g (right (is_quiet x) _ two) Elsewhere)))))
+
+  legacy : (n : ℕ) → TailOf pairs false (variant.LegacyIndex n)
+  legacy n q = absurd (cc)
+
+  pub respects : Respects (glance pairs seen_as) nodes seen_of
+  unfolding node.tree
+  respects = record {
+    conditional = λ i j c d e x y f v w g. conditional i j c d x y v w e f g;
+    chain = λ q e h n ls g. chain pairs q e n ls h g;
+    no_operations = λ w. (tt, tt);
+    add_operation = λ n ls h op q e g. operations pairs n ls op q e h g;
+    unary = λ i j op q e h. made_expr pairs (is_quiet q) i j (form.Unary op e) _ (open_prefixed op e) refl refl (λ w role. (refl, one _ (quiet_expr pairs q e h w Elsewhere)));
+    postfix = λ i j q t h b ts g. postfix pairs i j q t b ts h g;
+    no_tails = λ w splat. none;
+    add_tail = λ b ts h c t g w splat. tails_more pairs ts t splat (h (left b c w) splat) (λ s. g (right b c w) s);
+    name_tail = λ n w splat. tail_free pairs splat (variant.Name n) (rw (open_name n) refl) (rw (open_name n) none);
+    legacy_index = legacy;
+    attribute_splat = λ w splat. tail_free pairs splat variant.AttributeSplat (rw open_attribute_splat refl) (rw open_attribute_splat none);
+    full_splat = λ w splat. tail_free pairs splat variant.FullSplat (rw open_full_splat refl) (rw open_full_splat none);
+    index = λ q e h w splat. tail_free pairs splat (variant.Index e) (rw (open_index e) refl) (rw (open_index e) (one _ (quiet_expr pairs q e h w Index)));
+    number = λ i j. made_term pairs true i j shape.Number _ open_number refl refl (λ w. (refl, refl, none));
+    identifier = λ i j. made_term pairs true i j shape.Identifier _ open_identifier refl refl (λ w. (refl, refl, none));
+    call = λ i j b ns h n es g grouped. call pairs i j b ns n es grouped h g;
+    first_name = λ n. first_name pairs n;
+    add_name = λ b ns h n. names pairs b ns n h;
+    no_exprs = λ w. (tt, λ role. none);
+    add_expr = λ n es h q e g. exprs pairs n es q e h g;
+    tuple = λ i j n es h. tuple pairs i j n es h;
+    object = λ i j b xs h. made_term pairs b i j (shape.Object xs) _ (open_object xs) refl refl (λ w. (refl, refl, h w));
+    no_elements = λ w. none;
+    add_element = λ b xs h k key f q e g. elements pairs b xs k key q e h f g;
+    intro = λ i j n o q e h. intro pairs i j n o q e h;
+    for_tuple = λ i j b x f q e g o c h. for_tuple pairs i j b x q e o c f g h;
+    for_object = λ i j b x f k key g q e h grouped o c d. for_object pairs i j b x k key q e grouped o c f g h d;
+    quoted = λ i j q t h. quoted pairs i j q t h;
+    heredoc = λ i j q t h. heredoc pairs i j q t h;
+    parens = λ i j q e h. made_term pairs (is_quiet q) i j (shape.Parens e) _ (open_parens e) refl refl (λ w. (refl, refl, one _ (quiet_expr pairs q e h w Parentheses)));
+    template = λ i j q ps h. template pairs i j q ps h;
+    no_parts = λ w. (refl, none);
+    add_part = λ q ps h p x g. parts pairs q ps p x h g;
+    literal = λ n. literal pairs n;
+    interpolation = λ q e h. interpolation pairs q e h;
+    if_directive = λ i j q e f p t g o s h. if_directive pairs i j q e p t o s f g h;
+    for_directive = λ i j b x f p t g. for_directive pairs i j b x p t f g;
+    attribute = λ i j q e h. attributes pairs seen_as i j q e h;
+    label = λ i j o. label pairs i j o;
+    no_labels = no_labels pairs seen_as;
+    add_label = λ n ls h o l g. labels pairs seen_as n ls o l h g;
+    one_line = λ o a h. line_body pairs seen_as o a h;
+    block_body = λ x b h. block_body pairs seen_as x b h;
+    attribute_member = λ x a h. attribute_member pairs seen_as x a h;
+    block = λ i j n ls h x c g. blocks pairs seen_as i j n ls x c h g;
+    no_members = no_members pairs seen_as;
+    add_member = λ x ms h y m g. members pairs seen_as x ms y m h g;
+    body = λ i j x ms h. body pairs seen_as i j x ms h;
+    tree = λ n x b h. h;
+  }
