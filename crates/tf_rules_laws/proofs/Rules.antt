@@ -21,9 +21,6 @@ use Rattle.hcl_grammar.specs.declared.tree.Tail.{out-Tail, Tail}
 use Rattle.hcl_grammar.specs.declared.tree.Term.{Term}
 use Rattle.hcl_scan.specs.Follows.{tokens_of}
 use Rattle.hcl_token.specs.Tokens.{Pair}
-use Rattle.tf_quiet.proofs.Nothing as empty
-use Rattle.tf_quiet.proofs.Nothing.{Nothing}
-use Rattle.tf_quiet.proofs.QuietTokens.{AllQuiet}
 use Rattle.tf_reuse.proofs.MovedParts.{form_of, first_here}
 use Rattle.tf_reuse.proofs.RenumberedNodes as moved
 use Rattle.tf_reuse.proofs.RenumberedNodes.{MovedExpr, MovedTail, MovedTerm}
@@ -124,17 +121,3 @@ module _ (rules : RuleSet) (pairs : List Pair) (ts : List Token) (count : length
 
   pub comments_are_valid : AreValid (length pairs) (comment_findings rules pairs)
   comments_are_valid = valid.choose _ (comment_syntax.comments_are_valid pairs 0 pairs (omega arith)) valid.none
-
--- ---- where all tokens are quiet, nothing is found at a node
-
-module _ (rules : RuleSet) (pairs : List Pair) (quiet : AllQuiet (tokens_of pairs)) where
-  pub expr_nothing : (role : Role) (e : Expr) → Derives (tokens_of pairs) (expr role e) → Nothing (node_findings rules pairs (expr role e))
-  expr_nothing role e s = empty.choose (has_rule rules EmptyListEquality) (equality.equality_nothing quiet pairs e s.2 (out-ExprKind e.kind) refl) empty.none
-
-  pub term_nothing : (role : Role) (t : Term) → Derives (tokens_of pairs) (term role t) → Nothing (node_findings rules pairs (term role t))
-  term_nothing role t s =
-      empty.append (empty.choose (has_rule rules DeprecatedInterpolation) (interpolation.interpolation_nothing pairs role t.first t.past (sole_interpolation (out-Primary t.kind)) (interpolation.quoted_quiet quiet s.0.2)) empty.none)
-      (empty.choose (has_rule rules DeprecatedLookup) (lookup.lookup_nothing pairs quiet t.first t.past s.0.2) empty.none)
-
-  pub tail_nothing : (splat : Bool) (x : Tail) → Derives (tokens_of pairs) (tail splat x) → Nothing (node_findings rules pairs (tail splat x))
-  tail_nothing splat x s = empty.choose (has_rule rules DeprecatedIndex) (index.index_nothing quiet pairs splat s.4 (out-Tail x) refl) empty.none

@@ -7,7 +7,6 @@ ghost use Rattle.tf_rules_laws.specs.LegacyIndices.{LegacyIndicesAreAll, LegacyI
 ghost use Rattle.tf_rules_laws.specs.Roles.{RolesAreRight};
 ghost use Rattle.tf_rules_laws.specs.OneRule.{FindingsOfOneRule, FindingsMatchTheirRule};
 ghost use Rattle.tf_rules_laws.specs.MembersKeep.{UnchangedMembersKeepFindings};
-ghost use Rattle.tf_rules_laws.specs.QuietMembers.{QuietMembersHaveNoFindings};
 
 /// A node is determined by its own data and its children: the list of children leaves none out.
 pub fn children_are_complete()
@@ -76,10 +75,3 @@ pub fn findings_match_their_rule()
 pub fn unchanged_members_keep_findings()
     ensures { UnchangedMembersKeepFindings }
 {}
-
-/// In a member whose tokens are quiet no rule finds anything at a node.
-pub fn quiet_members_have_no_findings()
-    ensures { QuietMembersHaveNoFindings }
-{
-    tf_findings::laws::preorder_is_unique();
-}

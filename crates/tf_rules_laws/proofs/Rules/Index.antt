@@ -9,9 +9,6 @@ use Rattle.hcl_grammar_laws.proofs.Opens.{open_name, open_legacy, open_attribute
 use Rattle.hcl_scan.specs.Follows.{tokens_of}
 use Rattle.hcl_token.specs.Tokens.{Pair}
 use Rattle.hcl_token.specs.declared.kind.Kind.TheVariants.{DotIndex}
-use Rattle.tf_quiet.proofs.Nothing as empty
-use Rattle.tf_quiet.proofs.Nothing.{Nothing}
-use Rattle.tf_quiet.proofs.QuietTokens.{AllQuiet, not_index}
 use Rattle.tf_reuse.proofs.RenumberedNodes as moved
 use Rattle.tf_reuse.proofs.RenumberedNodes.{MovedTail}
 use Rattle.tf_reuse.proofs.RenumberedTrivia.{here_after}
@@ -66,20 +63,3 @@ module _ (pairs : List Pair) (ts : List Token) (count : length ts ≡ length pai
   index_is_valid splat w Tail-F.AttributeSplat h = valid.none
   index_is_valid splat w Tail-F.FullSplat h = valid.none
   index_is_valid splat w (Tail-F.Index e) h = valid.none
-
--- ---- where all tokens are quiet, nothing is found
-
-module _ {ts : List Token} (quiet : AllQuiet ts) where
-  tail_quiet : {d : ℕ} {m : Bool} {x : Tail} {i j : ℕ} → IsTail ts d m x i j → (n : ℕ) → out-Tail x ≡ Tail-F.LegacyIndex n → ⊥
-  tail_quiet (by_name {m} {i} p q) n h = let f = open_name (next_index ts m (after_next ts m i)) in absurd (cc)
-  tail_quiet (legacy {m} {i} p) n h = not_index ts quiet m i p
-  tail_quiet (attribute_splat p q) n h = let f = open_attribute_splat in absurd (cc)
-  tail_quiet (full_splat p q c) n h = let f = open_full_splat in absurd (cc)
-  tail_quiet (index {e} p x q) n h = let f = open_index e in absurd (cc)
-
-  pub index_nothing : {d : ℕ} {m : Bool} {x : Tail} {i j : ℕ} (pairs : List Pair) (splat : Bool) → IsTail ts d m x i j → (l : TailLayer) → out-Tail x ≡ l → Nothing (index_findings pairs splat l)
-  index_nothing pairs splat w (Tail-F.LegacyIndex n) h = absurd (tail_quiet w n h)
-  index_nothing pairs splat w (Tail-F.Name n) h = empty.none
-  index_nothing pairs splat w Tail-F.AttributeSplat h = empty.none
-  index_nothing pairs splat w Tail-F.FullSplat h = empty.none
-  index_nothing pairs splat w (Tail-F.Index e) h = empty.none

@@ -14,10 +14,6 @@ use Rattle.hcl_grammar_laws.proofs.Opens.{open_conditional, open_chain, open_pre
 use Rattle.hcl_scan.specs.Follows.{tokens_of}
 use Rattle.hcl_token.specs.Tokens.{Pair}
 use Rattle.hcl_token.specs.declared.kind.Kind.TheVariants as k
-use Rattle.tf_quiet.proofs.Nothing as empty
-use Rattle.tf_quiet.proofs.Nothing.{Nothing}
-use Rattle.tf_quiet.proofs.QuietTokens.{AllQuiet, Passes, not_one}
-use Rattle.tf_quiet.proofs.Walks.{pass_expr}
 use Rattle.tf_reuse.proofs.MovedParts.{form_of}
 use Rattle.tf_reuse.proofs.RenumberedNodes as moved
 use Rattle.tf_reuse.proofs.RenumberedNodes.{MovedForm, MovedShape, MovedParts, MovedFilter}
@@ -138,39 +134,3 @@ module _ (pairs : List Pair) (ts : List Token) (count : length ts ≡ length pai
       let s = term_sits w in let f = five_in w e h in let writes = is_interpolation_fixable pairs role t.first t.past e in
       valid.choose (is_object_key role) valid.none (valid.keep (length pairs) DeprecatedInterpolation t.first t.past plain_message _ s.some (omega (arith, s.within, count))
       (valid.fits t.first t.past writes (keep_one insertion.Nothing (kept (t.first + 2) (t.past - 2) insertion.Nothing)) (bared t.first t.past f)))
-
--- ---- where all tokens are quiet, nothing is found
-
-module _ {ts : List Token} (quiet : AllQuiet ts) where
-  part_quiet : {d : ℕ} {m : Bool} {x : Part} {i j : ℕ} (from : ℕ) → NextIs ts m k.QuoteOpen from → i ≡ after_next ts m from → IsPart ts d m x i j → NextIs ts m k.QuoteClose j → part_interpolation (out-Part x) ≡ None
-  unfolding node.if_part node.for_part
-  part_quiet from start e (quote_text p) c = simp (open_literal) refl
-  part_quiet from start e (here_text p) c = simp (open_literal) refl
-  part_quiet {m} from start e (interp {j} p x q) c =
-      let p' = subst (NextIs ts m k.InterpOpen) e p in
-      let inner = subst (λ (n : ℕ). Passes ts quiet (after_next ts m n) j) e (pass_expr quiet x) in
-      absurd (not_one ts quiet m from j start p' inner q c)
-  part_quiet from start e (if_directive p w y q ps o) c = simp (open_if) refl
-  part_quiet from start e (for_directive p y q ps s) c = simp (open_for) refl
-
-  parts_quiet : {d : ℕ} {m : Bool} {xs : List Part} {i j : ℕ} (from : ℕ) → NextIs ts m k.QuoteOpen from → i ≡ after_next ts m from → IsParts ts d m xs i j → NextIs ts m k.QuoteClose j → sole_part xs ≡ None
-  parts_quiet from start e no_parts c = refl
-  parts_quiet from start e (parts x no_parts) c = part_quiet from start e x c
-  parts_quiet from start e (parts x (parts y ys)) c = refl
-
-  pub quoted_quiet : {d : ℕ} {m : Bool} {t : Term} {i j : ℕ} → IsTerm ts d m t i j → sole_interpolation (out-Primary t.kind) ≡ None
-  unfolding node.term node.call node.for_tuple node.for_object node.template
-  quoted_quiet (number p) = simp (open_number) refl
-  quoted_quiet (identifier p q r) = simp (open_identifier) refl
-  quoted_quiet (call p ns q xs) = simp (open_call) refl
-  quoted_quiet (tuple p w xs) = simp (open_tuple) refl
-  quoted_quiet (object p w l es) = simp (open_object) refl
-  quoted_quiet (for_tuple p y c v f) = simp (open_for_tuple) refl
-  quoted_quiet (for_object p y c a w v s f) = simp (open_for_object) refl
-  quoted_quiet (quoted {m} {i} p xs q) = simp (open_quoted) (parts_quiet i p refl xs q)
-  quoted_quiet (heredoc p xs q) = simp (open_heredoc) refl
-  quoted_quiet (parens p w q) = simp (open_parens) refl
-
-pub interpolation_nothing : (pairs : List Pair) (role : Role) (first past : ℕ) (o : Option Expr) → o ≡ None → Nothing (interpolation_findings pairs role first past o)
-interpolation_nothing pairs role first past None h = empty.none
-interpolation_nothing pairs role first past (Some e) h = absurd (cc)

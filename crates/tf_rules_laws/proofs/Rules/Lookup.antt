@@ -18,9 +18,6 @@ use Rattle.hcl_scan.specs.Follows.{tokens_of}
 use Rattle.hcl_token.specs.TokenizedText.{spelling_of}
 use Rattle.hcl_token.specs.Tokens.{Pair}
 use Rattle.hcl_token.specs.declared.kind.Kind.TheVariants as k
-use Rattle.tf_quiet.proofs.Nothing as empty
-use Rattle.tf_quiet.proofs.Nothing.{Nothing}
-use Rattle.tf_quiet.proofs.QuietTokens.{AllQuiet, not_lookup, spelled}
 use Rattle.tf_reuse.proofs.MovedParts.{form_of, first_here, past_here}
 use Rattle.tf_reuse.proofs.RenumberedNodes as moved
 use Rattle.tf_reuse.proofs.RenumberedNodes.{MovedNumbers, MovedExpr, MovedForm, MovedTails, MovedTail, MovedShape, MovedExprs}
@@ -165,31 +162,3 @@ module _ (pairs : List Pair) (ts : List Token) (count : length ts ≡ length pai
   lookup_is_valid t w (Primary-F.Quoted x) h = valid.none
   lookup_is_valid t w (Primary-F.Heredoc x) h = valid.none
   lookup_is_valid t w (Primary-F.Parens e) h = valid.none
-
--- ---- where all tokens are quiet, nothing is found
-
-one_name : (pairs : List Pair) (n : ℕ) (ns : List ℕ) → is_lookup_token (spelling_of pairs n) ≡ false → is_lookup pairs (n ∷ ns) ≡ false
-one_name pairs n [] h = h
-one_name pairs n (x ∷ ns) h = refl
-
-module _ (pairs : List Pair) (quiet : AllQuiet (tokens_of pairs)) where
-  abbrev ts : List Token
-  ts = tokens_of pairs
-
-  name_quiet : (m : Bool) (i : ℕ) → NextIs ts m k.Identifier i → (ns : List ℕ) → is_lookup pairs (next_index ts m i ∷ ns) ≡ false
-  name_quiet m i p ns =
-      let w = not_lookup ts quiet m i p in
-      one_name pairs (next_index ts m i) ns (ap is_lookup_token (spelled pairs (next_index ts m i) w.token w.is) ∙ w.other)
-
-  pub lookup_nothing : {d : ℕ} {m : Bool} {t : Term} {i j : ℕ} (first past : ℕ) → IsTerm ts d m t i j → Nothing (lookup_findings pairs first past (out-Primary t.kind))
-  unfolding node.term node.call node.for_tuple node.for_object node.template
-  lookup_nothing first past (number p) = simp (open_number) empty.none
-  lookup_nothing first past (identifier p q r) = simp (open_identifier) empty.none
-  lookup_nothing first past (call {m} {names} {expand_final} {i} p ns q xs) = simp (open_call) (simp (call_names) (empty.unless_not _ _ _ (name_quiet m i p names) empty.none))
-  lookup_nothing first past (tuple p w xs) = simp (open_tuple) empty.none
-  lookup_nothing first past (object p w l es) = simp (open_object) empty.none
-  lookup_nothing first past (for_tuple p y c v f) = simp (open_for_tuple) empty.none
-  lookup_nothing first past (for_object p y c a w v s f) = simp (open_for_object) empty.none
-  lookup_nothing first past (quoted p xs q) = simp (open_quoted) empty.none
-  lookup_nothing first past (heredoc p xs q) = simp (open_heredoc) empty.none
-  lookup_nothing first past (parens p w q) = simp (open_parens) empty.none
