@@ -1,23 +1,28 @@
--- A member that the parser passed, of which the tokens are quiet.
-use Rattle.std.proofs.Common.{◌≡◌, ◌-◌, ◌<◌, ◌^◌, ℕ, List, Some}
+-- A member in which no rule finds anything is one that was linted, without findings.
+use Rattle.std.proofs.Common.{◌≡◌, ℕ, List, [], ◌∷◌, length, Some, sym, ap, subst, ◌∙◌}
 use Rattle.hcl_grammar.specs.declared.bounds.TheConstants.{MAX_NESTING}
 use Rattle.hcl_scan.specs.Follows.{tokens_of}
-use Rattle.hcl_token.specs.TokenizedText.{kind_of}
 use Rattle.hcl_token.specs.Tokens.{Pair}
-use Rattle.hcl_token.specs.declared.kind.Kind.TheVariants.{LineEnd}
+use Rattle.tf_findings.specs.TreeFindings.{AreTreeFindings}
+use Rattle.tf_glance.specs.QuietMember.{IsQuietMember}
 use Rattle.tf_lint.proofs.MemberAnswers.{member_derives}
-use Rattle.tf_lint.specs.Inner.QuietMember.{IsQuietMember, IsSkippedMember}
-use Rattle.tf_quiet.specs.QuietBlocks.{HasNoBlockFindings}
-use Rattle.tf_rules_laws.specs.QuietMembers.{QuietMembersHaveNoFindings}
-use Rattle.tf_quiet.specs.QuietTokens.{AreQuiet}
+use Rattle.tf_lint.specs.Inner.BodyFindings.{IsNextMember}
+use Rattle.tf_lint.specs.declared.member.LintedMember.{LintedMember}
+use Rattle.tf_rules.specs.Findings.{valid_findings}
+use Rattle.tf_rules.specs.Preorder.{member}
+use Rattle.tf_rules.specs.declared.finding.Finding.{Finding}
+use Rattle.tf_rules.specs.declared.rule_set.RuleSet.{RuleSet}
 
-pub quiet_member : QuietMembersHaveNoFindings → (pairs : List Pair) (from past : ℕ) → IsSkippedMember pairs from past
-    → AreQuiet pairs from past → kind_of pairs (past - 1) ≡ Some LineEnd → HasNoBlockFindings pairs from → past < 2 ^ 32 → IsQuietMember pairs from past
-quiet_member law pairs from past s run line nothing fits =
-    let member_is_derived = member_derives (tokens_of pairs) MAX_NESTING from s.member past s.answer in
-    record {
-      member = s.member;
-      is_member = member_is_derived;
-      at_nodes = λ rules. law rules pairs MAX_NESTING from past s.member member_is_derived line fits run;
-      at_block = λ rules. nothing.each rules MAX_NESTING past s.member member_is_derived;
-    }
+pub quiet_next : (rules : RuleSet) (pairs : List Pair) (from past : ℕ) (x : LintedMember) → IsQuietMember pairs from past → x.from ≡ from → x.past ≡ past → x.node_findings.items ≡ [] → x.block_findings.items ≡ []
+    → IsNextMember rules pairs from (Some x) past
+quiet_next rules pairs from past x q starts ends at_nodes at_block =
+    let member_is_derived = member_derives (tokens_of pairs) MAX_NESTING from q.member past q.answer in (
+      starts,
+      ends,
+      record {
+        member = q.member;
+        is_member = rw (starts, ends) member_is_derived;
+        at_nodes = subst (λ (found : List Finding). AreTreeFindings rules pairs (member q.member ∷ []) found) (sym at_nodes) (q.at_nodes rules);
+        at_block = at_block ∙ sym (ap (valid_findings (length pairs)) (q.at_block rules));
+      },
+    )

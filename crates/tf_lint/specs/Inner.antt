@@ -5,4 +5,3 @@ pub mod LineParts
 pub mod FirstChange
 pub mod BodyFindings
 pub mod FixState
-pub mod QuietMember

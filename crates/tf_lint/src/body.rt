@@ -95,6 +95,17 @@ fn add_member(
     }
 }
 
+/// After this number of members in a row in which something was found, it is likely in the next one.
+const LIKELY: u32 = 2;
+
+/// Returns how many members in a row have findings, with one more after this number of them.
+fn count_in_a_row(before: u32, x: &LintedMember) -> u32 {
+    if x.node_findings.is_empty() && x.block_findings.is_empty() {
+        return 0;
+    }
+    before.saturating_add(1)
+}
+
 /// Reads the members of a body and returns what the rules find in them.
 ///
 /// # Errors
@@ -119,13 +130,16 @@ pub fn lint_body(
         node_findings: Vec::new(alloc),
         block_findings: Vec::new(alloc),
     };
+    let mut in_a_row = 0;
     for _turn in 0..search.scanned.len() {
         if reader.eat_newline(at) {
             continue;
         }
-        let Some(x) = next_member(alloc, search, found.members.len(), at)? else {
+        let is_likely = in_a_row >= LIKELY;
+        let Some(x) = next_member(alloc, search, found.members.len(), is_likely, at)? else {
             return Ok(found);
         };
+        in_a_row = count_in_a_row(in_a_row, &x);
         add_member(&mut found, x, search.keep_members)?;
     }
     Ok(found)

@@ -1,6 +1,6 @@
 //! One member of a text's body, and what the rules find in it.
 
-ghost use Rattle.std.specs.Prelude.{◌≡◌, ◌≢◌, ◌+◌, ◌-◌, ◌<◌, ◌^◌, ◌∷◌, [], length, true, false, None, IfOk};
+ghost use Rattle.std.specs.Prelude.{◌≡◌, ◌≢◌, ◌+◌, ◌-◌, ◌<◌, ◌^◌, ◌∷◌, [], length, true, false, None, Ok, IfOk};
 ghost use Rattle.std.specs.Prelude.{IfErr, IfSome, Err};
 ghost use Rattle.hcl_grammar.specs.Pure.BodyParser as spec;
 ghost use Rattle.hcl_grammar.specs.Tokens as tokens;
@@ -9,6 +9,7 @@ ghost use Rattle.hcl_grammar.specs.declared.bounds.TheConstants.{MAX_NESTING};
 ghost use Rattle.hcl_scan.specs.Follows.{tokens_of};
 ghost use Rattle.tf_rules.specs.Preorder as node;
 ghost use Rattle.tf_findings.specs.TreeFindings.{AreTreeFindings};
+ghost use Rattle.tf_glance.specs.QuietMember.{IsQuietMember, IsMemberFault};
 ghost use Rattle.tf_reuse.specs.SameTokens.{SameTokens};
 ghost use Rattle.tf_lint.specs.Inner.BodyFindings.{IsNextMember};
 ghost use Rattle.tf_lint.specs.LintedMembers.{IsLintedMember, AreLintedMembers};
@@ -16,7 +17,6 @@ ghost use Rattle.tf_rules.specs.Findings.{valid_findings};
 ghost use Rattle.tf_rules.specs.declared.rule_set.RuleSet.{RuleSet};
 ghost use Rattle.tf_rules.specs.Rules.{top_level_member_findings};
 
-use crate::quiet_member::skip_quiet_member;
 use crate::search::Search;
 use crate::tokens::same_tokens;
 use hcl_grammar::fault::TokenFault;
@@ -25,6 +25,7 @@ use hcl_scan::Scanned;
 use hcl_tree::MAX_NESTING;
 use hcl_tree::reading::{Reader, member};
 use std::alloc::{AllocError, Global};
+use tf_glance::skip_quiet_member;
 use tf_reuse::renumber_findings;
 use tf_rules::{Finding, RuleSet};
 use tf_rules_laws::laws::unchanged_members_keep_findings;
@@ -107,13 +108,32 @@ fn quiet_member(alloc: Global, from: u32, past: u32) -> LintedMember
     }
 }
 
+/// Skips the next member if a glance sees nothing for a rule to find in it, and returns whether it
+/// did; else the place stays. Where something is likely to be found no glance is taken.
+fn skip_unlikely_member(
+    alloc: Global,
+    scanned: &Scanned<'_>,
+    is_likely: bool,
+    at: &mut u32,
+) -> Result<bool, TokenFault>
+    ensures passed { result ≡ Ok true → IsQuietMember scanned.now.pairs at.old at.new }
+    ensures stays { result ≡ Ok false → at.new ≡ at.old }
+    ensures fault { IfErr result (λ e. IsMemberFault scanned.now.pairs at.old e) }
+{
+    if is_likely {
+        return Ok(false);
+    }
+    skip_quiet_member(alloc, scanned, at)
+}
+
 /// Reads the next member from token `at` on and returns it with its findings, or `None` if there is
-/// none. Moves `at` to the end of what was read. No tree is made of a member whose tokens show that
-/// no rule can find anything in it.
+/// none. Moves `at` to the end of what was read. No tree is made of a member in which a glance sees
+/// nothing for a rule to find.
 fn lint_next_member(
     alloc: Global,
     scanned: &Scanned<'_>,
     rules: RuleSet,
+    is_likely: bool,
     at: &mut u32,
 ) -> Result<Option<LintedMember>, TokenFault>
     ensures next { IfOk result (λ x. IsNextMember rules scanned.now.pairs at.old x at.new) }
@@ -123,7 +143,7 @@ fn lint_next_member(
         ≡ Err e) }
 {
     let from = *at;
-    if skip_quiet_member(alloc, scanned, at)? {
+    if skip_unlikely_member(alloc, scanned, is_likely, at)? {
         return Ok(Some(quiet_member(alloc, from, *at)));
     }
     let Some(x) = member(&Reader::new(alloc, scanned), at)? else {
@@ -219,7 +239,8 @@ fn reuse_member_at(
 }
 
 /// Returns the next member, if there is one: that of the old text with this index, if its tokens
-/// are here, else as it is read.
+/// are here, else as it is read. For speed alone it is said whether a rule is likely to find
+/// something in it.
 ///
 /// # Errors
 ///
@@ -228,6 +249,7 @@ pub fn next_member(
     alloc: Global,
     search: &Search<'_, '_, '_>,
     index: usize,
+    is_likely: bool,
     at: &mut u32,
 ) -> Result<Option<LintedMember>, TokenFault>
     requires { AreLintedMembers search.now.rules search.now.old.now.pairs search.now.old_members.now }
@@ -239,7 +261,7 @@ pub fn next_member(
         ≡ Err e) }
 {
     let Some(x) = reuse_member_at(alloc, search, index, *at)? else {
-        return lint_next_member(alloc, search.scanned, search.rules, at);
+        return lint_next_member(alloc, search.scanned, search.rules, is_likely, at);
     };
     *at = x.past;
     Ok(Some(x))
