@@ -1,6 +1,7 @@
 -- What an explanation says of a text without tokens.
 use Rattle.std.specs.Prelude.{◌≡◌, ℕ, ◌⊎◌, true, false, List, drop}
 use Rattle.std.specs.Prelude.{Option, Some, None}
+use Rattle.hcl_scan.specs.Fault.{byte_of_fault}
 use Rattle.hcl_scan.specs.declared.fault.ScanFault.{ScanFault}
 use Rattle.hcl_scan.specs.declared.fault.ScanFault.TheVariants as fault
 use Rattle.hcl_explain.specs.Heredocs.{IsOpeningBefore}
@@ -142,13 +143,8 @@ IsExplanationHere text error o = o ≡ explanation_of error
 
 -- the byte of an error that may be in the lines of a heredoc, read as values
 abbrev pub place_in_values : ScanFault → Option ℕ
-place_in_values (fault.OpenString at) = Some at
-place_in_values (fault.OpenTemplate at) = Some at
-place_in_values (fault.OpenHeredoc at) = Some at
-place_in_values (fault.OpenComment at) = Some at
-place_in_values (fault.BadCharacter at) = Some at
-place_in_values (fault.BadEscape at) = Some at
-place_in_values _ = None
+place_in_values (fault.NotUtf8 at) = None
+place_in_values error = byte_of_fault error
 
 -- the opening of a heredoc in a line before that byte is named, if it is a mistake; else this is so
 abbrev pub OpeningOr : List ℕ → Option ℕ → Option ScanExplanation → Type 0 → Type 0

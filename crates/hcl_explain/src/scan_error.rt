@@ -95,13 +95,8 @@ fn place_in_values(fault: ScanFault) -> Option<usize>
     ensures { result ≡ place_in_values fault }
 {
     match fault {
-        ScanFault::OpenString { at }
-        | ScanFault::OpenTemplate { at }
-        | ScanFault::OpenHeredoc { at }
-        | ScanFault::OpenComment { at }
-        | ScanFault::BadCharacter { at }
-        | ScanFault::BadEscape { at } => Some(at),
-        ScanFault::NotUtf8 { .. } | ScanFault::TooLong | ScanFault::Memory => None,
+        ScanFault::NotUtf8 { .. } => None,
+        fault => fault.at(),
     }
 }
 

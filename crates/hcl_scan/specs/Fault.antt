@@ -2,7 +2,7 @@
 -- are this project's own; the tokens are those of the HCL native syntax specification, Lexical
 -- Elements.
 use Rattle.std.specs.Prelude.{◌≡◌, ◌≢◌, ℕ, suc, ◌+◌, ◌-◌, ◌<◌, ◌≤◌, false, ◌&&◌, if◌then◌else◌, List, [], ◌∷◌}
-use Rattle.std.specs.Prelude.{◌++◌, length, map, zip, drop, slice_index, IsUtf8, ◌==◌, ◌⊎◌}
+use Rattle.std.specs.Prelude.{◌++◌, length, map, zip, drop, slice_index, IsUtf8, ◌==◌, ◌⊎◌, Option, Some, None}
 use Rattle.std.specs.Str.{IsValidUpTo}
 use Rattle.hcl_token.specs.Bytes.{star, slash, backslash}
 use Rattle.hcl_token.specs.declared.kind.Kind.{Kind}
@@ -10,12 +10,24 @@ use Rattle.hcl_token.specs.Tokens.{Pair, whole_text}
 use Rattle.hcl_scan.specs.declared.fault.ScanFault.{ScanFault}
 use Rattle.hcl_scan.specs.declared.fault.ScanFault.TheVariants.{TooLong, NotUtf8, BadCharacter, BadEscape}
 use Rattle.hcl_scan.specs.declared.fault.ScanFault.TheVariants.{OpenString, OpenTemplate, OpenHeredoc}
-use Rattle.hcl_scan.specs.declared.fault.ScanFault.TheVariants.{OpenComment}
+use Rattle.hcl_scan.specs.declared.fault.ScanFault.TheVariants.{OpenComment, Memory}
 use Rattle.hcl_scan.specs.Characters.{is_whitespace}
 use Rattle.hcl_scan.specs.Modes.{Mode, mode_of, is_literal, is_braces, modes_after}
 use Rattle.hcl_scan.specs.Modes.Mode.{Expression, Sequence, Braces, Quoted, Heredoc}
 use Rattle.hcl_scan.specs.Lexeme.{IsLexeme}
 use Rattle.hcl_scan.specs.Tokenization.{IsGap, TokenizesPrefix, MAX_TEXT}
+
+-- the byte of an error, if it is at one
+abbrev pub byte_of_fault : ScanFault → Option ℕ
+byte_of_fault TooLong = None
+byte_of_fault Memory = None
+byte_of_fault (NotUtf8 at) = Some at
+byte_of_fault (BadCharacter at) = Some at
+byte_of_fault (BadEscape at) = Some at
+byte_of_fault (OpenString at) = Some at
+byte_of_fault (OpenTemplate at) = Some at
+byte_of_fault (OpenHeredoc at) = Some at
+byte_of_fault (OpenComment at) = Some at
 
 -- this text does not begin with a gap and a token of the mode
 abbrev pub HasNoToken : Mode → List ℕ → Type 0

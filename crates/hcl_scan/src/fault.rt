@@ -1,6 +1,7 @@
 //! Why a text has no tokens.
 
 ghost use Rattle.std.specs.Prelude.{◌≡◌};
+ghost use Rattle.hcl_scan.specs.Fault.{byte_of_fault};
 
 use hcl_token::MAX_TEXT;
 use std::alloc::{AllocError, AllocFailed};
@@ -39,6 +40,24 @@ pub enum ScanFault {
     /// An allocation failed.
     #[error("out of memory")]
     Memory,
+}
+
+impl ScanFault {
+    /// Returns its byte, from 0, if it is at one.
+    pub fn at(&self) -> Option<usize>
+        ensures { result ≡ byte_of_fault self.now }
+    {
+        match self {
+            ScanFault::NotUtf8 { at }
+            | ScanFault::BadCharacter { at }
+            | ScanFault::BadEscape { at }
+            | ScanFault::OpenString { at }
+            | ScanFault::OpenTemplate { at }
+            | ScanFault::OpenHeredoc { at }
+            | ScanFault::OpenComment { at } => Some(*at),
+            ScanFault::TooLong | ScanFault::Memory => None,
+        }
+    }
 }
 
 impl From<AllocError> for ScanFault {

@@ -5,8 +5,7 @@ use Rattle.std.specs.Prelude.{None, Bool, true, false}
 use Rattle.hcl_scan.specs.Characters.{is_prefix_of}
 use Rattle.std.specs.Str.{is_utf8}
 use Rattle.hcl_scan.specs.Tokenization.{byte_order_mark}
-use Rattle.hcl_scan.specs.declared.fault.ScanFault.{ScanFault}
-use Rattle.hcl_scan.specs.declared.fault.ScanFault.TheVariants as scan
+use Rattle.hcl_scan.specs.Fault.{byte_of_fault}
 use Rattle.hcl_text_laws.specs.declared.fault.ParseFault.{ParseFault}
 use Rattle.hcl_text_laws.specs.declared.fault.ParseFault.TheVariants as parse
 use Rattle.hcl_token.specs.Place.{is_lf, clusters, last_line}
@@ -36,17 +35,6 @@ IsLocation text at location =
 
 -- ---- the byte of an error
 
-abbrev pub byte_of_scan_fault : ScanFault → Option ℕ
-byte_of_scan_fault scan.TooLong = None
-byte_of_scan_fault (scan.NotUtf8 at) = Some at
-byte_of_scan_fault (scan.BadCharacter at) = Some at
-byte_of_scan_fault (scan.BadEscape at) = Some at
-byte_of_scan_fault (scan.OpenString at) = Some at
-byte_of_scan_fault (scan.OpenTemplate at) = Some at
-byte_of_scan_fault (scan.OpenHeredoc at) = Some at
-byte_of_scan_fault (scan.OpenComment at) = Some at
-byte_of_scan_fault scan.Memory = None
-
 abbrev pub byte_of_parse_fault : ParseFault → Option ℕ
 byte_of_parse_fault (parse.Syntax at) = Some at
 byte_of_parse_fault (parse.TooDeep at) = Some at
@@ -54,7 +42,7 @@ byte_of_parse_fault parse.Memory = None
 
 -- none of the errors of a journal is at a byte of the file
 abbrev pub byte_of : RunFault → Option ℕ
-byte_of (fault.Scan error) = byte_of_scan_fault error
+byte_of (fault.Scan error) = byte_of_fault error
 byte_of (fault.Parse error) = byte_of_parse_fault error
 byte_of _ = None
 

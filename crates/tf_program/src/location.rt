@@ -5,11 +5,11 @@ ghost use Rattle.hcl_scan.specs.Characters.{is_prefix_of};
 ghost use Rattle.hcl_scan.specs.Tokenization.{byte_order_mark};
 ghost use Rattle.hcl_token.specs.Place.{is_lf, last_line};
 ghost use Rattle.tf_program.specs.Location.{IsLocation, text_before, without_mark, columns};
-ghost use Rattle.tf_program.specs.Location.{byte_of, byte_of_scan_fault, byte_of_parse_fault};
+ghost use Rattle.tf_program.specs.Location.{byte_of, byte_of_parse_fault};
 
 use hcl_token::clusters;
 use memchr::memrchr;
-use tf_session::{ParseFault, RunFault, ScanFault};
+use tf_session::{ParseFault, RunFault};
 
 /// A line and a column, both counted from 1. A column counts extended grapheme clusters.
 #[derive(Clone, Copy)]
@@ -108,25 +108,9 @@ pub fn byte_of(fault: &RunFault) -> Option<usize>
     ensures { result ≡ byte_of fault.now }
 {
     match fault {
-        RunFault::Scan(fault) => byte_of_scan_fault(fault),
+        RunFault::Scan(fault) => fault.at(),
         RunFault::Parse(fault) => byte_of_parse_fault(fault),
         _ => None,
-    }
-}
-
-/// Returns the byte at which tokenizing failed, if it failed at one.
-fn byte_of_scan_fault(fault: &ScanFault) -> Option<usize>
-    ensures { result ≡ byte_of_scan_fault fault.now }
-{
-    match fault {
-        ScanFault::NotUtf8 { at }
-        | ScanFault::BadCharacter { at }
-        | ScanFault::BadEscape { at }
-        | ScanFault::OpenString { at }
-        | ScanFault::OpenTemplate { at }
-        | ScanFault::OpenHeredoc { at }
-        | ScanFault::OpenComment { at } => Some(*at),
-        ScanFault::TooLong | ScanFault::Memory => None,
     }
 }
 

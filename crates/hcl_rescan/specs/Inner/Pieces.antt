@@ -1,9 +1,7 @@
 -- Pieces of a text: those that were replaced, and those that are scanned by themselves.
 use Rattle.std.specs.Prelude.{◌≡◌, ℕ, ◌+◌, ◌<◌, ◌≤◌, List, slice_get, Some}
 use Rattle.hcl_scan.specs.declared.fault.ScanFault.{ScanFault}
-use Rattle.hcl_scan.specs.declared.fault.ScanFault.TheVariants.{TooLong, NotUtf8, BadCharacter, BadEscape}
-use Rattle.hcl_scan.specs.declared.fault.ScanFault.TheVariants.{OpenString, OpenTemplate, OpenHeredoc}
-use Rattle.hcl_scan.specs.declared.fault.ScanFault.TheVariants.{OpenComment, Memory}
+use Rattle.hcl_scan.specs.declared.fault.ScanFault.TheVariants.{Memory}
 use Rattle.hcl_rescan.specs.declared.incremental.RescanFault.{RescanFault}
 use Rattle.hcl_rescan.specs.declared.incremental.ReplacedRange.{ReplacedRange}
 
@@ -16,12 +14,5 @@ AreBefore pieces from to at =
 -- why a text is not tokenized by its pieces, by the error of a piece: where memory did not run out
 -- the piece has no tokens by itself, and the whole text is scanned
 abbrev pub fault_of_part : ScanFault → RescanFault
-fault_of_part TooLong = RescanFault.Mismatch
-fault_of_part (NotUtf8 at) = RescanFault.Mismatch
-fault_of_part (BadCharacter at) = RescanFault.Mismatch
-fault_of_part (BadEscape at) = RescanFault.Mismatch
-fault_of_part (OpenString at) = RescanFault.Mismatch
-fault_of_part (OpenTemplate at) = RescanFault.Mismatch
-fault_of_part (OpenHeredoc at) = RescanFault.Mismatch
-fault_of_part (OpenComment at) = RescanFault.Mismatch
 fault_of_part Memory = RescanFault.Memory
+fault_of_part _ = RescanFault.Mismatch

@@ -5,7 +5,7 @@ use Rattle.hcl_text_laws.specs.Parses.{Parses}
 use Rattle.hcl_text_laws.specs.Faults.{IsMemory, IsMemoryOrDeep}
 use Rattle.hcl_text_laws.specs.declared.fault.ParseFault.TheVariants as parse
 use Rattle.hcl_text_laws.specs.declared.fault.ParseFault.{ParseFault}
-use Rattle.hcl_check.specs.CheckResult.{IsTooDeep}
+use Rattle.hcl_tree.specs.CheckResult.{IsTooDeep}
 use Rattle.tf_lint.specs.Faults.{fault_of_parse}
 use Rattle.tf_lint.specs.ParseFaults.{IsReadFault}
 use Rattle.tf_lint.proofs.DoesNotParse.{not_parsed}
