@@ -1,5 +1,5 @@
 -- The parser answers each derivation of a body, and of a whole text.
-use Rattle.std.proofs.Common.{◌≡◌, ◌≢◌, ℕ, zero, suc, ◌+◌, ◌≤◌, true, false, List, [], ◌∷◌, ◌++◌, length, Option, Some, None, Ok, refl, sym, ap, ◌∙◌, append_assoc, append-nil, arith}
+use Rattle.std.proofs.Common.{◌≡◌, ◌≢◌, ℕ, zero, suc, ◌+◌, ◌≤◌, false, List, [], ◌∷◌, ◌++◌, length, Option, Some, None, Ok, refl, sym, ap, ◌∙◌, append_assoc, append-nil, arith}
 use Rattle.hcl_token.specs.declared.kind.Kind.{Kind}
 use Rattle.hcl_token.specs.declared.kind.Kind.TheVariants as k
 use Rattle.hcl_grammar.specs.declared.goal.Goal.TheVariants.{Whole}
@@ -16,8 +16,10 @@ use Rattle.hcl_grammar.specs.Pure.BodyParser as bodies
 use Rattle.hcl_grammar.specs.Pure.BodyParser.{deeper_members}
 use Rattle.hcl_grammar.specs.Lookahead.{NextIs, IsNewline, line_end, comment, IsEol, eol_line, eol_end, eol_comment}
 use Rattle.hcl_grammar.specs.Nodes as node
+use Rattle.hcl_grammar.specs.Pure.NodeMakers.{nodes}
 use Rattle.hcl_grammar.specs.Pure.Parser as p
 use Rattle.hcl_grammar.specs.Pure.Reading.{next_is, after_if_next}
+use Rattle.hcl_grammar.specs.Pure.Steps as steps
 use Rattle.hcl_grammar.specs.Tokens.{Token, next_index, next_kind, after_next, first_token_in, same_kind}
 use Rattle.hcl_grammar_laws.proofs.Ahead.{Stops, stops_at, sees-not, sees-other}
 use Rattle.hcl_grammar_laws.proofs.Complete.{nested, c_expr}
@@ -44,12 +46,12 @@ module _ (ts : List Token) where
   unfolding same_kind
   no_inner_name i h = no_inner (sees-other ts false k.Identifier k.LineComment i h refl) (sees-other ts false k.Identifier k.LineEnd i h refl)
 
-  pub line-no : (i : ℕ) → NextIs ts false k.LineComment i → next_kind ts false (after_next ts false i) ≡ None → p.eat_newline ts i ≡ Ok (false, i)
-  unfolding p.eat_newline
+  pub line-no : (i : ℕ) → NextIs ts false k.LineComment i → next_kind ts false (after_next ts false i) ≡ None → steps.eat_newline ts i ≡ Ok (false, i)
+  unfolding steps.eat_newline
   line-no i q h = rw (if_next-yes ts false k.LineComment i q, unlike k.LineEnd (after_next ts false i) h)
 
-  eol-yes : {i j : ℕ} → IsEol ts i j → bodies.eol ts i ≡ Ok (tt, j)
-  unfolding bodies.eol
+  eol-yes : {i j : ℕ} → IsEol ts i j → steps.eol ts i ≡ Ok (tt, j)
+  unfolding steps.eol
   eol-yes (eol_line q) = rw (line-yes q)
   eol-yes (eol_end {i} h) = let n = unlike k.LineComment i h in rw ((no_line_end i h).is, if_next-no ts false k.LineComment i n, h)
   eol-yes (eol_comment {i} q h) = rw (line-no i q h, if_next-yes ts false k.LineComment i q, h)
@@ -62,35 +64,35 @@ module _ (ts : List Token) where
 
   -- ---- labels
 
-  label-at : (o : Option Kind) (i : ℕ) → next_kind ts false i ≡ o → bodies.label_of ts i ≡ bodies.label_by ts (next_index ts false i) o i
+  label-at : (o : Option Kind) (i : ℕ) → next_kind ts false i ≡ o → bodies.label_of nodes ts i ≡ bodies.label_by nodes ts (next_index ts false i) o i
   unfolding bodies.label_of
-  label-at o i h = ap (λ o. bodies.label_by ts (next_index ts false i) o i) h
+  label-at o i h = ap (λ o. bodies.label_by nodes ts (next_index ts false i) o i) h
 
-  labels-end : (turns : ℕ) (acc : List Label) (i : ℕ) → NextIs ts false k.OpenBrace i → bodies.labels_from ts turns acc i ≡ Ok (acc, i)
+  labels-end : (turns : ℕ) (acc : List Label) (i : ℕ) → NextIs ts false k.OpenBrace i → bodies.labels_from nodes ts turns acc i ≡ Ok (acc, i)
   unfolding bodies.labels_from
   labels-end zero acc i h = refl
   labels-end (suc turns) acc i h = rw (label-at (Some k.OpenBrace) i h)
 
-  labels-more : {x : Label} {j l : ℕ} (ls : List Label) (turns : ℕ) (acc : List Label) (i : ℕ) → bodies.label_of ts i ≡ Ok (Some x, j)
-      → bodies.labels_from ts turns (acc ++ x ∷ []) j ≡ Ok ((acc ++ x ∷ []) ++ ls, l)
-      → bodies.labels_from ts (suc turns) acc i ≡ Ok (acc ++ x ∷ ls, l)
+  labels-more : {x : Label} {j l : ℕ} (ls : List Label) (turns : ℕ) (acc : List Label) (i : ℕ) → bodies.label_of nodes ts i ≡ Ok (Some x, j)
+      → bodies.labels_from nodes ts turns (acc ++ x ∷ []) j ≡ Ok ((acc ++ x ∷ []) ++ ls, l)
+      → bodies.labels_from nodes ts (suc turns) acc i ≡ Ok (acc ++ x ∷ ls, l)
   unfolding bodies.labels_from
   labels-more {x} {l} ls turns acc i h more = rw h (more ∙ ap (λ xs. Ok (xs, l)) (append_assoc acc (x ∷ []) ls))
 
   label_text : (i : ℕ) → NextIs ts false k.QuoteOpen i → NextIs ts false k.QuoteLit (after_next ts false i) → NextIs ts false k.QuoteClose (after_next ts false (after_next ts false i))
-      → bodies.label_of ts i ≡ Ok (Some (node.label (next_index ts false i) (after_next ts false (after_next ts false (after_next ts false i))) (Some (next_index ts false (after_next ts false i)))), after_next ts false (after_next ts false (after_next ts false i)))
+      → bodies.label_of nodes ts i ≡ Ok (Some (node.label (next_index ts false i) (after_next ts false (after_next ts false (after_next ts false i))) (Some (next_index ts false (after_next ts false i)))), after_next ts false (after_next ts false (after_next ts false i)))
   unfolding bodies.quoted_label
   label_text i a b c =
       rw (label-at (Some k.QuoteOpen) i a, sees-yes ts false k.QuoteLit (after_next ts false i) b, if_next-yes ts false k.QuoteLit (after_next ts false i) b, expect-yes ts false k.QuoteClose (after_next ts false (after_next ts false i)) c)
 
   label_empty : (i : ℕ) → NextIs ts false k.QuoteOpen i → NextIs ts false k.QuoteClose (after_next ts false i)
-      → bodies.label_of ts i ≡ Ok (Some (node.label (next_index ts false i) (after_next ts false (after_next ts false i)) None), after_next ts false (after_next ts false i))
+      → bodies.label_of nodes ts i ≡ Ok (Some (node.label (next_index ts false i) (after_next ts false (after_next ts false i)) None), after_next ts false (after_next ts false i))
   unfolding bodies.quoted_label same_kind
   label_empty i a c =
       let n = sees-other ts false k.QuoteClose k.QuoteLit (after_next ts false i) c refl in
       rw (label-at (Some k.QuoteOpen) i a, n, if_next-no ts false k.QuoteLit (after_next ts false i) n, expect-yes ts false k.QuoteClose (after_next ts false i) c)
 
-  labels-yes : {ls : List Label} {i j : ℕ} → IsLabels ts ls i j → NextIs ts false k.OpenBrace j → (turns : ℕ) (acc : List Label) → j ≤ turns + i → bodies.labels_from ts turns acc i ≡ Ok (acc ++ ls, j)
+  labels-yes : {ls : List Label} {i j : ℕ} → IsLabels ts ls i j → NextIs ts false k.OpenBrace j → (turns : ℕ) (acc : List Label) → j ≤ turns + i → bodies.labels_from nodes ts turns acc i ≡ Ok (acc ++ ls, j)
   labels-yes (no_labels {i}) s turns acc l = labels-end turns acc i s ∙ ap (λ xs. Ok (xs, i)) (sym (append-nil acc))
   labels-yes (word_label {i} q ls) s zero acc l = absurd (omega (arith, (step ts false k.Identifier i q).forth, (span_labels ls).forth))
   labels-yes (word_label {ls = xs} {i} q ls) s (suc turns) acc l =
@@ -106,7 +108,7 @@ module _ (ts : List Token) where
       labels-more xs turns acc i (label_empty i a c)
       (labels-yes ls s turns (acc ++ node.label (next_index ts false i) (after_next ts false (after_next ts false i)) None ∷ []) (omega (arith, (step ts false k.QuoteOpen i a).forth, (step ts false k.QuoteClose (after_next ts false i) c).forth)))
 
-  labels_all : {ls : List Label} {i j : ℕ} → IsLabels ts ls i j → NextIs ts false k.OpenBrace j → bodies.labels_from ts (length ts) [] i ≡ Ok (ls, j)
+  labels_all : {ls : List Label} {i j : ℕ} → IsLabels ts ls i j → NextIs ts false k.OpenBrace j → bodies.labels_from nodes ts (length ts) [] i ≡ Ok (ls, j)
   labels_all ls s = labels-yes ls s (length ts) [] (omega (arith, (span_labels ls).within))
 
   not_equals : {ls : List Label} {i j : ℕ} → IsLabels ts ls i j → NextIs ts false k.OpenBrace j → next_is ts false k.Equal i ≡ false
@@ -127,32 +129,32 @@ module _ (ts : List Token) where
   unfolding same_kind
   ends_brace i h = record { no_line = no_line_brace i h; no_name = sees-other ts false k.CloseBrace k.Identifier i h refl }
 
-  members_end : {d a : ℕ} (turns : ℕ) (acc : List Member) (i : ℕ) → Ends i → Answers d a acc i (bodies.members_from ts a (deeper_members ts a) turns acc i)
+  members_end : {d a : ℕ} (turns : ℕ) (acc : List Member) (i : ℕ) → Ends i → Answers d a acc i (bodies.members_from nodes ts a (deeper_members nodes ts a) turns acc i)
   unfolding bodies.members_from bodies.member_of
   members_end zero acc i s = found
   members_end (suc turns) acc i s = rw (s.no_line.is, s.no_name, if_next-no ts false k.Identifier i s.no_name) found
 
-  members_newline : {d a : ℕ} {ys : List Member} {j l : ℕ} (turns : ℕ) (acc : List Member) (i : ℕ) → IsNewline ts i j → Answers d a ys l (bodies.members_from ts a (deeper_members ts a) turns acc j)
-      → Answers d a ys l (bodies.members_from ts a (deeper_members ts a) (suc turns) acc i)
+  members_newline : {d a : ℕ} {ys : List Member} {j l : ℕ} (turns : ℕ) (acc : List Member) (i : ℕ) → IsNewline ts i j → Answers d a ys l (bodies.members_from nodes ts a (deeper_members nodes ts a) turns acc j)
+      → Answers d a ys l (bodies.members_from nodes ts a (deeper_members nodes ts a) (suc turns) acc i)
   unfolding bodies.members_from
   members_newline turns acc i q r = rw (line-yes q) r
 
   -- a member, and those after it
   members_more : {d a : ℕ} {x : Member} {ys : List Member} {n l : ℕ} (turns : ℕ) (acc : List Member) (i : ℕ) → NextIs ts false k.Identifier i
-      → Answers d a x n (bodies.attribute_or_block ts a (deeper_members ts a) (next_index ts false i) (after_next ts false i))
-      → Answers d a ys l (bodies.members_from ts a (deeper_members ts a) turns (acc ++ x ∷ []) n)
-      → Answers d a ys l (bodies.members_from ts a (deeper_members ts a) (suc turns) acc i)
+      → Answers d a x n (bodies.attribute_or_block nodes ts a (deeper_members nodes ts a) (next_index ts false i) (after_next ts false i))
+      → Answers d a ys l (bodies.members_from nodes ts a (deeper_members nodes ts a) turns (acc ++ x ∷ []) n)
+      → Answers d a ys l (bodies.members_from nodes ts a (deeper_members nodes ts a) (suc turns) acc i)
   unfolding bodies.members_from bodies.member_of
   members_more turns acc i q x more = rw ((no_line_name i q).is, sees-yes ts false k.Identifier i q, if_next-yes ts false k.Identifier i q) (bind _ (bind _ x found) more)
 
-  pub member_attribute : {d a : ℕ} {e : Expr} {j n : ℕ} (first i : ℕ) → NextIs ts false k.Equal i → Answers d a e j (p.expr ts a false Whole (after_next ts false i)) → IsEol ts j n
-      → Answers d a (member.Attribute (node.attribute first n e)) n (bodies.attribute_or_block ts a (deeper_members ts a) first i)
+  pub member_attribute : {d a : ℕ} {e : Expr} {j n : ℕ} (first i : ℕ) → NextIs ts false k.Equal i → Answers d a e j ((p.under nodes ts a).expr false Whole (after_next ts false i)) → IsEol ts j n
+      → Answers d a (member.Attribute (node.attribute first n e)) n (bodies.attribute_or_block nodes ts a (deeper_members nodes ts a) first i)
   unfolding bodies.attribute_or_block bodies.attribute_by
   member_attribute first i e x l = rw (sees-yes ts false k.Equal i e, if_next-yes ts false k.Equal i e) (bind _ x (rw (eol-yes l) found))
 
   pub member_block : {d : ℕ} {ls : List Label} {x : Content} {j o q : ℕ} (first i : ℕ) → IsLabels ts ls i j → NextIs ts false k.OpenBrace j → NextIs ts false k.CloseBrace o → IsEol ts (after_next ts false o) q → (b : ℕ)
-      → ((a : ℕ) → Answers d a x o (bodies.block_content ts (suc a) (bodies.members ts a) (after_next ts false j)))
-      → Answers (suc d) b (node.block first q ls x) q (bodies.attribute_or_block ts b (deeper_members ts b) first i)
+      → ((a : ℕ) → Answers d a x o (bodies.block_content nodes ts (suc a) (bodies.members nodes ts a) (after_next ts false j)))
+      → Answers (suc d) b (node.block first q ls x) q (bodies.attribute_or_block nodes ts b (deeper_members nodes ts b) first i)
   unfolding bodies.attribute_or_block bodies.block_by
   member_block {j} {o} first i ls br cl el zero x =
       rw (not_equals ls br, if_next-no ts false k.Equal i (not_equals ls br), labels_all ls br, expect-yes ts false k.OpenBrace j br) (deep (omega arith))
@@ -160,31 +162,31 @@ module _ (ts : List Token) where
       rw (not_equals ls br, if_next-no ts false k.Equal i (not_equals ls br), labels_all ls br, expect-yes ts false k.OpenBrace j br)
       (bind _ (deeper_found (x a)) (rw (expect-yes ts false k.CloseBrace o cl, eol-yes el) found))
 
-  pub content_lines : {d a : ℕ} {bs : List Member} {n o : ℕ} (i : ℕ) → IsNewline ts i n → Answers d a bs o (bodies.members ts a n)
-      → Answers d a (content.Body (node.body (first_token_in ts false n o) o bs)) o (bodies.block_content ts (suc a) (bodies.members ts a) i)
+  pub content_lines : {d a : ℕ} {bs : List Member} {n o : ℕ} (i : ℕ) → IsNewline ts i n → Answers d a bs o (bodies.members nodes ts a n)
+      → Answers d a (content.Body (node.body (first_token_in ts false n o) o bs)) o (bodies.block_content nodes ts (suc a) (bodies.members nodes ts a) i)
   unfolding bodies.block_content bodies.nested_body
   content_lines i l x = rw (inner-yes l) (bind _ x found)
 
-  content_empty : {d a : ℕ} (i : ℕ) → NextIs ts false k.CloseBrace i → Answers d a (content.OneLine None) i (bodies.block_content ts (suc a) (bodies.members ts a) i)
+  content_empty : {d a : ℕ} (i : ℕ) → NextIs ts false k.CloseBrace i → Answers d a (content.OneLine None) i (bodies.block_content nodes ts (suc a) (bodies.members nodes ts a) i)
   unfolding bodies.block_content bodies.one_line_body same_kind
   content_empty i h = let n = sees-other ts false k.CloseBrace k.Identifier i h refl in rw ((no_inner_at ts i h).is, n, if_next-no ts false k.Identifier i n) found
 
-  content_one : {d a : ℕ} {e : Expr} {j : ℕ} (i : ℕ) → NextIs ts false k.Identifier i → NextIs ts false k.Equal (after_next ts false i) → Answers d a e j (p.expr ts a false Whole (after_next ts false (after_next ts false i)))
-      → Answers d a (content.OneLine (Some (node.attribute (next_index ts false i) j e))) j (bodies.block_content ts (suc a) (bodies.members ts a) i)
+  content_one : {d a : ℕ} {e : Expr} {j : ℕ} (i : ℕ) → NextIs ts false k.Identifier i → NextIs ts false k.Equal (after_next ts false i) → Answers d a e j ((p.under nodes ts a).expr false Whole (after_next ts false (after_next ts false i)))
+      → Answers d a (content.OneLine (Some (node.attribute (next_index ts false i) j e))) j (bodies.block_content nodes ts (suc a) (bodies.members nodes ts a) i)
   unfolding bodies.block_content bodies.one_line_body
   content_one i h q x = rw ((no_inner_name i h).is, sees-yes ts false k.Identifier i h, if_next-yes ts false k.Identifier i h, expect-yes ts false k.Equal (after_next ts false i) q) (bind _ x found)
 
-  pub c_on_line : {d : ℕ} {x : Option Attribute} {i j : ℕ} → IsOneLineBody ts d x i j → NextIs ts false k.CloseBrace j → (a : ℕ) → Answers d a (content.OneLine x) j (bodies.block_content ts (suc a) (bodies.members ts a) i)
+  pub c_on_line : {d : ℕ} {x : Option Attribute} {i j : ℕ} → IsOneLineBody ts d x i j → NextIs ts false k.CloseBrace j → (a : ℕ) → Answers d a (content.OneLine x) j (bodies.block_content nodes ts (suc a) (bodies.members nodes ts a) i)
   c_on_line (nothing {i}) h a = content_empty i h
   c_on_line (one {i} {j} n q x) h a = content_one i n q (nested ts false (after_next ts false (after_next ts false i)) a (c_expr ts x (stops_at 8 k.CloseBrace h (omega arith)) a))
 
-  pub members-is : (a i : ℕ) → bodies.members ts a i ≡ bodies.members_from ts a (deeper_members ts a) (length ts) [] i
+  pub members-is : (a i : ℕ) → bodies.members nodes ts a i ≡ bodies.members_from nodes ts a (deeper_members nodes ts a) (length ts) [] i
   unfolding bodies.members
   members-is zero i = refl
   members-is (suc a) i = refl
 
   pub c_members : {d : ℕ} {ms : List Member} {i j : ℕ} → IsMembers ts d ms i j → Ends j → (b turns : ℕ) (acc : List Member) → j ≤ turns + i
-      → Answers d b (acc ++ ms) j (bodies.members_from ts b (deeper_members ts b) turns acc i)
+      → Answers d b (acc ++ ms) j (bodies.members_from nodes ts b (deeper_members nodes ts b) turns acc i)
   c_members (no_members {i}) s b turns acc l = rw (append-nil acc) (members_end turns acc i s)
   c_members (blank q ms) s b zero acc l = absurd (omega (arith, (span_line q).forth, (span_members ms).forth))
   c_members (blank {i} q ms) s b (suc turns) acc l = members_newline turns acc i q (c_members ms s b turns acc (omega (arith, (span_line q).forth)))
@@ -220,7 +222,7 @@ module _ (ts : List Token) where
 
   -- the member that a body begins with, where no line end is before it
   c_named : {d : ℕ} {m : Member} {ms : List Member} {i l : ℕ} → NextIs ts false k.Identifier i → IsMembers ts d (m ∷ ms) i l → (b : ℕ)
-      → (n : ℕ) × Answers d b m n (bodies.attribute_or_block ts b (deeper_members ts b) (next_index ts false i) (after_next ts false i))
+      → (n : ℕ) × Answers d b m n (bodies.attribute_or_block nodes ts b (deeper_members nodes ts b) (next_index ts false i) (after_next ts false i))
   c_named h (blank q ms) b = absurd (no_newline h q)
   c_named h (attribute {i} {n = n} q e x el ms) b = (n, member_attribute (next_index ts false i) (after_next ts false i) e (nested ts false (after_next ts false (after_next ts false i)) b (c_expr ts x (eol_stop el) b)) el)
   c_named h (block {i} {j} {n} {o} {q} g ls br nl bs cl el ms) b = (
@@ -230,16 +232,16 @@ module _ (ts : List Token) where
   )
   c_named h (line_block {i} {q = q} g ls br x cl el ms) b = (q, member_block (next_index ts false i) (after_next ts false i) ls br cl el b (λ a. c_on_line x cl a))
 
-  c_some : {d : ℕ} {m : Member} {n : ℕ} (b i : ℕ) → NextIs ts false k.Identifier i → Answers d b m n (bodies.attribute_or_block ts b (deeper_members ts b) (next_index ts false i) (after_next ts false i))
-      → Answers d b (Some m) n (bodies.member_of ts b (deeper_members ts b) i)
+  c_some : {d : ℕ} {m : Member} {n : ℕ} (b i : ℕ) → NextIs ts false k.Identifier i → Answers d b m n (bodies.attribute_or_block nodes ts b (deeper_members nodes ts b) (next_index ts false i) (after_next ts false i))
+      → Answers d b (Some m) n (bodies.member_of nodes ts b (deeper_members nodes ts b) i)
   unfolding bodies.member_of
   c_some b i h x = rw (sees-yes ts false k.Identifier i h, if_next-yes ts false k.Identifier i h) (bind _ x found)
 
   pub c_member : {d : ℕ} {m : Member} {ms : List Member} {l : ℕ} (i : ℕ) → NextIs ts false k.Identifier i → IsMembers ts d (m ∷ ms) i l → (b : ℕ)
-      → (n : ℕ) × Answers d b (Some m) n (bodies.member_of ts b (deeper_members ts b) i)
+      → (n : ℕ) × Answers d b (Some m) n (bodies.member_of nodes ts b (deeper_members nodes ts b) i)
   c_member i h x b = let r = c_named h x b in (r.0, c_some b i h r.1)
 
-  pub c_none : (b i : ℕ) → next_kind ts false i ≢ Some k.Identifier → Answers b b None i (bodies.member_of ts b (deeper_members ts b) i)
+  pub c_none : (b i : ℕ) → next_kind ts false i ≢ Some k.Identifier → Answers b b None i (bodies.member_of nodes ts b (deeper_members nodes ts b) i)
   unfolding bodies.member_of
   c_none b i h = let n = sees-not ts false k.Identifier i h in rw (n, if_next-no ts false k.Identifier i n) found
 
@@ -266,13 +268,13 @@ module _ (ts : List Token) where
   after-mark no_mark ms l = if_next-no ts false k.Mark 0 (no_mark_before ms l)
   after-mark (mark q) ms l = if_next-yes ts false k.Mark 0 q
 
-  file_by : {d : ℕ} {ms : List Member} {i j : ℕ} (b : ℕ) → after_if_next ts false k.Mark 0 ≡ i → Answers d b ms j (bodies.members ts b i) → IsFileEnd ts j
-      → (n : ℕ) × Answers d b (node.tree (length ts) (node.body (first_token_in ts false i j) j ms)) n (bodies.file ts b 0)
+  file_by : {d : ℕ} {ms : List Member} {i j : ℕ} (b : ℕ) → after_if_next ts false k.Mark 0 ≡ i → Answers d b ms j (bodies.members nodes ts b i) → IsFileEnd ts j
+      → (n : ℕ) × Answers d b (node.tree (length ts) (node.body (first_token_in ts false i j) j ms)) n (bodies.file nodes ts b 0)
   unfolding bodies.file
   file_by {j} b s x (at_end h) = (j, rw s (bind _ x (let n = unlike k.LineComment j h in rw (if_next-no ts false k.LineComment j n, h) found)))
   file_by {j} b s x (at_comment q h) = (after_next ts false j, rw s (bind _ x (rw (if_next-yes ts false k.LineComment j q, h) found)))
 
   -- each derivation of a whole text is answered
-  pub file_answers : (b d : ℕ) (t : Tree) → IsFile ts d t → (n : ℕ) × Answers d b t n (bodies.file ts b 0)
+  pub file_answers : (b d : ℕ) (t : Tree) → IsFile ts d t → (n : ℕ) × Answers d b t n (bodies.file nodes ts b 0)
   file_answers b d t (file {i} {j} f ms l) =
       file_by b (after-mark f ms l) (rw (members-is b i) (c_members ms (last_ends j l) b (length ts) [] (omega (arith, (span_members ms).within)))) l

@@ -1,8 +1,8 @@
 -- The parser answers each derivation.
-use Rattle.std.proofs.Common.{◌≡◌, ◌≢◌, ℕ, zero, suc, ◌+◌, ◌<◌, ◌≤◌, ◌==◌, ◌||◌, Bool, true, false, List, [], ◌∷◌, ◌++◌, length, Option, Some, None, Ok, refl, ap, ◌∙◌, append_assoc, append-nil, eq-eqb, inl, inr, arith}
-use Rattle.std.proofs.lemmas.Bool.Decides.{eqb_tells}
+use Rattle.std.proofs.Common.{◌≡◌, ◌≢◌, ℕ, zero, suc, ◌+◌, ◌≤◌, ◌||◌, Bool, true, false, List, [], ◌∷◌, ◌++◌, length, Option, Some, None, Ok, Err, refl, ap, subst, ◌∙◌, append_assoc, append-nil, arith}
 use Rattle.hcl_token.specs.declared.kind.Kind.{Kind}
 use Rattle.hcl_token.specs.declared.kind.Kind.TheVariants as k
+use Rattle.hcl_grammar.specs.declared.fault.TokenFault.TheVariants.{Syntax}
 use Rattle.hcl_grammar.specs.declared.goal.Goal.{Goal}
 use Rattle.hcl_grammar.specs.declared.goal.Goal.TheVariants.{Whole, Operand}
 use Rattle.hcl_grammar.specs.declared.tree.Elem.{Elem}
@@ -23,152 +23,165 @@ use Rattle.hcl_grammar.specs.Grammar.{IsExpr, plain, conditional, IsLevel, lowes
 use Rattle.hcl_grammar.specs.Lookahead.{NextIs, NextIsWord, NextIsNotWord, IsNewline, line_end, comment, IsNewlines, IsSep, comma, lines, IsNameTail, no_names, name, IsSecondName, no_second, second, IsEllipsis, no_ellipsis, ellipsis, IsKeyword, keyword}
 use Rattle.hcl_grammar.specs.Nodes as node
 use Rattle.hcl_grammar.specs.Operators.{unary_operator, binary_operator, levels}
+use Rattle.hcl_grammar.specs.Pure.NodeMakers.{nodes, group}
 use Rattle.hcl_grammar.specs.Pure.Parser as p
 use Rattle.hcl_grammar.specs.Pure.Parser.{deeper, twice}
-use Rattle.hcl_grammar.specs.Pure.Reading.{next_is, after_if_next, next_is_word}
+use Rattle.hcl_grammar.specs.Pure.Reading.{Outcome, next_is, after_if_next, next_is_word}
+use Rattle.hcl_grammar.specs.Pure.Steps as steps
 use Rattle.hcl_grammar.specs.Tokens.{Token, next_index, next_kind, after_next, first_token_in, same_kind, for_word, in_word, if_word, else_word, endif_word, endfor_word}
 use Rattle.hcl_grammar_laws.proofs.Ahead.{reach, reach_by, Stops, looser, stops_at, no-begin, no-stop, sees-not, sees-other}
-use Rattle.hcl_grammar_laws.proofs.Firsts.{begin_expr, begin_elem, begin_intro, no_prefix}
+use Rattle.hcl_grammar_laws.proofs.Chains.{Chain, no_more, one_more, Flat, FlatLinks, flat_operand, flat_end, flat_link, flat_level, its_level}
+use Rattle.hcl_grammar_laws.proofs.Firsts.{first_term, begin_expr, begin_elem, begin_intro}
 use Rattle.hcl_grammar_laws.proofs.Lines.{NoInner, no_inner_begins, no_inner_at, lines_all, sep_or_end-yes, sep_or_end-no}
-use Rattle.hcl_grammar_laws.proofs.Spans.{span_sep, span_expr, span_level, span_links, span_tails, span_tail, span_arguments, span_items, span_elems, span_elem, span_names, span_parts, span_part, step}
-use Rattle.hcl_grammar_laws.proofs.Steps.{Answers, found, deep, bind, deeper_found, sees-yes, if_next-yes, if_next-no, expect-yes, bump-yes, word_at, word-yes, reads-yes, reads-no, reads-other, reads-another}
-
-pub nat-same : (n : ℕ) → (n == n) ≡ true
-nat-same n = eq-eqb n n refl
-
-pub nat-other : (n m : ℕ) → n < m → (m == n) ≡ false
-nat-other n m h = elim (eqb_tells m n) [ inl w ↦ absurd (omega arith) | inr w ↦ w.0 ]
+use Rattle.hcl_grammar_laws.proofs.Placed.{placed_unary}
+use Rattle.hcl_grammar_laws.proofs.Spans.{span_sep, span_expr, span_level, span_unary, span_tails, span_tail, span_arguments, span_items, span_elems, span_elem, span_names, span_parts, span_part, step}
+use Rattle.hcl_grammar_laws.proofs.Steps.{Answers, found, deep, bind, deeper_found, sees-yes, if_next-yes, if_next-no, expect-yes, word_at, word-yes, reads-yes, reads-no, reads-other, reads-another}
 
 module _ (ts : List Token) where
   -- ---- conditionals
 
-  whole_plain : {d b : ℕ} {e : Expr} {j : ℕ} (m : Bool) (i : ℕ) → Answers d b e j (p.level ts b (deeper ts b) levels m i) → Stops 8 ts m j → Answers d b e j (p.whole ts b (deeper ts b) m i)
-  unfolding p.whole
-  whole_plain {j} m i r s = let n = no-stop 8 ts m k.Question j s (omega arith) in bind _ r (rw (n, if_next-no ts m k.Question j n) found)
+  -- an operand, and how it goes on
+  whole_by : {d b : ℕ} {head x : Expr} {xs : List Operation} {j n l : ℕ} (m : Bool) (i : ℕ) → Answers d b head j (p.unary nodes ts b (deeper nodes ts b) m i)
+      → Answers d b xs n (p.operations_from nodes ts b (deeper nodes ts b) m (length ts) [] j)
+      → Answers d b x l (p.conditional nodes ts b (deeper nodes ts b) m (next_index ts m i) (group levels head xs) n)
+      → Answers d b x l (p.whole nodes ts b (deeper nodes ts b) m i)
+  unfolding p.whole p.chain
+  whole_by m i r s t = bind _ r (bind _ (bind _ s found) t)
 
-  whole_conditional : {d : ℕ} {c then_branch else_branch : Expr} {j n l : ℕ} (m : Bool) (i : ℕ) → NextIs ts m k.Question j → NextIs ts m k.Colon n → (b : ℕ) → Answers (suc d) b c j (p.level ts b (deeper ts b) levels m i)
-      → ((a : ℕ) → Answers d a then_branch n (p.expr ts a m Whole (after_next ts m j)))
-      → ((a : ℕ) → Answers d a else_branch l (p.expr ts a m Whole (after_next ts m n)))
-      → Answers (suc d) b (node.expr (next_index ts m i) l (form.Conditional c then_branch else_branch)) l (p.whole ts b (deeper ts b) m i)
-  unfolding p.whole
-  whole_conditional {j} m i q s zero r x y = bind _ r (rw (sees-yes ts m k.Question j q) (deep (omega arith)))
-  whole_conditional {j} {n} m i q s (suc a) r x y = bind _ r (rw (sees-yes ts m k.Question j q, if_next-yes ts m k.Question j q) (bind _ (deeper_found (x a)) (rw (expect-yes ts m k.Colon n s) (bind _ (deeper_found (y a)) found))))
+  choice_none : {d b : ℕ} {c : Expr} {j : ℕ} (m : Bool) (first : ℕ) → Stops 8 ts m j → Answers d b c j (p.conditional nodes ts b (deeper nodes ts b) m first c j)
+  unfolding p.conditional
+  choice_none {j} m first s = let n = no-stop 8 ts m k.Question j s (omega arith) in rw (n, if_next-no ts m k.Question j n) found
+
+  choice_some : {d : ℕ} {then_branch else_branch : Expr} {n l : ℕ} (m : Bool) (first : ℕ) (c : Expr) (j : ℕ) → NextIs ts m k.Question j → NextIs ts m k.Colon n → (b : ℕ)
+      → ((a : ℕ) → Answers d a then_branch n ((p.under nodes ts a).expr m Whole (after_next ts m j)))
+      → ((a : ℕ) → Answers d a else_branch l ((p.under nodes ts a).expr m Whole (after_next ts m n)))
+      → Answers (suc d) b (node.expr first l (form.Conditional c then_branch else_branch)) l (p.conditional nodes ts b (deeper nodes ts b) m first c j)
+  unfolding p.conditional
+  choice_some m first c j q s zero x y = rw (sees-yes ts m k.Question j q) (deep (omega arith))
+  choice_some {n} m first c j q s (suc a) x y = rw (sees-yes ts m k.Question j q, if_next-yes ts m k.Question j q) (bind _ (deeper_found (x a)) (rw (expect-yes ts m k.Colon n s) (bind _ (deeper_found (y a)) found)))
 
   -- ---- operators
 
-  operator-yes : (m : Bool) (n : ℕ) (t : Kind) (op : BinaryOperator) (i : ℕ) → NextIs ts m t i → binary_operator t ≡ Some (n, op) → p.eat_binary_operator ts m n i ≡ Ok (Some op, after_next ts m i)
-  unfolding p.eat_binary_operator
-  operator-yes m n t op i h e = rw (h, e, nat-same n)
+  operator-yes : (m : Bool) (n : ℕ) (t : Kind) (op : BinaryOperator) (i : ℕ) → NextIs ts m t i → binary_operator t ≡ Some (n, op) → steps.eat_operator ts m i ≡ Ok (Some op, after_next ts m i)
+  unfolding steps.eat_operator
+  operator-yes m n t op i h e = rw (h, e)
 
-  operator-no : (m : Bool) (n : ℕ) (i : ℕ) → Stops (suc (suc n)) ts m i → p.eat_binary_operator ts m n i ≡ Ok (None, i)
-  unfolding p.eat_binary_operator
-  operator-no m n i s = go (next_kind ts m i) refl
+  operator-no : (m : Bool) (i : ℕ) → Stops 7 ts m i → steps.eat_operator ts m i ≡ Ok (None, i)
+  unfolding steps.eat_operator
+  operator-no m i s = go (next_kind ts m i) refl
     where
-      by : (t : Kind) → suc (suc n) ≤ reach t → (o : Option (ℕ × BinaryOperator)) → binary_operator t ≡ o → p.take_binary ts m n i o ≡ Ok (None, i)
+      by : (t : Kind) → 7 ≤ reach t → (o : Option (ℕ × BinaryOperator)) → binary_operator t ≡ o → steps.take_operator ts m i o ≡ Ok (None, i)
       by t l None e = refl
-      by t l (Some q) e = rw (nat-other n q.0 (omega (arith, ap (reach_by t) e, l)))
+      by t l (Some q) e = absurd (omega (arith, ap (reach_by t) e, l, (its_level t q e).1))
 
-      go : (o : Option Kind) → next_kind ts m i ≡ o → p.binary_by_kind ts m n i o ≡ Ok (None, i)
+      go : (o : Option Kind) → next_kind ts m i ≡ o → steps.operator_by_kind ts m i o ≡ Ok (None, i)
       go None e = refl
       go (Some t) e = by t (s.at_token t e) (binary_operator t) refl
 
-  links_end : {d b : ℕ} (m : Bool) (n : ℕ) (turns : ℕ) (xs : List Operation) (i : ℕ) → Stops (suc (suc n)) ts m i
-      → Answers d b xs i (p.operations_from ts b (deeper ts b) (p.level ts b (deeper ts b) n) m n turns xs i)
+  operators_end : {d b : ℕ} (m : Bool) (turns : ℕ) (xs : List Operation) (i : ℕ) → Stops 7 ts m i → Answers d b xs i (p.operations_from nodes ts b (deeper nodes ts b) m turns xs i)
   unfolding p.operations_from
-  links_end m n zero xs i s = found
-  links_end m n (suc turns) xs i s = rw (operator-no m n i s) found
+  operators_end m zero xs i s = found
+  operators_end m (suc turns) xs i s = rw (operator-no m i s) found
 
-  links_more : {d b : ℕ} {t : Kind} {op : BinaryOperator} {x : Expr} {ys : List Operation} {j l : ℕ} (m : Bool) (n : ℕ) (turns : ℕ) (xs : List Operation) (i : ℕ) → NextIs ts m t i → binary_operator t ≡ Some (n, op)
-      → Answers d b x j (p.level ts b (deeper ts b) n m (after_next ts m i))
-      → Answers d b ys l (p.operations_from ts b (deeper ts b) (p.level ts b (deeper ts b) n) m n turns (xs ++ node.operation op x ∷ []) j)
-      → Answers d b ys l (p.operations_from ts b (deeper ts b) (p.level ts b (deeper ts b) n) m n (suc turns) xs i)
+  operators_more : {d b n : ℕ} {t : Kind} {op : BinaryOperator} {x : Expr} {ys : List Operation} {j l : ℕ} (m : Bool) (turns : ℕ) (xs : List Operation) (i : ℕ) → NextIs ts m t i → binary_operator t ≡ Some (n, op)
+      → Answers d b x j (p.unary nodes ts b (deeper nodes ts b) m (after_next ts m i))
+      → Answers d b ys l (p.operations_from nodes ts b (deeper nodes ts b) m turns (xs ++ node.operation op x ∷ []) j)
+      → Answers d b ys l (p.operations_from nodes ts b (deeper nodes ts b) m (suc turns) xs i)
   unfolding p.operations_from
-  links_more {t} {op} m n turns xs i h e r more = rw (operator-yes m n t op i h e) (bind _ r more)
+  operators_more {n} {t} {op} m turns xs i h e r more = rw (operator-yes m n t op i h e) (bind _ r more)
 
-  level_by : {d b : ℕ} {head : Expr} {links : List Operation} {j l : ℕ} (m : Bool) (n : ℕ) (i : ℕ) → Answers d b head j (p.level ts b (deeper ts b) n m i)
-      → Answers d b links l (p.operations_from ts b (deeper ts b) (p.level ts b (deeper ts b) n) m n (length ts) [] j)
-      → Answers d b (node.binary (next_index ts m i) l head links) l (p.level ts b (deeper ts b) (suc n) m i)
-  unfolding p.level
-  level_by m n i r more = bind _ r (bind _ more found)
+  -- an operand that is derived, and answered
+  pub record IsOperand (d : ℕ) (m : Bool) (x : Expr) (i j : ℕ) : Type 0 where
+    pub derived : IsUnary ts d m x i j
+    pub answers : (b : ℕ) → Answers d b x j (p.unary nodes ts b (deeper nodes ts b) m i)
 
-  level_zero : {d b : ℕ} {e : Expr} {j : ℕ} (m : Bool) (i : ℕ) → Answers d b e j (p.unary ts b (deeper ts b) m i) → Answers d b e j (p.level ts b (deeper ts b) zero m i)
-  unfolding p.level
-  level_zero m i r = r
+  chain_forth : {d : ℕ} {m : Bool} {n : ℕ} {xs : List Operation} {i j : ℕ} → Chain ts m (IsOperand d m) n xs i j → i ≤ j
+  chain_forth no_more = omega arith
+  chain_forth {m} (one_more {t} {i} q o h p y c) = omega (arith, (step ts m t i q).forth, (span_unary y.derived).forth, chain_forth c)
+
+  chain_answers : {d : ℕ} {m : Bool} {xs : List Operation} {i j : ℕ} → Chain ts m (IsOperand d m) levels xs i j → Stops 7 ts m j → (b turns : ℕ) (acc : List Operation) → j ≤ turns + i
+      → Answers d b (acc ++ xs) j (p.operations_from nodes ts b (deeper nodes ts b) m turns acc i)
+  chain_answers {m} (no_more {i}) s b turns acc l = rw (append-nil acc) (operators_end m turns acc i s)
+  chain_answers {m} (one_more {t} {i} q o h p y c) s b zero acc l = absurd (omega (arith, (step ts m t i q).forth, (span_unary y.derived).forth, chain_forth c))
+  chain_answers {m} (one_more {t} {op} {x} {xs} {i} q o h p y c) s b (suc turns) acc l =
+      rw (← append_assoc acc (node.operation op x ∷ []) xs)
+      (operators_more m turns acc i q o (y.answers b) (chain_answers c s b turns (acc ++ node.operation op x ∷ []) (omega (arith, (step ts m t i q).forth, (span_unary y.derived).forth))))
 
   -- ---- prefixes and tails
 
-  prefix-yes : (m : Bool) (t : Kind) (op : UnaryOperator) (i : ℕ) → NextIs ts m t i → unary_operator t ≡ Some op → p.eat_unary_operator ts m i ≡ Ok (Some op, after_next ts m i)
-  unfolding p.eat_unary_operator
-  prefix-yes m t op i h e = rw (h, e)
+  -- a term, after its first token, whatever that is
+  unfoldable pub term : ℕ → Bool → ℕ → Option Kind → Outcome Term
+  term b m i None = Err (Syntax (next_index ts m i))
+  term b m i (Some t) = p.term_by nodes ts b (deeper nodes ts b) m (next_index ts m i) t (after_next ts m i)
 
   unary_prefixed : {d : ℕ} {t : Kind} {op : UnaryOperator} {e : Expr} {j : ℕ} (m : Bool) (i : ℕ) → NextIs ts m t i → unary_operator t ≡ Some op → (b : ℕ)
-      → ((a : ℕ) → Answers d a e j (p.expr ts a m Operand (after_next ts m i)))
-      → Answers (suc d) b (node.expr (next_index ts m i) j (form.Unary op e)) j (p.unary ts b (deeper ts b) m i)
+      → ((a : ℕ) → Answers d a e j ((p.under nodes ts a).expr m Operand (after_next ts m i)))
+      → Answers (suc d) b (node.expr (next_index ts m i) j (form.Unary op e)) j (p.unary nodes ts b (deeper nodes ts b) m i)
   unfolding p.unary
-  unary_prefixed {t} {op} m i h e zero x = rw (prefix-yes m t op i h e) (deep (omega arith))
-  unary_prefixed {t} {op} m i h e (suc a) x = rw (prefix-yes m t op i h e) (bind _ (deeper_found (x a)) found)
+  unary_prefixed m i h e zero x = rw (h, e) (deep (omega arith))
+  unary_prefixed m i h e (suc a) x = rw (h, e) (bind _ (deeper_found (x a)) found)
 
-  unary_post : {d b : ℕ} {head : Term} {xs : List Tail} {j l : ℕ} (m : Bool) (i : ℕ) → p.eat_unary_operator ts m i ≡ Ok (None, i) → Answers d b head j (p.term ts b (deeper ts b) m i)
-      → Answers d b xs l (p.tails_from ts b (deeper ts b) m (length ts) [] j)
-      → Answers d b (node.postfix (next_index ts m i) l head xs) l (p.unary ts b (deeper ts b) m i)
-  unfolding p.unary p.post
-  unary_post m i n r more = rw n (bind _ r (bind _ more found))
+  unary_post : {d b : ℕ} {head : Term} {xs : List Tail} {j l : ℕ} (m : Bool) (i : ℕ) (t : Kind) → NextIs ts m t i → unary_operator t ≡ None → Answers d b head j (term b m i (next_kind ts m i))
+      → Answers d b xs l (p.tails_from nodes ts b (deeper nodes ts b) m (length ts) [] j)
+      → Answers d b (node.postfix (next_index ts m i) l head xs) l (p.unary nodes ts b (deeper nodes ts b) m i)
+  unfolding p.unary p.post_by p.with_tails term
+  unary_post m i t h n r more = let q = rw h at r in rw (h, n) (bind _ q (bind _ more found))
 
-  tail-at : (b : ℕ) (m : Bool) (o : Option Kind) (i : ℕ) → next_kind ts m i ≡ o → p.tail_of ts b (deeper ts b) m i ≡ p.tail_by ts b (deeper ts b) m (next_index ts m i) o i
+  tail-at : (b : ℕ) (m : Bool) (o : Option Kind) (i : ℕ) → next_kind ts m i ≡ o → p.tail_of nodes ts b (deeper nodes ts b) m i ≡ p.tail_by nodes ts b (deeper nodes ts b) m (next_index ts m i) o i
   unfolding p.tail_of
-  tail-at b m o i h = ap (λ o. p.tail_by ts b (deeper ts b) m (next_index ts m i) o i) h
+  tail-at b m o i h = ap (λ o. p.tail_by nodes ts b (deeper nodes ts b) m (next_index ts m i) o i) h
 
   -- a token that does not go on with a term
-  no-tail : (t : Kind) (b : ℕ) (m : Bool) (i : ℕ) → 1 ≤ reach t → p.tail_by ts b (deeper ts b) m (next_index ts m i) (Some t) i ≡ Ok (None, i)
+  no-tail : (t : Kind) (b : ℕ) (m : Bool) (i : ℕ) → 1 ≤ reach t → p.tail_by nodes ts b (deeper nodes ts b) m (next_index ts m i) (Some t) i ≡ Ok (None, i)
   no-tail k.Dot b m i l = absurd (omega (arith, l))
   no-tail k.DotIndex b m i l = absurd (omega (arith, l))
   no-tail k.OpenBracket b m i l = absurd (omega (arith, l))
   no-tail _ b m i l = refl
 
-  tail-no : (b : ℕ) (m : Bool) (i : ℕ) → Stops 1 ts m i → p.tail_of ts b (deeper ts b) m i ≡ Ok (None, i)
+  tail-no : (b : ℕ) (m : Bool) (i : ℕ) → Stops 1 ts m i → p.tail_of nodes ts b (deeper nodes ts b) m i ≡ Ok (None, i)
   tail-no b m i s = go (next_kind ts m i) refl
     where
-      go : (o : Option Kind) → next_kind ts m i ≡ o → p.tail_of ts b (deeper ts b) m i ≡ Ok (None, i)
+      go : (o : Option Kind) → next_kind ts m i ≡ o → p.tail_of nodes ts b (deeper nodes ts b) m i ≡ Ok (None, i)
       go None e = tail-at b m None i e
       go (Some t) e = tail-at b m (Some t) i e ∙ no-tail t b m i (s.at_token t e)
 
-  tails_end : {d b : ℕ} (m : Bool) (turns : ℕ) (xs : List Tail) (i : ℕ) → Stops 1 ts m i → Answers d b xs i (p.tails_from ts b (deeper ts b) m turns xs i)
+  tails_end : {d b : ℕ} (m : Bool) (turns : ℕ) (xs : List Tail) (i : ℕ) → Stops 1 ts m i → Answers d b xs i (p.tails_from nodes ts b (deeper nodes ts b) m turns xs i)
   unfolding p.tails_from
   tails_end m zero xs i s = found
   tails_end {b} m (suc turns) xs i s = rw (tail-no b m i s) found
 
-  tails_more : {d b : ℕ} {x : Tail} {ys : List Tail} {j l : ℕ} (m : Bool) (turns : ℕ) (xs : List Tail) (i : ℕ) → Answers d b (Some x) j (p.tail_of ts b (deeper ts b) m i)
-      → Answers d b ys l (p.tails_from ts b (deeper ts b) m turns (xs ++ x ∷ []) j)
-      → Answers d b ys l (p.tails_from ts b (deeper ts b) m (suc turns) xs i)
+  tails_more : {d b : ℕ} {x : Tail} {ys : List Tail} {j l : ℕ} (m : Bool) (turns : ℕ) (xs : List Tail) (i : ℕ) → Answers d b (Some x) j (p.tail_of nodes ts b (deeper nodes ts b) m i)
+      → Answers d b ys l (p.tails_from nodes ts b (deeper nodes ts b) m turns (xs ++ x ∷ []) j)
+      → Answers d b ys l (p.tails_from nodes ts b (deeper nodes ts b) m (suc turns) xs i)
   unfolding p.tails_from
   tails_more m turns xs i r more = bind _ r more
 
   tail_name : {d : ℕ} (m : Bool) (i : ℕ) → NextIs ts m k.Dot i → NextIs ts m k.Identifier (after_next ts m i) → (b : ℕ)
-      → Answers d b (Some (tail.Name (next_index ts m (after_next ts m i)))) (after_next ts m (after_next ts m i)) (p.tail_of ts b (deeper ts b) m i)
+      → Answers d b (Some (tail.Name (next_index ts m (after_next ts m i)))) (after_next ts m (after_next ts m i)) (p.tail_of nodes ts b (deeper nodes ts b) m i)
   unfolding p.dot_tail same_kind
   tail_name m i h n b =
       let star = sees-other ts m k.Identifier k.Star (after_next ts m i) n refl in
       rw (tail-at b m (Some k.Dot) i h, star, if_next-no ts m k.Star (after_next ts m i) star, expect-yes ts m k.Identifier (after_next ts m i) n) found
 
   tail_splat : {d : ℕ} (m : Bool) (i : ℕ) → NextIs ts m k.Dot i → NextIs ts m k.Star (after_next ts m i) → (b : ℕ)
-      → Answers d b (Some tail.AttributeSplat) (after_next ts m (after_next ts m i)) (p.tail_of ts b (deeper ts b) m i)
+      → Answers d b (Some tail.AttributeSplat) (after_next ts m (after_next ts m i)) (p.tail_of nodes ts b (deeper nodes ts b) m i)
   unfolding p.dot_tail
   tail_splat m i h n b = rw (tail-at b m (Some k.Dot) i h, sees-yes ts m k.Star (after_next ts m i) n, if_next-yes ts m k.Star (after_next ts m i) n) found
 
   tail_legacy : {d : ℕ} (m : Bool) (i : ℕ) → NextIs ts m k.DotIndex i → (b : ℕ)
-      → Answers d b (Some (tail.LegacyIndex (next_index ts m i))) (after_next ts m i) (p.tail_of ts b (deeper ts b) m i)
+      → Answers d b (Some (tail.LegacyIndex (next_index ts m i))) (after_next ts m i) (p.tail_of nodes ts b (deeper nodes ts b) m i)
   tail_legacy m i h b = rw (tail-at b m (Some k.DotIndex) i h) found
 
   tail_full : {d : ℕ} (m : Bool) (i : ℕ) → NextIs ts m k.OpenBracket i → NextIs ts true k.Star (after_next ts m i) → NextIs ts true k.CloseBracket (after_next ts true (after_next ts m i)) → (b : ℕ)
-      → Answers (suc d) b (Some tail.FullSplat) (after_next ts true (after_next ts true (after_next ts m i))) (p.tail_of ts b (deeper ts b) m i)
+      → Answers (suc d) b (Some tail.FullSplat) (after_next ts true (after_next ts true (after_next ts m i))) (p.tail_of nodes ts b (deeper nodes ts b) m i)
   unfolding p.bracket_tail
   tail_full m i h s c zero = rw (tail-at zero m (Some k.OpenBracket) i h) (deep (omega arith))
   tail_full m i h s c (suc a) =
       rw (tail-at (suc a) m (Some k.OpenBracket) i h, sees-yes ts true k.Star (after_next ts m i) s, if_next-yes ts true k.Star (after_next ts m i) s, expect-yes ts true k.CloseBracket (after_next ts true (after_next ts m i)) c) found
 
   tail_index : {d : ℕ} {e : Expr} {j : ℕ} (m : Bool) (i : ℕ) → NextIs ts m k.OpenBracket i → next_is ts true k.Star (after_next ts m i) ≡ false → NextIs ts true k.CloseBracket j → (b : ℕ)
-      → ((a : ℕ) → Answers d a e j (p.expr ts a true Whole (after_next ts m i)))
-      → Answers (suc d) b (Some (tail.Index e)) (after_next ts true j) (p.tail_of ts b (deeper ts b) m i)
+      → ((a : ℕ) → Answers d a e j ((p.under nodes ts a).expr true Whole (after_next ts m i)))
+      → Answers (suc d) b (Some (tail.Index e)) (after_next ts true j) (p.tail_of nodes ts b (deeper nodes ts b) m i)
   unfolding p.bracket_tail
   tail_index m i h s c zero x = rw (tail-at zero m (Some k.OpenBracket) i h) (deep (omega arith))
   tail_index {j} m i h s c (suc a) x =
@@ -177,20 +190,20 @@ module _ (ts : List Token) where
 
   -- ---- terms
 
-  term-at : (b : ℕ) (m : Bool) (t : Kind) (i : ℕ) → NextIs ts m t i → p.term ts b (deeper ts b) m i ≡ p.term_by ts b (deeper ts b) m (next_index ts m i) t (after_next ts m i)
-  unfolding p.term
-  term-at b m t i h = rw (bump-yes ts m t i h)
+  term-at : (b : ℕ) (m : Bool) (t : Kind) (i : ℕ) → NextIs ts m t i → term b m i (next_kind ts m i) ≡ p.term_by nodes ts b (deeper nodes ts b) m (next_index ts m i) t (after_next ts m i)
+  unfolding term
+  term-at b m t i h = ap (term b m i) h
 
-  term_number : {d b : ℕ} (m : Bool) (i : ℕ) → NextIs ts m k.Number i → Answers d b (node.term (next_index ts m i) (after_next ts m i) shape.Number) (after_next ts m i) (p.term ts b (deeper ts b) m i)
+  term_number : {d b : ℕ} (m : Bool) (i : ℕ) → NextIs ts m k.Number i → Answers d b (node.term (next_index ts m i) (after_next ts m i) shape.Number) (after_next ts m i) (term b m i (next_kind ts m i))
   term_number {b} m i h = rw (term-at b m k.Number i h) found
 
   term_identifier : {d b : ℕ} (m : Bool) (i : ℕ) → NextIs ts m k.Identifier i → next_kind ts m (after_next ts m i) ≢ Some k.OpenParen → next_kind ts m (after_next ts m i) ≢ Some k.DoubleColon
-      → Answers d b (node.term (next_index ts m i) (after_next ts m i) shape.Identifier) (after_next ts m i) (p.term ts b (deeper ts b) m i)
+      → Answers d b (node.term (next_index ts m i) (after_next ts m i) shape.Identifier) (after_next ts m i) (term b m i (next_kind ts m i))
   unfolding p.identifier_or_call
   term_identifier {b} m i h n q =
       rw (term-at b m k.Identifier i h, sees-not ts m k.OpenParen (after_next ts m i) n, sees-not ts m k.DoubleColon (after_next ts m i) q) found
 
-  names-yes : {m : Bool} {ns : List ℕ} {i j : ℕ} → IsNameTail ts m ns i j → next_is ts m k.DoubleColon j ≡ false → (turns : ℕ) (acc : List ℕ) → j ≤ turns + i → p.names_from ts m turns acc i ≡ Ok (acc ++ ns, j)
+  names-yes : {m : Bool} {ns : List ℕ} {i j : ℕ} → IsNameTail ts m ns i j → next_is ts m k.DoubleColon j ≡ false → (turns : ℕ) (acc : List ℕ) → j ≤ turns + i → p.names_from nodes ts m turns acc i ≡ Ok (acc ++ ns, j)
   unfolding p.names_from
   names-yes (no_names {i}) s zero acc l = rw (append-nil acc)
   names-yes (no_names {m} {i}) s (suc turns) acc l = rw (s, if_next-no ts m k.DoubleColon i s, append-nil acc)
@@ -200,8 +213,8 @@ module _ (ts : List Token) where
       (names-yes ns s turns (acc ++ next_index ts m (after_next ts m i) ∷ []) (omega (arith, (step ts m k.DoubleColon i q).forth, (step ts m k.Identifier (after_next ts m i) n).forth))
       ∙ ap (λ x. Ok (x, j)) (append_assoc acc (next_index ts m (after_next ts m i) ∷ []) xs))
 
-  names_all : {m : Bool} {ns : List ℕ} {i j : ℕ} → IsNameTail ts m ns i j → next_is ts m k.DoubleColon j ≡ false → p.names_from ts m (length ts) [] i ≡ Ok (ns, j)
-  names_all ns s = names-yes ns s (length ts) [] (omega (arith, (span_names ns).within))
+  names_all : {m : Bool} {ns : List ℕ} {i j : ℕ} (first : ℕ) → IsNameTail ts m ns i j → next_is ts m k.DoubleColon j ≡ false → p.names_from nodes ts m (length ts) (first ∷ []) i ≡ Ok (first ∷ ns, j)
+  names_all first ns s = names-yes ns s (length ts) (first ∷ []) (omega (arith, (span_names ns).within))
 
   -- a call goes on with `(` or `::`
   called : {m : Bool} {ns : List ℕ} {i j : ℕ} → IsNameTail ts m ns i j → NextIs ts m k.OpenParen j → (next_is ts m k.OpenParen i || next_is ts m k.DoubleColon i) ≡ true
@@ -213,33 +226,33 @@ module _ (ts : List Token) where
       go false = sees-yes ts m k.DoubleColon i q
 
   term_call : {d : ℕ} {ns : List ℕ} {es : List Expr} {s : Bool} {j l : ℕ} (m : Bool) (i : ℕ) → NextIs ts m k.Identifier i → IsNameTail ts m ns (after_next ts m i) j → NextIs ts m k.OpenParen j → (b : ℕ)
-      → ((a : ℕ) → Answers d a (es, s) l (p.arguments_from ts (p.expr ts a) (length ts) [] (after_next ts m j)))
-      → Answers (suc d) b (node.term (next_index ts m i) l (node.call (next_index ts m i ∷ ns) es s)) l (p.term ts b (deeper ts b) m i)
+      → ((a : ℕ) → Answers d a (es, s) l (p.arguments_from nodes ts (p.under nodes ts a).expr (length ts) [] (after_next ts m j)))
+      → Answers (suc d) b (node.term (next_index ts m i) l (node.call (next_index ts m i ∷ ns) es s)) l (term b m i (next_kind ts m i))
   unfolding p.identifier_or_call p.call same_kind
   term_call {j} m i h ns q zero x =
-      rw (term-at zero m k.Identifier i h, called ns q, names_all ns (sees-other ts m k.OpenParen k.DoubleColon j q refl), expect-yes ts m k.OpenParen j q) (deep (omega arith))
+      rw (term-at zero m k.Identifier i h, called ns q, names_all (next_index ts m i) ns (sees-other ts m k.OpenParen k.DoubleColon j q refl), expect-yes ts m k.OpenParen j q) (deep (omega arith))
   term_call {j} m i h ns q (suc a) x =
-      rw (term-at (suc a) m k.Identifier i h, called ns q, names_all ns (sees-other ts m k.OpenParen k.DoubleColon j q refl), expect-yes ts m k.OpenParen j q) (bind _ (deeper_found (x a)) found)
+      rw (term-at (suc a) m k.Identifier i h, called ns q, names_all (next_index ts m i) ns (sees-other ts m k.OpenParen k.DoubleColon j q refl), expect-yes ts m k.OpenParen j q) (bind _ (deeper_found (x a)) found)
 
   term_tuple : {d : ℕ} {es : List Expr} {j : ℕ} (m : Bool) (i : ℕ) → NextIs ts m k.OpenBracket i → NextIsNotWord ts true for_word (after_next ts m i) → (b : ℕ)
-      → ((a : ℕ) → Answers d a es j (p.tuple_items_from ts (p.expr ts a) (length ts) [] (after_next ts m i)))
-      → Answers (suc d) b (node.term (next_index ts m i) j (shape.Tuple es)) j (p.term ts b (deeper ts b) m i)
+      → ((a : ℕ) → Answers d a es j (p.tuple_items_from nodes ts (p.under nodes ts a).expr (length ts) [] (after_next ts m i)))
+      → Answers (suc d) b (node.term (next_index ts m i) j (shape.Tuple es)) j (term b m i (next_kind ts m i))
   unfolding p.tuple_or_for p.tuple
   term_tuple m i h n zero x = rw (term-at zero m k.OpenBracket i h) (deep (omega arith))
   term_tuple m i h n (suc a) x = rw (term-at (suc a) m k.OpenBracket i h, reads-no ts true for_word (after_next ts m i) n) (bind _ (deeper_found (x a)) found)
 
   term_object : {d : ℕ} {xs : List Elem} {j l : ℕ} (m : Bool) (i : ℕ) → NextIs ts m k.OpenBrace i → NextIsNotWord ts true for_word (after_next ts m i) → IsNewlines ts (after_next ts m i) j → NoInner ts j → (b : ℕ)
-      → ((a : ℕ) → Answers d a xs l (p.elements_from ts (p.expr ts a) (length ts) [] j))
-      → Answers (suc d) b (node.term (next_index ts m i) l (shape.Object xs)) l (p.term ts b (deeper ts b) m i)
+      → ((a : ℕ) → Answers d a xs l (p.elements_from nodes ts (p.under nodes ts a).expr (length ts) [] j))
+      → Answers (suc d) b (node.term (next_index ts m i) l (shape.Object xs)) l (term b m i (next_kind ts m i))
   unfolding p.object_or_for p.object
   term_object m i h w t n zero x = rw (term-at zero m k.OpenBrace i h) (deep (omega arith))
   term_object m i h w t n (suc a) x = rw (term-at (suc a) m k.OpenBrace i h, reads-no ts true for_word (after_next ts m i) w, lines_all t n) (bind _ (deeper_found (x a)) found)
 
   term_for_tuple : {d : ℕ} {x : Intro} {v : Expr} {o : Option Expr} {j n l : ℕ} (m : Bool) (i : ℕ) → NextIs ts m k.OpenBracket i → next_is_word ts true for_word (after_next ts m i) ≡ true → NextIs ts true k.Colon j → (b : ℕ)
-      → ((a : ℕ) → Answers d a x j (p.intro ts (p.expr ts a) (after_next ts m i)))
-      → ((a : ℕ) → Answers d a v n (p.expr ts a true Whole (after_next ts true j)))
-      → ((a : ℕ) → Answers d a o l (p.filter ts (p.expr ts a) k.CloseBracket n))
-      → Answers (suc d) b (node.term (next_index ts m i) l (node.for_tuple x v o)) l (p.term ts b (deeper ts b) m i)
+      → ((a : ℕ) → Answers d a x j (p.intro nodes ts (p.under nodes ts a).expr (after_next ts m i)))
+      → ((a : ℕ) → Answers d a v n ((p.under nodes ts a).expr true Whole (after_next ts true j)))
+      → ((a : ℕ) → Answers d a o l (p.condition nodes ts (p.under nodes ts a).expr k.CloseBracket n))
+      → Answers (suc d) b (node.term (next_index ts m i) l (node.for_tuple x v o)) l (term b m i (next_kind ts m i))
   unfolding p.tuple_or_for p.for_tuple
   term_for_tuple m i h w c zero x v o = rw (term-at zero m k.OpenBracket i h) (deep (omega arith))
   term_for_tuple {j} m i h w c (suc a) x v o =
@@ -247,11 +260,11 @@ module _ (ts : List Token) where
 
   term_for_object : {d : ℕ} {x : Intro} {y v : Expr} {s : Bool} {o : Option Expr} {j n q r l : ℕ} (m : Bool) (i : ℕ) → NextIs ts m k.OpenBrace i → next_is_word ts true for_word (after_next ts m i) ≡ true → NextIs ts true k.Colon j → NextIs ts true k.FatArrow n
       → next_is ts true k.Ellipsis q ≡ s → after_if_next ts true k.Ellipsis q ≡ r → (b : ℕ)
-      → ((a : ℕ) → Answers d a x j (p.intro ts (p.expr ts a) (after_next ts m i)))
-      → ((a : ℕ) → Answers d a y n (p.expr ts a true Whole (after_next ts true j)))
-      → ((a : ℕ) → Answers d a v q (p.expr ts a true Whole (after_next ts true n)))
-      → ((a : ℕ) → Answers d a o l (p.filter ts (p.expr ts a) k.CloseBrace r))
-      → Answers (suc d) b (node.term (next_index ts m i) l (node.for_object x y v s o)) l (p.term ts b (deeper ts b) m i)
+      → ((a : ℕ) → Answers d a x j (p.intro nodes ts (p.under nodes ts a).expr (after_next ts m i)))
+      → ((a : ℕ) → Answers d a y n ((p.under nodes ts a).expr true Whole (after_next ts true j)))
+      → ((a : ℕ) → Answers d a v q ((p.under nodes ts a).expr true Whole (after_next ts true n)))
+      → ((a : ℕ) → Answers d a o l (p.condition nodes ts (p.under nodes ts a).expr k.CloseBrace r))
+      → Answers (suc d) b (node.term (next_index ts m i) l (node.for_object x y v s o)) l (term b m i (next_kind ts m i))
   unfolding p.object_or_for p.for_object p.for_value
   term_for_object m i h w c f e1 e2 zero x y v o = rw (term-at zero m k.OpenBrace i h) (deep (omega arith))
   term_for_object {j} {n} m i h w c f e1 e2 (suc a) x y v o =
@@ -259,137 +272,143 @@ module _ (ts : List Token) where
       (bind _ (deeper_found (v a)) (rw (e1, e2) (bind _ (deeper_found (o a)) found)))))))
 
   term_quoted : {d : ℕ} {ps : List Part} {j : ℕ} (m : Bool) (i : ℕ) → NextIs ts m k.QuoteOpen i → NextIs ts m k.QuoteClose j → (b : ℕ)
-      → ((a : ℕ) → Answers d a ps j (p.parts ts a m (after_next ts m i)))
-      → Answers (suc d) b (node.term (next_index ts m i) (after_next ts m j) (shape.Quoted (node.template (first_token_in ts m (after_next ts m i) j) j ps))) (after_next ts m j) (p.term ts b (deeper ts b) m i)
-  unfolding p.quoted p.template_until
+      → ((a : ℕ) → Answers d a ps j ((p.under nodes ts a).parts m (after_next ts m i)))
+      → Answers (suc d) b (node.term (next_index ts m i) (after_next ts m j) (shape.Quoted (node.template (first_token_in ts m (after_next ts m i) j) j ps))) (after_next ts m j) (term b m i (next_kind ts m i))
+  unfolding p.quoted p.template
   term_quoted m i h c zero x = rw (term-at zero m k.QuoteOpen i h) (deep (omega arith))
-  term_quoted {j} m i h c (suc a) x = rw (term-at (suc a) m k.QuoteOpen i h) (bind _ (bind _ (deeper_found (x a)) (rw (expect-yes ts m k.QuoteClose j c) found)) found)
+  term_quoted {j} m i h c (suc a) x = rw (term-at (suc a) m k.QuoteOpen i h) (bind _ (bind _ (deeper_found (x a)) found) (rw (expect-yes ts m k.QuoteClose j c) found))
 
   term_heredoc : {d : ℕ} {ps : List Part} {j : ℕ} (m : Bool) (i : ℕ) → NextIs ts m k.HereOpen i → NextIs ts m k.HereClose j → (b : ℕ)
-      → ((a : ℕ) → Answers d a ps j (p.parts ts a m (after_next ts m i)))
-      → Answers (suc d) b (node.term (next_index ts m i) (after_next ts m j) (shape.Heredoc (node.template (first_token_in ts m (after_next ts m i) j) j ps))) (after_next ts m j) (p.term ts b (deeper ts b) m i)
-  unfolding p.heredoc p.template_until
+      → ((a : ℕ) → Answers d a ps j ((p.under nodes ts a).parts m (after_next ts m i)))
+      → Answers (suc d) b (node.term (next_index ts m i) (after_next ts m j) (shape.Heredoc (node.template (first_token_in ts m (after_next ts m i) j) j ps))) (after_next ts m j) (term b m i (next_kind ts m i))
+  unfolding p.heredoc p.template
   term_heredoc m i h c zero x = rw (term-at zero m k.HereOpen i h) (deep (omega arith))
-  term_heredoc {j} m i h c (suc a) x = rw (term-at (suc a) m k.HereOpen i h) (bind _ (bind _ (deeper_found (x a)) (rw (expect-yes ts m k.HereClose j c) found)) found)
+  term_heredoc {j} m i h c (suc a) x = rw (term-at (suc a) m k.HereOpen i h) (bind _ (bind _ (deeper_found (x a)) found) (rw (expect-yes ts m k.HereClose j c) found))
+
+  enclosed-yes : {d : ℕ} {e : Expr} {j : ℕ} (close : Kind) (first i : ℕ) → NextIs ts true close j → (b : ℕ)
+      → ((a : ℕ) → Answers d a e j ((p.under nodes ts a).expr true Whole i))
+      → Answers (suc d) b e (after_next ts true j) (p.enclosed nodes ts b (deeper nodes ts b) close first i)
+  unfolding p.enclosed
+  enclosed-yes close first i c zero x = deep (omega arith)
+  enclosed-yes {j} close first i c (suc a) x = bind _ (deeper_found (x a)) (rw (expect-yes ts true close j c) found)
 
   term_parens : {d : ℕ} {e : Expr} {j : ℕ} (m : Bool) (i : ℕ) → NextIs ts m k.OpenParen i → NextIs ts true k.CloseParen j → (b : ℕ)
-      → ((a : ℕ) → Answers d a e j (p.expr ts a true Whole (after_next ts m i)))
-      → Answers (suc d) b (node.term (next_index ts m i) (after_next ts true j) (shape.Parens e)) (after_next ts true j) (p.term ts b (deeper ts b) m i)
+      → ((a : ℕ) → Answers d a e j ((p.under nodes ts a).expr true Whole (after_next ts m i)))
+      → Answers (suc d) b (node.term (next_index ts m i) (after_next ts true j) (shape.Parens e)) (after_next ts true j) (term b m i (next_kind ts m i))
   unfolding p.parens
-  term_parens m i h c zero x = rw (term-at zero m k.OpenParen i h) (deep (omega arith))
-  term_parens {j} m i h c (suc a) x = rw (term-at (suc a) m k.OpenParen i h) (bind _ (deeper_found (x a)) (rw (expect-yes ts true k.CloseParen j c) found))
+  term_parens m i h c b x = rw (term-at b m k.OpenParen i h) (bind _ (enclosed-yes k.CloseParen (next_index ts m i) (after_next ts m i) c b x) found)
 
   -- ---- items, arguments and elements, over the expressions of budget a
 
   items_none : {d a : ℕ} (turns : ℕ) (xs : List Expr) (i : ℕ) → NextIs ts true k.CloseBracket i
-      → Answers d a xs (after_next ts true i) (p.tuple_items_from ts (p.expr ts a) (suc turns) xs i)
+      → Answers d a xs (after_next ts true i) (p.tuple_items_from nodes ts (p.under nodes ts a).expr (suc turns) xs i)
   unfolding p.tuple_items_from
   items_none turns xs i h = rw (sees-yes ts true k.CloseBracket i h, if_next-yes ts true k.CloseBracket i h) found
 
-  items_last : {d a : ℕ} {e : Expr} {j : ℕ} (turns : ℕ) (xs : List Expr) (i : ℕ) → next_is ts true k.CloseBracket i ≡ false → Answers d a e j (p.expr ts a true Whole i) → NextIs ts true k.CloseBracket j
-      → Answers d a (xs ++ e ∷ []) (after_next ts true j) (p.tuple_items_from ts (p.expr ts a) (suc turns) xs i)
+  items_last : {d a : ℕ} {e : Expr} {j : ℕ} (turns : ℕ) (xs : List Expr) (i : ℕ) → next_is ts true k.CloseBracket i ≡ false → Answers d a e j ((p.under nodes ts a).expr true Whole i) → NextIs ts true k.CloseBracket j
+      → Answers d a (xs ++ e ∷ []) (after_next ts true j) (p.tuple_items_from nodes ts (p.under nodes ts a).expr (suc turns) xs i)
   unfolding p.tuple_items_from same_kind
   items_last {j} turns xs i n r h =
       let c = sees-other ts true k.CloseBracket k.Comma j h refl in
       rw (n, if_next-no ts true k.CloseBracket i n) (bind _ r (rw (c, if_next-no ts true k.Comma j c, expect-yes ts true k.CloseBracket j h) found))
 
-  items_more : {d a : ℕ} {e : Expr} {ys : List Expr} {j l : ℕ} (turns : ℕ) (xs : List Expr) (i : ℕ) → next_is ts true k.CloseBracket i ≡ false → Answers d a e j (p.expr ts a true Whole i)
-      → NextIs ts true k.Comma j → Answers d a ys l (p.tuple_items_from ts (p.expr ts a) turns (xs ++ e ∷ []) (after_next ts true j))
-      → Answers d a ys l (p.tuple_items_from ts (p.expr ts a) (suc turns) xs i)
+  items_more : {d a : ℕ} {e : Expr} {ys : List Expr} {j l : ℕ} (turns : ℕ) (xs : List Expr) (i : ℕ) → next_is ts true k.CloseBracket i ≡ false → Answers d a e j ((p.under nodes ts a).expr true Whole i)
+      → NextIs ts true k.Comma j → Answers d a ys l (p.tuple_items_from nodes ts (p.under nodes ts a).expr turns (xs ++ e ∷ []) (after_next ts true j))
+      → Answers d a ys l (p.tuple_items_from nodes ts (p.under nodes ts a).expr (suc turns) xs i)
   unfolding p.tuple_items_from
   items_more {j} turns xs i n r c more = rw (n, if_next-no ts true k.CloseBracket i n) (bind _ r (rw (sees-yes ts true k.Comma j c, if_next-yes ts true k.Comma j c) more))
 
   arguments_none : {d a : ℕ} (turns : ℕ) (xs : List Expr) (i : ℕ) → NextIs ts true k.CloseParen i
-      → Answers d a (xs, false) (after_next ts true i) (p.arguments_from ts (p.expr ts a) (suc turns) xs i)
+      → Answers d a (xs, false) (after_next ts true i) (p.arguments_from nodes ts (p.under nodes ts a).expr (suc turns) xs i)
   unfolding p.arguments_from
   arguments_none turns xs i h = rw (sees-yes ts true k.CloseParen i h, if_next-yes ts true k.CloseParen i h) found
 
-  arguments_last : {d a : ℕ} {e : Expr} {j : ℕ} (turns : ℕ) (xs : List Expr) (i : ℕ) → next_is ts true k.CloseParen i ≡ false → Answers d a e j (p.expr ts a true Whole i) → NextIs ts true k.CloseParen j
-      → Answers d a (xs ++ e ∷ [], false) (after_next ts true j) (p.arguments_from ts (p.expr ts a) (suc turns) xs i)
+  arguments_last : {d a : ℕ} {e : Expr} {j : ℕ} (turns : ℕ) (xs : List Expr) (i : ℕ) → next_is ts true k.CloseParen i ≡ false → Answers d a e j ((p.under nodes ts a).expr true Whole i) → NextIs ts true k.CloseParen j
+      → Answers d a (xs ++ e ∷ [], false) (after_next ts true j) (p.arguments_from nodes ts (p.under nodes ts a).expr (suc turns) xs i)
   unfolding p.arguments_from same_kind
   arguments_last {j} turns xs i n r h =
       let c = sees-other ts true k.CloseParen k.Comma j h refl in
       let s = sees-other ts true k.CloseParen k.Ellipsis j h refl in
       rw (n, if_next-no ts true k.CloseParen i n) (bind _ r (rw (c, if_next-no ts true k.Comma j c, s, if_next-no ts true k.Ellipsis j s, expect-yes ts true k.CloseParen j h) found))
 
-  arguments_spread : {d a : ℕ} {e : Expr} {j : ℕ} (turns : ℕ) (xs : List Expr) (i : ℕ) → next_is ts true k.CloseParen i ≡ false → Answers d a e j (p.expr ts a true Whole i) → NextIs ts true k.Ellipsis j → NextIs ts true k.CloseParen (after_next ts true j)
-      → Answers d a (xs ++ e ∷ [], true) (after_next ts true (after_next ts true j)) (p.arguments_from ts (p.expr ts a) (suc turns) xs i)
+  arguments_spread : {d a : ℕ} {e : Expr} {j : ℕ} (turns : ℕ) (xs : List Expr) (i : ℕ) → next_is ts true k.CloseParen i ≡ false → Answers d a e j ((p.under nodes ts a).expr true Whole i) → NextIs ts true k.Ellipsis j → NextIs ts true k.CloseParen (after_next ts true j)
+      → Answers d a (xs ++ e ∷ [], true) (after_next ts true (after_next ts true j)) (p.arguments_from nodes ts (p.under nodes ts a).expr (suc turns) xs i)
   unfolding p.arguments_from same_kind
   arguments_spread {j} turns xs i n r s h =
       let c = sees-other ts true k.Ellipsis k.Comma j s refl in
       rw (n, if_next-no ts true k.CloseParen i n) (bind _ r (rw (c, if_next-no ts true k.Comma j c, sees-yes ts true k.Ellipsis j s, if_next-yes ts true k.Ellipsis j s, expect-yes ts true k.CloseParen (after_next ts true j) h) found))
 
-  arguments_more : {d a : ℕ} {e : Expr} {ys : List Expr × Bool} {j l : ℕ} (turns : ℕ) (xs : List Expr) (i : ℕ) → next_is ts true k.CloseParen i ≡ false → Answers d a e j (p.expr ts a true Whole i)
-      → NextIs ts true k.Comma j → Answers d a ys l (p.arguments_from ts (p.expr ts a) turns (xs ++ e ∷ []) (after_next ts true j))
-      → Answers d a ys l (p.arguments_from ts (p.expr ts a) (suc turns) xs i)
+  arguments_more : {d a : ℕ} {e : Expr} {ys : List Expr × Bool} {j l : ℕ} (turns : ℕ) (xs : List Expr) (i : ℕ) → next_is ts true k.CloseParen i ≡ false → Answers d a e j ((p.under nodes ts a).expr true Whole i)
+      → NextIs ts true k.Comma j → Answers d a ys l (p.arguments_from nodes ts (p.under nodes ts a).expr turns (xs ++ e ∷ []) (after_next ts true j))
+      → Answers d a ys l (p.arguments_from nodes ts (p.under nodes ts a).expr (suc turns) xs i)
   unfolding p.arguments_from
   arguments_more {j} turns xs i n r c more = rw (n, if_next-no ts true k.CloseParen i n) (bind _ r (rw (sees-yes ts true k.Comma j c, if_next-yes ts true k.Comma j c) more))
 
-  elem_equals : {d a : ℕ} {x y : Expr} {j l : ℕ} (i : ℕ) → Answers d a x j (p.expr ts a false Whole i) → NextIs ts false k.Equal j → Answers d a y l (p.expr ts a false Whole (after_next ts false j))
-      → Answers d a (node.elem x y) l (p.element ts (p.expr ts a) i)
-  unfolding p.element
-  elem_equals {j} i r h q = bind _ r (rw (sees-yes ts false k.Equal j h, if_next-yes ts false k.Equal j h) (bind _ q found))
+  elem_equals : {d a : ℕ} {x y : Expr} {j l : ℕ} (xs : List Elem) (i : ℕ) → Answers d a x j ((p.under nodes ts a).expr false Whole i) → NextIs ts false k.Equal j → Answers d a y l ((p.under nodes ts a).expr false Whole (after_next ts false j))
+      → Answers d a (xs ++ node.elem x y ∷ []) l (p.element nodes ts (p.under nodes ts a).expr xs i)
+  unfolding p.element steps.equals_or_colon
+  elem_equals {j} xs i r h q = bind _ r (rw (sees-yes ts false k.Equal j h, if_next-yes ts false k.Equal j h) (bind _ q found))
 
-  elem_colon : {d a : ℕ} {x y : Expr} {j l : ℕ} (i : ℕ) → Answers d a x j (p.expr ts a false Whole i) → NextIs ts false k.Colon j → Answers d a y l (p.expr ts a false Whole (after_next ts false j))
-      → Answers d a (node.elem x y) l (p.element ts (p.expr ts a) i)
-  unfolding p.element same_kind
-  elem_colon {j} i r h q = let n = sees-other ts false k.Colon k.Equal j h refl in bind _ r (rw (n, if_next-no ts false k.Equal j n, expect-yes ts false k.Colon j h) (bind _ q found))
+  elem_colon : {d a : ℕ} {x y : Expr} {j l : ℕ} (xs : List Elem) (i : ℕ) → Answers d a x j ((p.under nodes ts a).expr false Whole i) → NextIs ts false k.Colon j → Answers d a y l ((p.under nodes ts a).expr false Whole (after_next ts false j))
+      → Answers d a (xs ++ node.elem x y ∷ []) l (p.element nodes ts (p.under nodes ts a).expr xs i)
+  unfolding p.element steps.equals_or_colon same_kind
+  elem_colon {j} xs i r h q = let n = sees-other ts false k.Colon k.Equal j h refl in bind _ r (rw (n, if_next-no ts false k.Equal j n, expect-yes ts false k.Colon j h) (bind _ q found))
 
   elems_none : {d a : ℕ} (turns : ℕ) (xs : List Elem) (i : ℕ) → NextIs ts false k.CloseBrace i
-      → Answers d a xs (after_next ts false i) (p.elements_from ts (p.expr ts a) (suc turns) xs i)
+      → Answers d a xs (after_next ts false i) (p.elements_from nodes ts (p.under nodes ts a).expr (suc turns) xs i)
   unfolding p.elements_from
   elems_none turns xs i h = rw (sees-yes ts false k.CloseBrace i h, if_next-yes ts false k.CloseBrace i h) found
 
-  elems_last : {d a : ℕ} {x : Elem} {j : ℕ} (turns : ℕ) (xs : List Elem) (i : ℕ) → next_is ts false k.CloseBrace i ≡ false → Answers d a x j (p.element ts (p.expr ts a) i)
+  elems_last : {d a : ℕ} {j : ℕ} (turns : ℕ) (xs : List Elem) (x : Elem) (i : ℕ) → next_is ts false k.CloseBrace i ≡ false → Answers d a (xs ++ x ∷ []) j (p.element nodes ts (p.under nodes ts a).expr xs i)
       → NextIs ts false k.CloseBrace j
-      → Answers d a (xs ++ x ∷ []) (after_next ts false j) (p.elements_from ts (p.expr ts a) (suc turns) xs i)
+      → Answers d a (xs ++ x ∷ []) (after_next ts false j) (p.elements_from nodes ts (p.under nodes ts a).expr (suc turns) xs i)
   unfolding p.elements_from
-  elems_last {j} turns xs i n r h = rw (n, if_next-no ts false k.CloseBrace i n) (bind _ r (rw (sep_or_end-no ts j h) found))
+  elems_last {j} turns xs x i n r h = rw (n, if_next-no ts false k.CloseBrace i n) (bind _ r (rw (sep_or_end-no ts j h) found))
 
-  elems_more : {d a : ℕ} {x : Elem} {ys : List Elem} {j n l : ℕ} (turns : ℕ) (xs : List Elem) (i : ℕ) → next_is ts false k.CloseBrace i ≡ false → Answers d a x j (p.element ts (p.expr ts a) i)
-      → IsSep ts j n → NoInner ts n → Answers d a ys l (p.elements_from ts (p.expr ts a) turns (xs ++ x ∷ []) n)
-      → Answers d a ys l (p.elements_from ts (p.expr ts a) (suc turns) xs i)
+  elems_more : {d a : ℕ} {ys : List Elem} {j n l : ℕ} (turns : ℕ) (xs : List Elem) (x : Elem) (i : ℕ) → next_is ts false k.CloseBrace i ≡ false → Answers d a (xs ++ x ∷ []) j (p.element nodes ts (p.under nodes ts a).expr xs i)
+      → IsSep ts j n → NoInner ts n → Answers d a ys l (p.elements_from nodes ts (p.under nodes ts a).expr turns (xs ++ x ∷ []) n)
+      → Answers d a ys l (p.elements_from nodes ts (p.under nodes ts a).expr (suc turns) xs i)
   unfolding p.elements_from
-  elems_more turns xs i not r s line more = rw (not, if_next-no ts false k.CloseBrace i not) (bind _ r (rw (sep_or_end-yes s line) more))
+  elems_more turns xs x i not r s line more = rw (not, if_next-no ts false k.CloseBrace i not) (bind _ r (rw (sep_or_end-yes s line) more))
 
   -- ---- `for`
 
-  second-yes : {o : Option ℕ} {i j : ℕ} → IsSecondName ts o i j → NextIsWord ts true in_word j → p.second_name ts i ≡ Ok (o, j)
-  unfolding p.second_name same_kind
+  second-yes : {o : Option ℕ} {i j : ℕ} → IsSecondName ts o i j → NextIsWord ts true in_word j → steps.second_name ts i ≡ Ok (o, j)
+  unfolding steps.second_name same_kind
   second-yes (no_second {i}) w = let n = sees-other ts true k.Identifier k.Comma i (word_at ts true in_word i w) refl in rw (n, if_next-no ts true k.Comma i n)
   second-yes (second {i} q n) w = rw (sees-yes ts true k.Comma i q, if_next-yes ts true k.Comma i q, expect-yes ts true k.Identifier (after_next ts true i) n)
 
   intro_by : {d a : ℕ} {o : Option ℕ} {e : Expr} {j l : ℕ} (i : ℕ) → NextIsWord ts true for_word i → NextIs ts true k.Identifier (after_next ts true i) → IsSecondName ts o (after_next ts true (after_next ts true i)) j → NextIsWord ts true in_word j
-      → Answers d a e l (p.expr ts a true Whole (after_next ts true j))
-      → Answers d a (node.intro (next_index ts true i) l (next_index ts true (after_next ts true i)) o e) l (p.intro ts (p.expr ts a) i)
+      → Answers d a e l ((p.under nodes ts a).expr true Whole (after_next ts true j))
+      → Answers d a (node.intro (next_index ts true i) l (next_index ts true (after_next ts true i)) o e) l (p.intro nodes ts (p.under nodes ts a).expr i)
   unfolding p.intro
   intro_by {j} i w n s v r = rw (word-yes ts true for_word i w, expect-yes ts true k.Identifier (after_next ts true i) n, second-yes s v, word-yes ts true in_word j v) (bind _ r found)
 
-  filter_none : {d a : ℕ} (close : Kind) (i : ℕ) → NextIs ts true close i → same_kind k.Identifier close ≡ false → Answers d a None (after_next ts true i) (p.filter ts (p.expr ts a) close i)
-  unfolding p.filter
+  filter_none : {d a : ℕ} (close : Kind) (i : ℕ) → NextIs ts true close i → same_kind k.Identifier close ≡ false → Answers d a None (after_next ts true i) (p.condition nodes ts (p.under nodes ts a).expr close i)
+  unfolding p.condition
   filter_none close i h n = rw (reads-other ts true if_word close i h n, expect-yes ts true close i h) found
 
-  filter_some : {d a : ℕ} {e : Expr} {j : ℕ} (close : Kind) (i : ℕ) → NextIsWord ts true if_word i → Answers d a e j (p.expr ts a true Whole (after_next ts true i)) → NextIs ts true close j
-      → Answers d a (Some e) (after_next ts true j) (p.filter ts (p.expr ts a) close i)
-  unfolding p.filter
+  filter_some : {d a : ℕ} {e : Expr} {j : ℕ} (close : Kind) (i : ℕ) → NextIsWord ts true if_word i → Answers d a e j ((p.under nodes ts a).expr true Whole (after_next ts true i)) → NextIs ts true close j
+      → Answers d a (Some e) (after_next ts true j) (p.condition nodes ts (p.under nodes ts a).expr close i)
+  unfolding p.condition
   filter_some {j} close i w r h = rw (reads-yes ts true if_word i w) (bind _ r (rw (expect-yes ts true close j h) found))
 
   -- ---- templates
 
-  keyword-yes : {m : Bool} {w : List ℕ} {i j : ℕ} → IsKeyword ts m w i j → p.keyword_directive ts m w i ≡ Ok (tt, j)
-  unfolding p.keyword_directive
+  keyword-yes : {m : Bool} {w : List ℕ} {i j : ℕ} → IsKeyword ts m w i j → steps.keyword_directive ts m w i ≡ Ok (tt, j)
+  unfolding steps.keyword_directive
   keyword-yes (keyword {m} {w} {i} h v c) = rw (expect-yes ts m k.DirectiveOpen i h, word-yes ts true w (after_next ts m i) v, expect-yes ts true k.SeqClose (after_next ts true (after_next ts m i)) c)
 
   pub keyword_word : {m : Bool} {w : List ℕ} {i j : ℕ} → IsKeyword ts m w i j → NextIsWord ts true w (after_next ts m i)
   keyword_word (keyword h w c) = w
 
-  part-at : (b : ℕ) (m : Bool) (o : Option Kind) (i : ℕ) → next_kind ts m i ≡ o → p.part_of ts b (deeper ts b) (twice ts b) m i ≡ p.part_by ts b (deeper ts b) (twice ts b) m (next_index ts m i) o i
+  part-at : (b : ℕ) (m : Bool) (o : Option Kind) (i : ℕ) → next_kind ts m i ≡ o → p.part_of nodes ts b (deeper nodes ts b) (twice nodes ts b) m i ≡ p.part_by nodes ts b (deeper nodes ts b) (twice nodes ts b) m (next_index ts m i) o i
   unfolding p.part_of
-  part-at b m o i h = ap (λ o. p.part_by ts b (deeper ts b) (twice ts b) m (next_index ts m i) o i) h
+  part-at b m o i h = ap (λ o. p.part_by nodes ts b (deeper nodes ts b) (twice nodes ts b) m (next_index ts m i) o i) h
 
   -- no part comes next
   pub record NoPart (m : Bool) (i : ℕ) : Type 0 where
-    pub is : (b : ℕ) → p.part_of ts b (deeper ts b) (twice ts b) m i ≡ Ok (None, i)
+    pub is : (b : ℕ) → p.part_of nodes ts b (deeper nodes ts b) (twice nodes ts b) m i ≡ Ok (None, i)
 
   no_part_quote : (m : Bool) (i : ℕ) → NextIs ts m k.QuoteClose i → NoPart m i
   no_part_quote m i h = record { is = λ b. part-at b m (Some k.QuoteClose) i h }
@@ -413,83 +432,82 @@ module _ (ts : List Token) where
   no_part_other (no_else x) = no_part_endif x
   no_part_other (has_else x ps y) = no_part_else x
 
-  parts_end : {d b : ℕ} (m : Bool) (turns : ℕ) (xs : List Part) (i : ℕ) → NoPart m i → Answers d b xs i (p.parts_from ts b (deeper ts b) (twice ts b) m turns xs i)
+  parts_end : {d b : ℕ} (m : Bool) (turns : ℕ) (xs : List Part) (i : ℕ) → NoPart m i → Answers d b xs i (p.parts_from nodes ts b (deeper nodes ts b) (twice nodes ts b) m turns xs i)
   unfolding p.parts_from
   parts_end m zero xs i s = found
   parts_end {b} m (suc turns) xs i s = rw (s.is b) found
 
-  parts_more : {d b : ℕ} {x : Part} {ys : List Part} {j l : ℕ} (m : Bool) (turns : ℕ) (xs : List Part) (i : ℕ) → Answers d b (Some x) j (p.part_of ts b (deeper ts b) (twice ts b) m i)
-      → Answers d b ys l (p.parts_from ts b (deeper ts b) (twice ts b) m turns (xs ++ x ∷ []) j)
-      → Answers d b ys l (p.parts_from ts b (deeper ts b) (twice ts b) m (suc turns) xs i)
+  parts_more : {d b : ℕ} {x : Part} {ys : List Part} {j l : ℕ} (m : Bool) (turns : ℕ) (xs : List Part) (i : ℕ) → Answers d b (Some x) j (p.part_of nodes ts b (deeper nodes ts b) (twice nodes ts b) m i)
+      → Answers d b ys l (p.parts_from nodes ts b (deeper nodes ts b) (twice nodes ts b) m turns (xs ++ x ∷ []) j)
+      → Answers d b ys l (p.parts_from nodes ts b (deeper nodes ts b) (twice nodes ts b) m (suc turns) xs i)
   unfolding p.parts_from
   parts_more m turns xs i r more = bind _ r more
 
-  part_quote : {d : ℕ} (m : Bool) (i : ℕ) → NextIs ts m k.QuoteLit i → (b : ℕ) → Answers d b (Some (part.Literal (next_index ts m i))) (after_next ts m i) (p.part_of ts b (deeper ts b) (twice ts b) m i)
+  part_quote : {d : ℕ} (m : Bool) (i : ℕ) → NextIs ts m k.QuoteLit i → (b : ℕ) → Answers d b (Some (part.Literal (next_index ts m i))) (after_next ts m i) (p.part_of nodes ts b (deeper nodes ts b) (twice nodes ts b) m i)
   part_quote m i h b = rw (part-at b m (Some k.QuoteLit) i h) found
 
-  part_here : {d : ℕ} (m : Bool) (i : ℕ) → NextIs ts m k.HereLit i → (b : ℕ) → Answers d b (Some (part.Literal (next_index ts m i))) (after_next ts m i) (p.part_of ts b (deeper ts b) (twice ts b) m i)
+  part_here : {d : ℕ} (m : Bool) (i : ℕ) → NextIs ts m k.HereLit i → (b : ℕ) → Answers d b (Some (part.Literal (next_index ts m i))) (after_next ts m i) (p.part_of nodes ts b (deeper nodes ts b) (twice nodes ts b) m i)
   part_here m i h b = rw (part-at b m (Some k.HereLit) i h) found
 
   part_interp : {d : ℕ} {e : Expr} {j : ℕ} (m : Bool) (i : ℕ) → NextIs ts m k.InterpOpen i → NextIs ts true k.SeqClose j → (b : ℕ)
-      → ((a : ℕ) → Answers d a e j (p.expr ts a true Whole (after_next ts m i)))
-      → Answers (suc d) b (Some (part.Interp e)) (after_next ts true j) (p.part_of ts b (deeper ts b) (twice ts b) m i)
-  unfolding p.interp
-  part_interp m i h c zero x = rw (part-at zero m (Some k.InterpOpen) i h) (deep (omega arith))
-  part_interp {j} m i h c (suc a) x = rw (part-at (suc a) m (Some k.InterpOpen) i h) (bind _ (bind _ (deeper_found (x a)) (rw (expect-yes ts true k.SeqClose j c) found)) found)
+      → ((a : ℕ) → Answers d a e j ((p.under nodes ts a).expr true Whole (after_next ts m i)))
+      → Answers (suc d) b (Some (part.Interp e)) (after_next ts true j) (p.part_of nodes ts b (deeper nodes ts b) (twice nodes ts b) m i)
+  unfolding p.interpolation
+  part_interp m i h c b x = rw (part-at b m (Some k.InterpOpen) i h) (bind _ (bind _ (enclosed-yes k.SeqClose (next_index ts m i) (after_next ts m i) c b x) found) found)
 
   part_if : {d : ℕ} {e : Expr} {ps : List Part} {o : Option Template} {j n l : ℕ} (m : Bool) (i : ℕ) → NextIs ts m k.DirectiveOpen i → NextIsWord ts true if_word (after_next ts m i) → NextIs ts true k.SeqClose j → (b : ℕ)
-      → ((a : ℕ) → Answers d a e j (p.expr ts a true Whole (after_next ts true (after_next ts m i))))
-      → ((a : ℕ) → Answers (suc d) a ps n (p.parts ts a m (after_next ts true j)))
-      → ((b a : ℕ) → Answers (suc d) a o l (p.else_and_endif ts b (p.under ts a) m n))
-      → Answers (suc (suc d)) b (Some (node.if_part (next_index ts m i) l e (node.template (first_token_in ts m (after_next ts true j) n) n ps) o)) l (p.part_of ts b (deeper ts b) (twice ts b) m i)
-  unfolding p.directive p.if_directive
+      → ((a : ℕ) → Answers d a e j ((p.under nodes ts a).expr true Whole (after_next ts true (after_next ts m i))))
+      → ((a : ℕ) → Answers (suc d) a ps n ((p.under nodes ts a).parts m (after_next ts true j)))
+      → ((b a : ℕ) → Answers (suc d) a o l (p.else_and_endif nodes ts b (p.under nodes ts a) m n))
+      → Answers (suc (suc d)) b (Some (node.if_part (next_index ts m i) l e (node.template (first_token_in ts m (after_next ts true j) n) n ps) o)) l (p.part_of nodes ts b (deeper nodes ts b) (twice nodes ts b) m i)
+  unfolding p.directive p.if_directive p.template
   part_if m i h w c zero x ps o = rw (part-at zero m (Some k.DirectiveOpen) i h, reads-yes ts true if_word (after_next ts m i) w) (deep (omega arith))
   part_if m i h w c (suc zero) x ps o = rw (part-at (suc zero) m (Some k.DirectiveOpen) i h, reads-yes ts true if_word (after_next ts m i) w) (deep (omega arith))
   part_if {j} m i h w c (suc (suc a)) x ps o =
       rw (part-at (suc (suc a)) m (Some k.DirectiveOpen) i h, reads-yes ts true if_word (after_next ts m i) w)
-      (bind _ (bind _ (deeper_found (deeper_found (x a))) (rw (expect-yes ts true k.SeqClose j c) (bind _ (deeper_found (ps (suc a))) (bind _ (deeper_found (o (suc (suc a)) (suc a))) found)))) found)
+      (bind _ (bind _ (deeper_found (deeper_found (x a))) (rw (expect-yes ts true k.SeqClose j c) (bind _ (bind _ (deeper_found (ps (suc a))) found) (bind _ (deeper_found (o (suc (suc a)) (suc a))) found)))) found)
 
   part_for : {d : ℕ} {x : Intro} {ps : List Part} {j n l : ℕ} (m : Bool) (i : ℕ) → NextIs ts m k.DirectiveOpen i → NextIsWord ts true for_word (after_next ts m i) → NextIs ts true k.SeqClose j → IsKeyword ts m endfor_word n l → (b : ℕ)
-      → ((a : ℕ) → Answers d a x j (p.intro ts (p.expr ts a) (after_next ts m i)))
-      → ((a : ℕ) → Answers (suc d) a ps n (p.parts ts a m (after_next ts true j)))
-      → Answers (suc (suc d)) b (Some (node.for_part (next_index ts m i) l x (node.template (first_token_in ts m (after_next ts true j) n) n ps))) l (p.part_of ts b (deeper ts b) (twice ts b) m i)
-  unfolding p.directive p.for_directive
+      → ((a : ℕ) → Answers d a x j (p.intro nodes ts (p.under nodes ts a).expr (after_next ts m i)))
+      → ((a : ℕ) → Answers (suc d) a ps n ((p.under nodes ts a).parts m (after_next ts true j)))
+      → Answers (suc (suc d)) b (Some (node.for_part (next_index ts m i) l x (node.template (first_token_in ts m (after_next ts true j) n) n ps))) l (p.part_of nodes ts b (deeper nodes ts b) (twice nodes ts b) m i)
+  unfolding p.directive p.for_directive p.template
   part_for m i h w c e zero x ps = rw (part-at zero m (Some k.DirectiveOpen) i h, reads-another ts true for_word if_word (after_next ts m i) w refl, reads-yes ts true for_word (after_next ts m i) w) (deep (omega arith))
   part_for m i h w c e (suc zero) x ps = rw (part-at (suc zero) m (Some k.DirectiveOpen) i h, reads-another ts true for_word if_word (after_next ts m i) w refl, reads-yes ts true for_word (after_next ts m i) w) (deep (omega arith))
   part_for {j} m i h w c e (suc (suc a)) x ps =
       rw (part-at (suc (suc a)) m (Some k.DirectiveOpen) i h, reads-another ts true for_word if_word (after_next ts m i) w refl, reads-yes ts true for_word (after_next ts m i) w)
-      (bind _ (bind _ (deeper_found (deeper_found (x a))) (rw (expect-yes ts true k.SeqClose j c) (bind _ (deeper_found (ps (suc a))) (rw (keyword-yes e) found)))) found)
+      (bind _ (bind _ (deeper_found (deeper_found (x a))) (rw (expect-yes ts true k.SeqClose j c) (bind _ (bind _ (deeper_found (ps (suc a))) found) (rw (keyword-yes e) found)))) found)
 
-  otherwise_none : {d a : ℕ} {j : ℕ} (b : ℕ) (m : Bool) (i : ℕ) → IsKeyword ts m endif_word i j → Answers d a None j (p.else_and_endif ts b (p.under ts a) m i)
+  otherwise_none : {d a : ℕ} {j : ℕ} (b : ℕ) (m : Bool) (i : ℕ) → IsKeyword ts m endif_word i j → Answers d a None j (p.else_and_endif nodes ts b (p.under nodes ts a) m i)
   unfolding p.else_and_endif
   otherwise_none b m i x = rw (reads-another ts true endif_word else_word (after_next ts m i) (keyword_word x) refl, keyword-yes x) found
 
-  otherwise_some : {d a : ℕ} {ps : List Part} {j n l : ℕ} (b : ℕ) (m : Bool) (i : ℕ) → IsKeyword ts m else_word i j → Answers d a ps n (p.parts ts a m j) → IsKeyword ts m endif_word n l
-      → Answers d a (Some (node.template (first_token_in ts m j n) n ps)) l (p.else_and_endif ts b (p.under ts a) m i)
-  unfolding p.else_and_endif
-  otherwise_some b m i x r e = rw (reads-yes ts true else_word (after_next ts m i) (keyword_word x), keyword-yes x) (bind _ r (rw (keyword-yes e) found))
+  otherwise_some : {d a : ℕ} {ps : List Part} {j n l : ℕ} (b : ℕ) (m : Bool) (i : ℕ) → IsKeyword ts m else_word i j → Answers d a ps n ((p.under nodes ts a).parts m j) → IsKeyword ts m endif_word n l
+      → Answers d a (Some (node.template (first_token_in ts m j n) n ps)) l (p.else_and_endif nodes ts b (p.under nodes ts a) m i)
+  unfolding p.else_and_endif p.template
+  otherwise_some b m i x r e = rw (reads-yes ts true else_word (after_next ts m i) (keyword_word x), keyword-yes x) (bind _ (bind _ r found) (rw (keyword-yes e) found))
 
   -- ---- what is one construct deeper
 
-  pub expr-is : (a : ℕ) (m : Bool) (g : Goal) (i : ℕ) → p.expr ts a m g i ≡ p.goal ts a (deeper ts a) m g i
+  pub expr-is : (a : ℕ) (m : Bool) (g : Goal) (i : ℕ) → (p.under nodes ts a).expr m g i ≡ p.goal nodes ts a (deeper nodes ts a) m g i
   unfolding p.under
   expr-is zero m g i = refl
   expr-is (suc zero) m g i = refl
   expr-is (suc (suc a)) m g i = refl
 
-  pub parts-is : (a : ℕ) (m : Bool) (i : ℕ) → p.parts ts a m i ≡ p.parts_from ts a (deeper ts a) (twice ts a) m (length ts) [] i
+  pub parts-is : (a : ℕ) (m : Bool) (i : ℕ) → (p.under nodes ts a).parts m i ≡ p.parts_from nodes ts a (deeper nodes ts a) (twice nodes ts a) m (length ts) [] i
   unfolding p.under
   parts-is zero m i = refl
   parts-is (suc zero) m i = refl
   parts-is (suc (suc a)) m i = refl
 
-  pub nested : {d : ℕ} {e : Expr} {j : ℕ} (m : Bool) (i a : ℕ) → Answers d a e j (p.whole ts a (deeper ts a) m i) → Answers d a e j (p.expr ts a m Whole i)
+  pub nested : {d : ℕ} {e : Expr} {j : ℕ} (m : Bool) (i a : ℕ) → Answers d a e j (p.whole nodes ts a (deeper nodes ts a) m i) → Answers d a e j ((p.under nodes ts a).expr m Whole i)
   nested m i a r = rw (expr-is a m Whole i) r
 
-  nested_operand : {d : ℕ} {e : Expr} {j : ℕ} (m : Bool) (i a : ℕ) → Answers d a e j (p.unary ts a (deeper ts a) m i) → Answers d a e j (p.expr ts a m Operand i)
+  nested_operand : {d : ℕ} {e : Expr} {j : ℕ} (m : Bool) (i a : ℕ) → Answers d a e j (p.unary nodes ts a (deeper nodes ts a) m i) → Answers d a e j ((p.under nodes ts a).expr m Operand i)
   nested_operand m i a r = rw (expr-is a m Operand i) r
 
-  nested_parts : {d : ℕ} {ps : List Part} {j : ℕ} (m : Bool) (i a : ℕ) → Answers d a ps j (p.parts_from ts a (deeper ts a) (twice ts a) m (length ts) [] i) → Answers d a ps j (p.parts ts a m i)
+  nested_parts : {d : ℕ} {ps : List Part} {j : ℕ} (m : Bool) (i a : ℕ) → Answers d a ps j (p.parts_from nodes ts a (deeper nodes ts a) (twice nodes ts a) m (length ts) [] i) → Answers d a ps j ((p.under nodes ts a).parts m i)
   nested_parts m i a r = rw (parts-is a m i) r
 
   -- ---- the induction
@@ -548,37 +566,40 @@ module _ (ts : List Token) where
   intro_word : {d : ℕ} {x : Intro} {i j : ℕ} → IsIntro ts d x i j → NextIsWord ts true for_word i
   intro_word (intro w q s v e) = w
 
+  -- an expression of all levels, by its chain, and what follows it
+  c_whole : {d : ℕ} {m : Bool} {c e : Expr} {i j l : ℕ} → IsLevel ts d m levels c i j → Flat ts m (IsOperand d m) levels c i j → Stops 7 ts m j → (b : ℕ)
+      → Answers d b e l (p.conditional nodes ts b (deeper nodes ts b) m (next_index ts m i) c j) → Answers d b e l (p.whole nodes ts b (deeper nodes ts b) m i)
+  c_whole {d} {m} {e} {i} {j} {l} q f s b then =
+      whole_by m i (f.operand.answers b) (chain_answers f.chain s b (length ts) [] (omega (arith, (span_level q).within, (span_unary f.operand.derived).forth)))
+      (subst (λ (c : Expr). Answers d b e l (p.conditional nodes ts b (deeper nodes ts b) m (next_index ts m i) c j)) f.is then)
+
   mutual
-    pub c_expr : {d : ℕ} {m : Bool} {e : Expr} {i j : ℕ} → IsExpr ts d m e i j → Stops 8 ts m j → (b : ℕ) → Answers d b e j (p.whole ts b (deeper ts b) m i)
-    c_expr (plain {m} {i} q) s b = whole_plain m i (c_level q (looser (omega arith) s) b) s
+    pub c_expr : {d : ℕ} {m : Bool} {e : Expr} {i j : ℕ} → IsExpr ts d m e i j → Stops 8 ts m j → (b : ℕ) → Answers d b e j (p.whole nodes ts b (deeper nodes ts b) m i)
+    c_expr (plain {m} {i} q) s b = c_whole q (c_level q (looser (omega arith) s)) (looser (omega arith) s) b (choice_none m (next_index ts m i) s)
     c_expr (conditional {m} {i} {j} {n} c q x s y) t b =
-        whole_conditional m i q s b (c_level c (stops_at 7 k.Question q (omega arith)) b)
-        (λ a. nested m (after_next ts m j) a (c_expr x (stops_at 8 k.Colon s (omega arith)) a)) (λ a. nested m (after_next ts m n) a (c_expr y t a))
+        c_whole c (c_level c (stops_at 7 k.Question q (omega arith))) (stops_at 7 k.Question q (omega arith)) b (choice_some m (next_index ts m i) _ j q s b
+        (λ a. nested m (after_next ts m j) a (c_expr x (stops_at 8 k.Colon s (omega arith)) a)) (λ a. nested m (after_next ts m n) a (c_expr y t a)))
 
-    pub c_level : {d : ℕ} {m : Bool} {n : ℕ} {e : Expr} {i j : ℕ} → IsLevel ts d m n e i j → Stops (suc n) ts m j → (b : ℕ) → Answers d b e j (p.level ts b (deeper ts b) n m i)
-    c_level (lowest {m} {i} q) s b = level_zero m i (c_unary q s b)
-    c_level (level {m} {n} {i} q xs) s b = level_by m n i (c_level q (links_stop xs s) b) (c_links xs s b (length ts) [] (omega (arith, (span_links xs).within)))
+    c_level : {d : ℕ} {m : Bool} {n : ℕ} {e : Expr} {i j : ℕ} → IsLevel ts d m n e i j → Stops (suc n) ts m j → Flat ts m (IsOperand d m) n e i j
+    c_level (lowest {d} {m} {e} {i} {j} q) s = flat_operand ts m (IsOperand d m) e i j (record { derived = q; answers = c_unary q s }) (placed_unary q).0 (placed_unary q).1
+    c_level (level {d} {m} q xs) s = flat_level ts m (IsOperand d m) (c_level q (links_stop xs s)) (c_links xs s)
 
-    pub c_links : {d : ℕ} {m : Bool} {n : ℕ} {xs : List Operation} {i j : ℕ} → IsOperations ts d m n xs i j → Stops (suc (suc n)) ts m j → (b turns : ℕ) (acc : List Operation) → j ≤ turns + i
-        → Answers d b (acc ++ xs) j (p.operations_from ts b (deeper ts b) (p.level ts b (deeper ts b) n) m n turns acc i)
-    c_links (no_operations {m} {n} {i}) s b turns acc l = rw (append-nil acc) (links_end m n turns acc i s)
-    c_links (operation {m} {t} {i} q o x xs) s b zero acc l = absurd (omega (arith, (step ts m t i q).forth, (span_level x).forth, (span_links xs).forth))
-    c_links (operation {m} {n} {t} {op} {x = y} {links = ys} {i} q o x xs) s b (suc turns) acc l =
-        rw (← append_assoc acc (node.operation op y ∷ []) ys)
-        (links_more m n turns acc i q o (c_level x (links_stop xs s) b) (c_links xs s b turns (acc ++ node.operation op y ∷ []) (omega (arith, (step ts m t i q).forth, (span_level x).forth))))
+    c_links : {d : ℕ} {m : Bool} {n : ℕ} {xs : List Operation} {i j : ℕ} → IsOperations ts d m n xs i j → Stops (suc (suc n)) ts m j → FlatLinks ts m (IsOperand d m) n xs i j
+    c_links (no_operations {d} {m} {n} {i}) s = flat_end ts m (IsOperand d m) n i
+    c_links (operation {d} {m} q o x xs) s = flat_link ts m (IsOperand d m) q o (c_level x (links_stop xs s)) (c_links xs s)
 
-    pub c_unary : {d : ℕ} {m : Bool} {e : Expr} {i j : ℕ} → IsUnary ts d m e i j → Stops 1 ts m j → (b : ℕ) → Answers d b e j (p.unary ts b (deeper ts b) m i)
+    pub c_unary : {d : ℕ} {m : Bool} {e : Expr} {i j : ℕ} → IsUnary ts d m e i j → Stops 1 ts m j → (b : ℕ) → Answers d b e j (p.unary nodes ts b (deeper nodes ts b) m i)
     c_unary (with_operator {m} {i} q o x) s b = unary_prefixed m i q o b (λ a. nested_operand m (after_next ts m i) a (c_unary x s a))
-    c_unary (post {m} {i} q xs) s b = unary_post m i (no_prefix q) (c_term q b) (c_tails xs s b (length ts) [] (omega (arith, (span_tails xs).within)))
+    c_unary (post {m} {i} q xs) s b = let t = first_term q in unary_post m i t.token t.is t.no_prefix (c_term q b) (c_tails xs s b (length ts) [] (omega (arith, (span_tails xs).within)))
 
     pub c_tails : {d : ℕ} {m : Bool} {xs : List Tail} {i j : ℕ} → IsTails ts d m xs i j → Stops 1 ts m j → (b turns : ℕ) (acc : List Tail) → j ≤ turns + i
-        → Answers d b (acc ++ xs) j (p.tails_from ts b (deeper ts b) m turns acc i)
+        → Answers d b (acc ++ xs) j (p.tails_from nodes ts b (deeper nodes ts b) m turns acc i)
     c_tails (no_tails {m} {i}) s b turns acc l = rw (append-nil acc) (tails_end m turns acc i s)
     c_tails (tails x xs) s b zero acc l = absurd (omega (arith, (span_tail x).forth, (span_tails xs).forth))
     c_tails (tails {m} {x = y} {xs = ys} {i} x xs) s b (suc turns) acc l =
         rw (← append_assoc acc (y ∷ []) ys) (tails_more m turns acc i (c_tail x b) (c_tails xs s b turns (acc ++ y ∷ []) (omega (arith, (span_tail x).forth))))
 
-    pub c_tail : {d : ℕ} {m : Bool} {x : Tail} {i j : ℕ} → IsTail ts d m x i j → (b : ℕ) → Answers d b (Some x) j (p.tail_of ts b (deeper ts b) m i)
+    pub c_tail : {d : ℕ} {m : Bool} {x : Tail} {i j : ℕ} → IsTail ts d m x i j → (b : ℕ) → Answers d b (Some x) j (p.tail_of nodes ts b (deeper nodes ts b) m i)
     c_tail (by_name {m} {i} q n) b = tail_name m i q n b
     c_tail (legacy {m} {i} q) b = tail_legacy m i q b
     c_tail (attribute_splat {m} {i} q n) b = tail_splat m i q n b
@@ -586,7 +607,7 @@ module _ (ts : List Token) where
     c_tail (index {m} {i} q x c) b =
         tail_index m i q (no-begin ts true k.Star (after_next ts m i) (begin_expr x) refl) c b (λ a. nested true (after_next ts m i) a (c_expr x (stops_at 8 k.CloseBracket c (omega arith)) a))
 
-    pub c_term : {d : ℕ} {m : Bool} {e : Term} {i j : ℕ} → IsTerm ts d m e i j → (b : ℕ) → Answers d b e j (p.term ts b (deeper ts b) m i)
+    pub c_term : {d : ℕ} {m : Bool} {e : Term} {i j : ℕ} → IsTerm ts d m e i j → (b : ℕ) → Answers d b e j (term b m i (next_kind ts m i))
     c_term (number {m} {i} q) b = term_number m i q
     c_term (identifier {m} {i} q n r) b = term_identifier m i q n r
     c_term (call {m} {i} q ns n xs) b = term_call m i q ns n b (λ a. c_arguments xs a (length ts) [] (omega (arith, (span_arguments xs).within)))
@@ -604,7 +625,7 @@ module _ (ts : List Token) where
     c_term (parens {m} {i} q x c) b = term_parens m i q c b (λ a. nested true (after_next ts m i) a (c_expr x (stops_at 8 k.CloseParen c (omega arith)) a))
 
     pub c_arguments : {d : ℕ} {xs : List Expr} {s : Bool} {i j : ℕ} → IsArguments ts d xs s i j → (a turns : ℕ) (acc : List Expr) → j ≤ turns + i
-        → Answers d a (acc ++ xs, s) j (p.arguments_from ts (p.expr ts a) turns acc i)
+        → Answers d a (acc ++ xs, s) j (p.arguments_from nodes ts (p.under nodes ts a).expr turns acc i)
     c_arguments (no_arguments {i} q) a zero acc l = absurd (omega (arith, (step ts true k.CloseParen i q).forth))
     c_arguments (no_arguments {i} q) a (suc turns) acc l = rw (append-nil acc) (arguments_none turns acc i q)
     c_arguments (last_argument {i} {j} x q) a zero acc l = absurd (omega (arith, (step ts true k.CloseParen j q).forth, (span_expr x).forth))
@@ -620,7 +641,7 @@ module _ (ts : List Token) where
         (c_arguments xs a turns (acc ++ e ∷ []) (omega (arith, (step ts true k.Comma j q).forth, (span_expr x).forth))))
 
     pub c_items : {d : ℕ} {xs : List Expr} {i j : ℕ} → IsItems ts d xs i j → (a turns : ℕ) (acc : List Expr) → j ≤ turns + i
-        → Answers d a (acc ++ xs) j (p.tuple_items_from ts (p.expr ts a) turns acc i)
+        → Answers d a (acc ++ xs) j (p.tuple_items_from nodes ts (p.under nodes ts a).expr turns acc i)
     c_items (no_items {i} q) a zero acc l = absurd (omega (arith, (step ts true k.CloseBracket i q).forth))
     c_items (no_items {i} q) a (suc turns) acc l = rw (append-nil acc) (items_none turns acc i q)
     c_items (last_item {i} {j} x q) a zero acc l = absurd (omega (arith, (step ts true k.CloseBracket j q).forth, (span_expr x).forth))
@@ -633,39 +654,39 @@ module _ (ts : List Token) where
         (c_items xs a turns (acc ++ e ∷ []) (omega (arith, (step ts true k.Comma j q).forth, (span_expr x).forth))))
 
     pub c_elems : {d : ℕ} {xs : List Elem} {i j : ℕ} → IsElems ts d xs i j → (a turns : ℕ) (acc : List Elem) → j ≤ turns + i
-        → Answers d a (acc ++ xs) j (p.elements_from ts (p.expr ts a) turns acc i)
+        → Answers d a (acc ++ xs) j (p.elements_from nodes ts (p.under nodes ts a).expr turns acc i)
     c_elems (no_elems {i} q) a zero acc l = absurd (omega (arith, (step ts false k.CloseBrace i q).forth))
     c_elems (no_elems {i} q) a (suc turns) acc l = rw (append-nil acc) (elems_none turns acc i q)
     c_elems (last_elem {i} {j} x q) a zero acc l = absurd (omega (arith, (step ts false k.CloseBrace j q).forth, (span_elem x).forth))
-    c_elems (last_elem {i} {j} x q) a (suc turns) acc l =
-        elems_last turns acc i (no-begin ts false k.CloseBrace i (begin_elem x) refl) (c_elem x (stops_at 8 k.CloseBrace q (omega arith)) a) q
+    c_elems (last_elem {x = y} {i} {j} x q) a (suc turns) acc l =
+        elems_last turns acc y i (no-begin ts false k.CloseBrace i (begin_elem x) refl) (c_elem x (stops_at 8 k.CloseBrace q (omega arith)) a acc) q
     c_elems (elems {i} {j} x q xs) a zero acc l = absurd (omega (arith, (span_sep q).forth, (span_elem x).forth, (span_elems xs).forth))
     c_elems (elems {x = y} {xs = ys} {i} {j} x q xs) a (suc turns) acc l =
         rw (← append_assoc acc (y ∷ []) ys)
-        (elems_more turns acc i (no-begin ts false k.CloseBrace i (begin_elem x) refl) (c_elem x (sep_stop q) a) q (elems_line xs)
+        (elems_more turns acc y i (no-begin ts false k.CloseBrace i (begin_elem x) refl) (c_elem x (sep_stop q) a acc) q (elems_line xs)
         (c_elems xs a turns (acc ++ y ∷ []) (omega (arith, (span_sep q).forth, (span_elem x).forth))))
 
-    pub c_elem : {d : ℕ} {x : Elem} {i j : ℕ} → IsElem ts d x i j → Stops 8 ts false j → (a : ℕ) → Answers d a x j (p.element ts (p.expr ts a) i)
-    c_elem (by_equals {i} {j} x q y) s a =
-        elem_equals i (nested false i a (c_expr x (stops_at 8 k.Equal q (omega arith)) a)) q (nested false (after_next ts false j) a (c_expr y s a))
-    c_elem (by_colon {i} {j} x q y) s a =
-        elem_colon i (nested false i a (c_expr x (stops_at 8 k.Colon q (omega arith)) a)) q (nested false (after_next ts false j) a (c_expr y s a))
+    pub c_elem : {d : ℕ} {x : Elem} {i j : ℕ} → IsElem ts d x i j → Stops 8 ts false j → (a : ℕ) (acc : List Elem) → Answers d a (acc ++ x ∷ []) j (p.element nodes ts (p.under nodes ts a).expr acc i)
+    c_elem (by_equals {i} {j} x q y) s a acc =
+        elem_equals acc i (nested false i a (c_expr x (stops_at 8 k.Equal q (omega arith)) a)) q (nested false (after_next ts false j) a (c_expr y s a))
+    c_elem (by_colon {i} {j} x q y) s a acc =
+        elem_colon acc i (nested false i a (c_expr x (stops_at 8 k.Colon q (omega arith)) a)) q (nested false (after_next ts false j) a (c_expr y s a))
 
-    pub c_intro : {d : ℕ} {x : Intro} {i j : ℕ} → IsIntro ts d x i j → Stops 8 ts true j → (a : ℕ) → Answers d a x j (p.intro ts (p.expr ts a) i)
+    pub c_intro : {d : ℕ} {x : Intro} {i j : ℕ} → IsIntro ts d x i j → Stops 8 ts true j → (a : ℕ) → Answers d a x j (p.intro nodes ts (p.under nodes ts a).expr i)
     c_intro (intro {i} {j} w n o v x) s a = intro_by i w n o v (nested true (after_next ts true j) a (c_expr x s a))
 
-    pub c_filter : {d : ℕ} {close : Kind} {o : Option Expr} {i j : ℕ} → Closes close → IsFilter ts d close o i j → (a : ℕ) → Answers d a o j (p.filter ts (p.expr ts a) close i)
+    pub c_filter : {d : ℕ} {close : Kind} {o : Option Expr} {i j : ℕ} → Closes close → IsFilter ts d close o i j → (a : ℕ) → Answers d a o j (p.condition nodes ts (p.under nodes ts a).expr close i)
     c_filter z (no_filter {close} {i} q) a = filter_none close i q z.no_name
     c_filter z (filter {close} {i} w x q) a = filter_some close i w (nested true (after_next ts true i) a (c_expr x (stops_at 8 close q z.ends) a)) q
 
     pub c_parts : {d : ℕ} {m : Bool} {xs : List Part} {i j : ℕ} → IsParts ts d m xs i j → NoPart m j → (b turns : ℕ) (acc : List Part) → j ≤ turns + i
-        → Answers d b (acc ++ xs) j (p.parts_from ts b (deeper ts b) (twice ts b) m turns acc i)
+        → Answers d b (acc ++ xs) j (p.parts_from nodes ts b (deeper nodes ts b) (twice nodes ts b) m turns acc i)
     c_parts (no_parts {m} {i}) s b turns acc l = rw (append-nil acc) (parts_end m turns acc i s)
     c_parts (parts x xs) s b zero acc l = absurd (omega (arith, (span_part x).forth, (span_parts xs).forth))
     c_parts (parts {m} {x = y} {xs = ys} {i} x xs) s b (suc turns) acc l =
         rw (← append_assoc acc (y ∷ []) ys) (parts_more m turns acc i (c_part x b) (c_parts xs s b turns (acc ++ y ∷ []) (omega (arith, (span_part x).forth))))
 
-    pub c_part : {d : ℕ} {m : Bool} {x : Part} {i j : ℕ} → IsPart ts d m x i j → (b : ℕ) → Answers d b (Some x) j (p.part_of ts b (deeper ts b) (twice ts b) m i)
+    pub c_part : {d : ℕ} {m : Bool} {x : Part} {i j : ℕ} → IsPart ts d m x i j → (b : ℕ) → Answers d b (Some x) j (p.part_of nodes ts b (deeper nodes ts b) (twice nodes ts b) m i)
     c_part (quote_text {m} {i} q) b = part_quote m i q b
     c_part (here_text {m} {i} q) b = part_here m i q b
     c_part (interp {m} {i} q x c) b = part_interp m i q c b (λ a. nested true (after_next ts m i) a (c_expr x (stops_at 8 k.SeqClose c (omega arith)) a))
@@ -676,7 +697,7 @@ module _ (ts : List Token) where
         part_for m i q (intro_word x) c e b (λ a. c_intro x (stops_at 8 k.SeqClose c (omega arith)) a)
         (λ a. nested_parts m (after_next ts true j) a (c_parts ps (no_part_endfor e) a (length ts) [] (omega (arith, (span_parts ps).within))))
 
-    pub c_else : {d : ℕ} {m : Bool} {o : Option Template} {i j : ℕ} → IsElse ts d m o i j → (b a : ℕ) → Answers d a o j (p.else_and_endif ts b (p.under ts a) m i)
+    pub c_else : {d : ℕ} {m : Bool} {o : Option Template} {i j : ℕ} → IsElse ts d m o i j → (b a : ℕ) → Answers d a o j (p.else_and_endif nodes ts b (p.under nodes ts a) m i)
     c_else (no_else {m} {i} e) b a = otherwise_none b m i e
     c_else (has_else {m} {i} {j} x ps e) b a =
         otherwise_some b m i x (nested_parts m j a (c_parts ps (no_part_endif e) a (length ts) [] (omega (arith, (span_parts ps).within)))) e

@@ -1,5 +1,5 @@
 -- How a derivation begins.
-use Rattle.std.proofs.Common.{◌≡◌, ℕ, Bool, true, false, List, Some, None, refl, ap, ◌∙◌, Ok}
+use Rattle.std.proofs.Common.{◌≡◌, ℕ, Bool, true, false, List, Some, None, refl}
 use Rattle.hcl_token.specs.declared.kind.Kind.{Kind}
 use Rattle.hcl_token.specs.declared.kind.Kind.TheVariants as k
 use Rattle.hcl_grammar.specs.declared.tree.Elem.{Elem}
@@ -8,7 +8,6 @@ use Rattle.hcl_grammar.specs.declared.tree.Intro.{Intro}
 use Rattle.hcl_grammar.specs.declared.tree.UnaryOperator.{UnaryOperator}
 use Rattle.hcl_grammar.specs.declared.tree.Term.{Term}
 use Rattle.hcl_grammar.specs.Operators.{unary_operator}
-use Rattle.hcl_grammar.specs.Pure.Parser.{eat_unary_operator, unary_by_kind, take_unary}
 use Rattle.hcl_grammar.specs.Pure.Reading.{next_is_word}
 use Rattle.hcl_grammar.specs.Tokens.{Token, for_word}
 use Rattle.hcl_grammar.specs.Lookahead.{NextIs}
@@ -35,7 +34,7 @@ module _ {ts : List Token} where
   on : (m : Bool) (i : ℕ) (t : Kind) → NextIs ts m t i → begins t ≡ true → unary_operator t ≡ None → BeginsTerm ts m i
   on m i t p e n = record { token = t; is = p; fits = e; no_prefix = n }
 
-  first_term : {d : ℕ} {m : Bool} {e : Term} {i j : ℕ} → IsTerm ts d m e i j → BeginsTerm ts m i
+  pub first_term : {d : ℕ} {m : Bool} {e : Term} {i j : ℕ} → IsTerm ts d m e i j → BeginsTerm ts m i
   first_term (number p) = on _ _ k.Number p refl refl
   first_term (identifier p q r) = on _ _ k.Identifier p refl refl
   first_term (call p ns q xs) = on _ _ k.Identifier p refl refl
@@ -49,10 +48,6 @@ module _ {ts : List Token} where
 
   pub begin_term : {d : ℕ} {m : Bool} {e : Term} {i j : ℕ} → IsTerm ts d m e i j → Begins ts m i
   begin_term x = let b = first_term x in record { token = b.token; is = b.is; fits = b.fits }
-
-  pub no_prefix : {d : ℕ} {m : Bool} {e : Term} {i j : ℕ} → IsTerm ts d m e i j → eat_unary_operator ts m i ≡ Ok (None, i)
-  unfolding eat_unary_operator
-  no_prefix {m} {i} x = let b = first_term x in ap (unary_by_kind ts m i) b.is ∙ ap (take_unary ts m i) b.no_prefix
 
   pub begin_unary : {d : ℕ} {m : Bool} {e : Expr} {i j : ℕ} → IsUnary ts d m e i j → Begins ts m i
   begin_unary (with_operator {t} {op} p o x) = at _ _ t p (begin-prefix t op o)

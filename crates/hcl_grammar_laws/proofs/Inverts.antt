@@ -1,8 +1,8 @@
 -- What a step read, where it succeeded.
-use Rattle.std.proofs.Common.{◌≡◌, ◌≢◌, ℕ, Bool, true, false, cond, List, Option, Some, None, Ok, Err, refl, sym, ap, ◌∙◌, subst}
+use Rattle.std.proofs.Common.{◌≡◌, ◌≢◌, ℕ, Bool, true, false, cond, List, [], ◌∷◌, ◌++◌, Option, Some, None, Ok, Err, refl, sym, ap, ◌∙◌, subst, append_assoc}
 use Rattle.hcl_token.specs.declared.kind.Kind.{Kind}
 use Rattle.hcl_grammar.specs.Tokens.{Token, next_kind, after_next, is_kind}
-use Rattle.hcl_grammar.specs.Pure.Reading.{Outcome, Step, and_then, next_is, after_if_next, bump_kind, expect, bump, syntax_fault, pure, next_is_word, expect_word}
+use Rattle.hcl_grammar.specs.Pure.Reading.{Outcome, Step, and_then, next_is, after_if_next, expect, syntax_fault, pure, next_is_word, expect_word}
 use Rattle.hcl_grammar.specs.Lookahead.{NextIs, NextIsWord, NextIsNotWord}
 use Rattle.hcl_grammar_laws.proofs.Steps.{same-eq, sees-yes, if_next-yes, if_next-no, reads-yes, reads-word}
 
@@ -27,6 +27,10 @@ done x i = Ok (x, i)
 pub along : {A : Type 0} {x y : A} {i j : ℕ} (R : A → ℕ → Type 0) → done x i ≡ done y j → R x i → R y j
 unfolding value_or
 along {A} {x} {i} R e r = subst (λ (p : A × ℕ). R p.0 p.1) (ap (value_or (x, i)) e) r
+
+-- what is added at the end precedes what follows
+pub after_one : {A : Type 0} {ys : List A} (acc : List A) (x : A) (more : List A) → ys ≡ (acc ++ x ∷ []) ++ more → ys ≡ acc ++ x ∷ more
+after_one acc x more e = e ∙ append_assoc acc (x ∷ []) more
 
 -- a token of this kind comes next, or none
 pub data Eaten (ts : List Token) (m : Bool) (t : Kind) (i : ℕ) : Type 0 where
@@ -59,14 +63,6 @@ expect_inv ts m t i {u} {j} e = go (next_is ts m t i) refl
     go : (b : Bool) → next_is ts m t i ≡ b → Expected ts m t i j
     go true h = let made : done tt (after_next ts m i) ≡ done u j = rw h at e in record { token = sees-true ts m t i h; at = along (λ _ k. k ≡ after_next ts m i) made refl }
     go false h = absurd (let made : syntax_fault ts m i ≡ done u j = rw h at e in cc)
-
-pub bump_inv : (ts : List Token) (m : Bool) (i : ℕ) {t : Kind} {j : ℕ} → bump ts m i ≡ Ok (t, j) → Expected ts m t i j
-unfolding bump
-bump_inv ts m i {t} {j} e = go (next_kind ts m i) refl
-  where
-    go : (o : Option Kind) → next_kind ts m i ≡ o → Expected ts m t i j
-    go None h = absurd (let made : bump_kind ts m i None ≡ done t j = rw h at e in cc)
-    go (Some u) h = let made : done u (after_next ts m i) ≡ done t j = rw h at e in along (λ s k. Expected ts m s i k) made (record { token = h; at = refl })
 
 pub true_false : {i j : ℕ} → done true i ≡ done false j → ⊥
 true_false e = along (λ b _. b ≡ false → ⊥) e (λ (c : true ≡ false). cc) refl

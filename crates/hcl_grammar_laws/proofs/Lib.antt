@@ -2,6 +2,8 @@ pub mod Steps
 pub mod Ahead
 pub mod Spans
 pub mod Firsts
+pub mod Placed
+pub mod Chains
 pub mod Lines
 pub mod Complete
 pub mod BodyComplete
@@ -10,12 +12,10 @@ pub mod Sound
 pub mod BodySound
 pub mod Whole
 pub mod Neat
-pub mod Placed
 pub mod Restart
 pub mod Opens
 pub mod RestartBodies
 pub mod Own
-pub mod Climb
 pub mod Alike
 pub mod AlikeExpressions
 pub mod AlikeBodies

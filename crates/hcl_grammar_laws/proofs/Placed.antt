@@ -1,16 +1,11 @@
 -- Each node has the number of its first token and the place after its last.
-use Rattle.std.proofs.Common.{◌≡◌, ℕ, ◌≤◌, Bool, true, List, refl}
+use Rattle.std.proofs.Common.{◌≡◌, ℕ, Bool, true, List, refl}
 use Rattle.hcl_grammar.specs.declared.tree.Expr.{Expr}
 use Rattle.hcl_grammar.specs.declared.tree.Intro.{Intro}
 use Rattle.hcl_grammar.specs.declared.tree.Term.{Term}
-use Rattle.hcl_grammar.specs.declared.tree.Tree.{Tree}
-use Rattle.hcl_grammar.specs.Bodies.{IsFile}
 use Rattle.hcl_grammar.specs.Grammar.{IsExpr, plain, conditional, IsLevel, lowest, level, no_operations, operation, IsUnary, with_operator, post, no_tails, tails, IsTerm, number, identifier, call, tuple, object, for_tuple, for_object, quoted, heredoc, parens, IsIntro, intro}
 use Rattle.hcl_grammar.specs.Nodes as node
 use Rattle.hcl_grammar.specs.Tokens.{Token, next_index}
-use Rattle.hcl_grammar_laws.proofs.BodyComplete.{file_answers}
-use Rattle.hcl_grammar_laws.proofs.BodySound.{file_derived}
-use Rattle.hcl_grammar_laws.proofs.Whole.{found_at}
 
 module _ {ts : List Token} where
   pub placed_term : {d : ℕ} {m : Bool} {e : Term} {i j : ℕ} → IsTerm ts d m e i j → (e.first ≡ next_index ts m i) × (e.past ≡ j)
@@ -46,7 +41,3 @@ module _ {ts : List Token} where
   pub placed_intro : {d : ℕ} {e : Intro} {i j : ℕ} → IsIntro ts d e i j → (e.first ≡ next_index ts true i) × (e.past ≡ j)
   unfolding node.intro
   placed_intro (intro w p s v e) = (refl, refl)
-
--- what nests no deeper than some number nests no deeper than a greater one
-pub weaken : (ts : List Token) (d e : ℕ) (t : Tree) → d ≤ e → IsFile ts d t → IsFile ts e t
-weaken ts d e t l w = let a = file_answers ts e d t w in file_derived ts e t a.0 (found_at l a.1)

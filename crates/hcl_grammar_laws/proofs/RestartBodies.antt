@@ -17,7 +17,7 @@ use Rattle.hcl_grammar.specs.Grammar.{IsExpr, IsIntro, intro, IsParts, no_parts,
 use Rattle.hcl_grammar.specs.Lookahead.{NextIs, NextIsWord, IsNewline, line_end, comment, IsEol, IsSecondName}
 use Rattle.hcl_grammar.specs.Nodes as node
 use Rattle.hcl_grammar.specs.Tokens.{Token, next_index, next_token, after_next, first_token_in, for_word, if_word}
-use Rattle.hcl_grammar_laws.proofs.Complete.{nat-same}
+use Rattle.hcl_grammar_laws.proofs.Chains.{nat-same}
 use Rattle.hcl_grammar_laws.proofs.Opens.{open_attribute, open_block}
 use Rattle.hcl_grammar_laws.proofs.Placed.{placed_intro}
 use Rattle.hcl_grammar_laws.proofs.Restart.{moved, following, start-at}

@@ -10,7 +10,7 @@ use Rattle.hcl_token.specs.declared.kind.Kind.{Kind}
 use Rattle.hcl_token.specs.declared.kind.Kind.TheVariants as k
 use Rattle.hcl_grammar.specs.declared.fault.TokenFault.TheVariants.{TooDeep}
 use Rattle.hcl_grammar.specs.Tokens.{Token, next_token, next_kind, after_next, same_kind, is_kind, is_word}
-use Rattle.hcl_grammar.specs.Pure.Reading.{Outcome, Step, and_then, next_is, after_if_next, expect, bump, next_is_word, expect_word}
+use Rattle.hcl_grammar.specs.Pure.Reading.{Outcome, Step, and_then, next_is, after_if_next, expect, next_is_word, expect_word}
 use Rattle.hcl_grammar.specs.Lookahead.{NextIs, NextIsWord}
 
 -- The parser answers this value and goes on from j. Where fewer constructs may nest than do, it may find that too.
@@ -49,10 +49,6 @@ if_next-no ts m t i h = rw h
 pub expect-yes : (ts : List Token) (m : Bool) (t : Kind) (i : ℕ) → NextIs ts m t i → expect ts m t i ≡ Ok (tt, after_next ts m i)
 unfolding expect
 expect-yes ts m t i h = rw (sees-yes ts m t i h)
-
-pub bump-yes : (ts : List Token) (m : Bool) (t : Kind) (i : ℕ) → NextIs ts m t i → bump ts m i ≡ Ok (t, after_next ts m i)
-unfolding bump
-bump-yes ts m t i h = rw h
 
 -- ---- words
 

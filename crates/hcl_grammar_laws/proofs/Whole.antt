@@ -1,5 +1,5 @@
 -- What a parser of whole texts ensures that answers the pure one.
-use Rattle.std.proofs.Common.{◌≡◌, ◌≢◌, ℕ, ◌+◌, ◌≤◌, true, false, List, ◌∷◌, Option, Some, None, Result, Ok, Err, MatchResult, IfOk, IfErr, OnOk, IfSome, IfNone, refl, sym, ◌∙◌, arith}
+use Rattle.std.proofs.Common.{◌≡◌, ◌≢◌, ℕ, ◌+◌, ◌≤◌, false, List, ◌∷◌, Option, Some, None, Result, Ok, Err, MatchResult, IfOk, IfSome, IfNone, refl, sym, ◌∙◌, arith}
 use Rattle.hcl_grammar.specs.declared.fault.TokenFault.{TokenFault}
 use Rattle.hcl_grammar.specs.declared.fault.TokenFault.TheVariants.{Syntax, TooDeep, Memory}
 use Rattle.hcl_token.specs.declared.kind.Kind.TheVariants.{Identifier}
@@ -8,6 +8,7 @@ use Rattle.hcl_grammar.specs.declared.tree.Tree.{Tree}
 use Rattle.hcl_grammar.specs.Bodies.{IsFile, IsMembers}
 use Rattle.hcl_grammar.specs.Pure.BodyParser.{deeper_members, file, member_of}
 use Rattle.hcl_grammar.specs.Faults.{IsMemory, IsMemoryOrDeep}
+use Rattle.hcl_grammar.specs.Pure.NodeMakers.{nodes}
 use Rattle.hcl_grammar.specs.Pure.Reading.{Outcome, Reads}
 use Rattle.hcl_grammar.specs.Tokens.{Token, next_kind}
 use Rattle.hcl_grammar_laws.proofs.BodyComplete.{c_member, c_none, file_answers}
@@ -31,12 +32,12 @@ found_or (Err Memory) new s found h = tt
 found_or (Err (TooDeep at)) new s found h = let no : TooDeep at ≢ Memory = (λ same. cc) in let eq = h no in absurd (cc)
 found_or (Err (Syntax at)) new s found h = let no : Syntax at ≢ Memory = (λ same. cc) in let eq = h no in absurd (cc)
 
-module _ (ts : List Token) (b : ℕ) (r : Result Tree TokenFault) (new : ℕ) (h : Reads (file ts b 0) r new) where
+module _ (ts : List Token) (b : ℕ) (r : Result Tree TokenFault) (new : ℕ) (h : Reads (file nodes ts b 0) r new) where
   -- the tree is derived
   pub derived : IfOk r (λ t. IsFile ts b t)
   derived = go r h
     where
-      go : (r : Result Tree TokenFault) → Reads (file ts b 0) r new → IfOk r (λ t. IsFile ts b t)
+      go : (r : Result Tree TokenFault) → Reads (file nodes ts b 0) r new → IfOk r (λ t. IsFile ts b t)
       go (Ok t) h = file_derived ts b t new h
       go (Err f) h = tt
 
@@ -50,25 +51,25 @@ module _ (ts : List Token) (b : ℕ) (r : Result Tree TokenFault) (new : ℕ) (h
 
 -- one member, likewise
 module _ (ts : List Token) (b i : ℕ) where
-  member_derived : (r : Result (Option Member) TokenFault) (new : ℕ) → Reads (member_of ts b (deeper_members ts b) i) r new
+  member_derived : (r : Result (Option Member) TokenFault) (new : ℕ) → Reads (member_of nodes ts b (deeper_members nodes ts b) i) r new
       → IfOk r (λ o. IfSome o (λ m. (ms : List Member) (l : ℕ) → IsMembers ts b ms new l → IsMembers ts b (m ∷ ms) i l))
   member_derived (Ok (Some m)) new h = (s_member_some ts b (below ts b (sound_body ts)) i m new h).1
   member_derived (Ok None) new h = tt
   member_derived (Err f) new h = tt
 
-  member_ends : (r : Result (Option Member) TokenFault) (new : ℕ) → Reads (member_of ts b (deeper_members ts b) i) r new
+  member_ends : (r : Result (Option Member) TokenFault) (new : ℕ) → Reads (member_of nodes ts b (deeper_members nodes ts b) i) r new
       → IfOk r (λ o. IfSome o (λ m. member_past m ≡ new))
   member_ends (Ok (Some m)) new h = (s_member_some ts b (below ts b (sound_body ts)) i m new h).0
   member_ends (Ok None) new h = tt
   member_ends (Err f) new h = tt
 
-  member_none : (r : Result (Option Member) TokenFault) (new : ℕ) → Reads (member_of ts b (deeper_members ts b) i) r new
+  member_none : (r : Result (Option Member) TokenFault) (new : ℕ) → Reads (member_of nodes ts b (deeper_members nodes ts b) i) r new
       → IfOk r (λ o. IfNone o ((next_kind ts false i ≢ Some Identifier) × (new ≡ i)))
   member_none (Ok (Some m)) new h = tt
   member_none (Ok None) new h = (no_name ts b i new h, s_member_none ts b i new h)
   member_none (Err f) new h = tt
 
-  pub member_is : (r : Result (Option Member) TokenFault) (new : ℕ) → Reads (member_of ts b (deeper_members ts b) i) r new → IsMemberResult ts b i r new
+  pub member_is : (r : Result (Option Member) TokenFault) (new : ℕ) → Reads (member_of nodes ts b (deeper_members nodes ts b) i) r new → IsMemberResult ts b i r new
   member_is r new h = record {
     derived = member_derived r new h;
     past = member_ends r new h;
@@ -90,3 +91,7 @@ one_tree ts d e t u x y =
     let f = found_at {b = d + e} (omega arith) p.1 in
     let g = found_at {b = d + e} (omega arith) q.1 in
     along (λ x _. t ≡ x) (sym f ∙ g) refl
+
+-- what nests no deeper than some number nests no deeper than a greater one
+pub weaken : (ts : List Token) (d e : ℕ) (t : Tree) → d ≤ e → IsFile ts d t → IsFile ts e t
+weaken ts d e t l w = let a = file_answers ts e d t w in file_derived ts e t a.0 (found_at l a.1)

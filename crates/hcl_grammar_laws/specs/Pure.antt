@@ -1,3 +1,2 @@
 -- For proofs: what the code of a parser relies on.
 pub mod ParserResults
-pub mod PrecedenceClimbing

@@ -5,7 +5,6 @@ ghost use Rattle.hcl_grammar_laws.specs.Glue.{NoGlue};
 ghost use Rattle.hcl_grammar_laws.specs.Nesting.{NestingIsMonotone};
 ghost use Rattle.hcl_grammar_laws.specs.OneTree.{OneTree};
 ghost use Rattle.hcl_grammar_laws.specs.Pure.ParserResults.{FileParserIsExact, MemberParserIsExact};
-ghost use Rattle.hcl_grammar_laws.specs.Pure.PrecedenceClimbing.{PrecedenceClimbing};
 
 /// From the same tokens at most one tree is derived.
 pub fn one_tree()
@@ -33,11 +32,6 @@ pub fn no_glue()
 /// the error.
 pub fn file_parser_is_exact()
     ensures { FileParserIsExact }
-{}
-
-/// For a parser: one look after an operand shows which levels of operators have anything there.
-pub fn precedence_climbing()
-    ensures { PrecedenceClimbing }
 {}
 
 /// For a parser: an answer that is the pure parser's at one member of a body, memory aside, is the

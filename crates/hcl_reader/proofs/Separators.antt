@@ -3,7 +3,7 @@ use Rattle.std.proofs.Common.{◌≡◌, ℕ, zero, suc, ◌+◌, Bool, false, t
 use Rattle.hcl_token.specs.declared.kind.Kind.{Kind}
 use Rattle.hcl_token.specs.declared.kind.Kind.TheVariants as k
 use Rattle.hcl_grammar.specs.Pure.Reading.{Outcome, next_is, after_if_next, expect, and_then, pure}
-use Rattle.hcl_grammar.specs.Pure.Parser as p
+use Rattle.hcl_grammar.specs.Pure.Steps as p
 use Rattle.hcl_grammar.specs.Tokens as tokens
 use Rattle.hcl_grammar.specs.Tokens.{Token, next_index, next_kind, after_next}
 

@@ -2,8 +2,7 @@
 use Rattle.std.specs.Prelude.{◌≡◌, ℕ, suc, ◌-◌, Bool, true, false, List, Option, Result, Ok, Err}
 use Rattle.hcl_token.specs.declared.kind.Kind.{Kind}
 use Rattle.hcl_grammar.specs.declared.fault.TokenFault.{TokenFault}
-use Rattle.hcl_grammar.specs.Pure.BodyParser as b
-use Rattle.hcl_grammar.specs.Pure.Parser as p
+use Rattle.hcl_grammar.specs.Pure.Steps as p
 use Rattle.hcl_grammar.specs.Pure.Reading as r
 use Rattle.hcl_grammar.specs.Pure.Reading.{Step}
 use Rattle.hcl_grammar.specs.Tokens as tokens
@@ -44,10 +43,10 @@ module _ (t : ReaderState) where
 
   -- nothing comes next
   abbrev pub expect_end : Step (Unit {0})
-  expect_end i = b.expect_end t.tokens (tokens.next_kind t.tokens false i) i
+  expect_end i = p.expect_end t.tokens (tokens.next_kind t.tokens false i) i
 
   abbrev pub eol : Step (Unit {0})
-  eol = b.eol t.tokens
+  eol = p.eol t.tokens
 
   -- line ends, whatever is dropped here
   abbrev pub eat_newline : Step Bool

@@ -14,7 +14,7 @@ use hcl_token::Kind;
 impl<'s, 't> Reader<'s, 't> {
     /// Takes a line end with the comment before it, if it comes next. A comment at the end of the
     /// text is left.
-    #[tactic(auto, unfolding(hcl_grammar::specs::Pure::Parser::eat_newline, hcl_grammar::specs::Pure::Reading::next_is, hcl_grammar::specs::Pure::Reading::after_if_next, hcl_grammar::specs::Tokens::after_next))]
+    #[tactic(auto, unfolding(hcl_grammar::specs::Pure::Steps::eat_newline, hcl_grammar::specs::Pure::Reading::next_is, hcl_grammar::specs::Pure::Reading::after_if_next, hcl_grammar::specs::Tokens::after_next))]
     pub fn eat_newline(&self, at: &mut u32) -> bool
         ensures { spec.eat_newline self.now at.old ≡ Ok (result, at.new) }
     {
@@ -41,7 +41,7 @@ impl<'s, 't> Reader<'s, 't> {
     /// # Errors
     ///
     /// `Syntax` if no line end follows the comment.
-    #[tactic(auto, unfolding(hcl_grammar::specs::Pure::Parser::eat_inner_newline))]
+    #[tactic(auto, unfolding(hcl_grammar::specs::Pure::Steps::eat_inner_newline))]
     pub fn eat_inner_newline(&self, at: &mut u32) -> Result<bool, TokenFault>
         ensures { ReadsExactly (spec.eat_inner_newline self.now at.old) result at.new }
     {
@@ -98,7 +98,7 @@ impl<'s, 't> Reader<'s, 't> {
     }
 
     /// Takes a separator of elements, if one comes next.
-    #[tactic(auto, unfolding(hcl_grammar::specs::Pure::Parser::eat_separator))]
+    #[tactic(auto, unfolding(hcl_grammar::specs::Pure::Steps::eat_separator))]
     fn eat_separator(&self, at: &mut u32) -> Result<bool, TokenFault>
         ensures { ReadsExactly (spec.eat_separator self.now at.old) result at.new }
     {
@@ -144,7 +144,7 @@ impl<'s, 't> Reader<'s, 't> {
     ///
     /// `Syntax` if neither comes next, or no line end follows a comment.
     #[inline(never)]
-    #[tactic(auto, unfolding(hcl_grammar::specs::Pure::Parser::eat_separator_or_brace))]
+    #[tactic(auto, unfolding(hcl_grammar::specs::Pure::Steps::eat_separator_or_brace))]
     fn separator_or_brace(&self, at: &mut u32) -> Result<bool, TokenFault>
         ensures { ReadsExactly (spec.eat_separator_or_brace self.now at.old) result at.new }
     {
@@ -177,7 +177,7 @@ impl<'s, 't> Reader<'s, 't> {
     ///
     /// `Syntax` if another token comes next.
     #[inline(always)]
-    #[tactic(auto, unfolding(hcl_grammar::specs::Pure::BodyParser::eol))]
+    #[tactic(auto, unfolding(hcl_grammar::specs::Pure::Steps::eol))]
     pub fn eol(&self, at: &mut u32) -> Result<(), TokenFault>
         ensures { ReadsExactly (spec.eol self.now at.old) result at.new }
     {
@@ -195,7 +195,7 @@ impl<'s, 't> Reader<'s, 't> {
     ///
     /// `Syntax` if another token comes next.
     #[inline(never)]
-    #[tactic(auto, unfolding(hcl_grammar::specs::Pure::BodyParser::eol))]
+    #[tactic(auto, unfolding(hcl_grammar::specs::Pure::Steps::eol))]
     fn line_or_text_end(&self, at: &mut u32) -> Result<(), TokenFault>
         ensures { ReadsExactly (spec.eol self.now at.old) result at.new }
     {

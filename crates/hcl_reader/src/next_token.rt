@@ -62,7 +62,7 @@ impl<'s, 't> Reader<'s, 't> {
     /// Takes a line end with the comment before it, if it comes next. The next token outside of
     /// brackets is `next`.
     #[inline(always)]
-    #[tactic(auto, unfolding(hcl_grammar::specs::Pure::Parser::eat_newline, hcl_grammar::specs::Pure::Reading::next_is, hcl_grammar::specs::Pure::Reading::after_if_next, hcl_grammar::specs::Tokens::after_next, hcl_grammar::specs::Tokens::same_kind))]
+    #[tactic(auto, unfolding(hcl_grammar::specs::Pure::Steps::eat_newline, hcl_grammar::specs::Pure::Reading::next_is, hcl_grammar::specs::Pure::Reading::after_if_next, hcl_grammar::specs::Tokens::after_next, hcl_grammar::specs::Tokens::same_kind))]
     pub fn eat_newline_next(&self, next: Next, at: &mut u32) -> bool
         requires number { next.0 ≡ spec.next_index (outside_brackets self.now) at.old }
         requires kind { next.1 ≡ spec.next_kind (outside_brackets self.now) at.old }

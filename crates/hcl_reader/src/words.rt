@@ -68,7 +68,7 @@ impl<'s, 't> Reader<'s, 't> {
     /// # Errors
     ///
     /// `Syntax` if no name follows the comma.
-    #[tactic(auto, unfolding(hcl_grammar::specs::Pure::Parser::second_name))]
+    #[tactic(auto, unfolding(hcl_grammar::specs::Pure::Steps::second_name))]
     pub fn second_name(&self, at: &mut u32) -> Result<Option<u32>, TokenFault>
         ensures { ReadsExactly (spec.second_name self.now at.old) result at.new }
     {

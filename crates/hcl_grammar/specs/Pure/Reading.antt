@@ -67,14 +67,6 @@ module _ (ts : List Token) where
       λ i. if next_is skip_newlines kind i then Ok (tt, after_next ts skip_newlines i)
       else syntax_fault skip_newlines i
 
-  abbrev pub bump_kind : Bool → ℕ → Option Kind → Outcome Kind
-  bump_kind skip_newlines i None = syntax_fault skip_newlines i
-  bump_kind skip_newlines i (Some t) = Ok (t, after_next ts skip_newlines i)
-
-  -- takes the next token
-  unfoldable pub bump : Bool → Step Kind
-  bump skip_newlines = λ i. bump_kind skip_newlines i (next_kind ts skip_newlines i)
-
   -- takes the next token, which was looked at
   abbrev pub bump_known : Bool → Step (Unit {0})
   bump_known skip_newlines = λ i. Ok (tt, after_next ts skip_newlines i)

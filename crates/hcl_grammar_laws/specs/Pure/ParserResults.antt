@@ -7,6 +7,7 @@ use Rattle.hcl_grammar.specs.declared.tree.Tree.{Tree}
 use Rattle.hcl_grammar.specs.Bodies.{IsFile}
 use Rattle.hcl_grammar.specs.Pure.BodyParser.{deeper_members, file, member_of}
 use Rattle.hcl_grammar.specs.Faults.{IsMemory, IsMemoryOrDeep}
+use Rattle.hcl_grammar.specs.Pure.NodeMakers.{nodes}
 use Rattle.hcl_grammar.specs.Pure.Reading.{Reads}
 use Rattle.hcl_grammar.specs.Tokens.{Token}
 use Rattle.hcl_grammar_laws.specs.Members.{IsMemberResult}
@@ -23,10 +24,10 @@ pub record IsParseResult (ts : List Token) (b : ℕ) (answer : Result Tree Token
 
 abbrev pub FileParserIsExact : Type 0
 FileParserIsExact = (ts : List Token) (b : ℕ) (answer : Result Tree TokenFault) (new : ℕ)
-    → Reads (file ts b 0) answer new → IsParseResult ts b answer
+    → Reads (file nodes ts b 0) answer new → IsParseResult ts b answer
 
 -- what a parser answers at one member
 abbrev pub MemberParserIsExact : Type 0
 MemberParserIsExact = (ts : List Token) (b i : ℕ) (answer : Result (Option Member) TokenFault) (new : ℕ)
-    → Reads (member_of ts b (deeper_members ts b) i) answer new
+    → Reads (member_of nodes ts b (deeper_members nodes ts b) i) answer new
     → IsMemberResult ts b i answer new

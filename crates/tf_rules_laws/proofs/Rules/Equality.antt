@@ -1,11 +1,8 @@
 -- Comparisons with an empty list.
-use Rattle.std.specs.List.{AllByRecursion}
-use Rattle.std.proofs.Common.{◌≡◌, ◌∙◌, ℕ, ◌==◌, ◌&&◌, Bool, true, false, not, List, [], ◌∷◌, Option, Some, None, refl, sym, ap, subst, length, arith, ◌+◌, ◌-◌, ◌<◌, nat_lt, nat_le, ◌≤◌, if◌then◌else◌}
-use Rattle.hcl_grammar.specs.Grammar.{IsExpr, IsTerm, plain, conditional, IsLevel, lowest, level, IsOperations, no_operations, operation, IsUnary, with_operator, post, no_tails, tails, number, identifier, call, tuple, object, for_tuple, for_object, quoted, heredoc, parens, no_items, last_item, item}
-use Rattle.hcl_grammar.specs.Lookahead.{NextIs}
+use Rattle.std.proofs.Common.{◌≡◌, ℕ, ◌==◌, ◌&&◌, Bool, true, false, not, List, [], ◌∷◌, Some, refl, ap, length, arith, ◌+◌, ◌-◌, ◌<◌, nat_lt, nat_le, ◌≤◌}
+use Rattle.hcl_grammar.specs.Grammar.{IsExpr}
 use Rattle.hcl_grammar.specs.Nodes as node
-use Rattle.hcl_grammar.specs.Operators.{binary_operator}
-use Rattle.hcl_grammar.specs.Tokens.{Token, after_next}
+use Rattle.hcl_grammar.specs.Tokens.{Token}
 use Rattle.hcl_grammar.specs.TreeLayers.{ExprKindLayer}
 use Rattle.hcl_grammar.specs.declared.tree.BinaryOperator.{BinaryOperator}
 use Rattle.hcl_grammar.specs.declared.tree.Expr.{Expr}
@@ -13,12 +10,9 @@ use Rattle.hcl_grammar.specs.declared.tree.ExprKind.TheOpen.{ExprKind-F}
 use Rattle.hcl_grammar.specs.declared.tree.ExprKind.{out-ExprKind, ExprKind}
 use Rattle.hcl_grammar.specs.declared.tree.Operation.{Operation}
 use Rattle.hcl_grammar.specs.declared.tree.Primary.{out-Primary, Primary}
-use Rattle.hcl_grammar.specs.declared.tree.Term.{Term}
-use Rattle.hcl_grammar_laws.proofs.Opens.{open_conditional, open_chain, open_prefixed, open_tailed, open_plain, open_number, open_identifier, open_call, open_tuple, open_object, open_for_tuple, open_for_object, open_quoted, open_heredoc, open_parens}
+use Rattle.hcl_grammar_laws.proofs.Opens.{open_conditional, open_chain, open_prefixed, open_tailed, open_plain, open_call, open_tuple, open_object, open_for_tuple, open_for_object, open_quoted, open_heredoc, open_parens}
 use Rattle.hcl_scan.specs.Follows.{tokens_of}
 use Rattle.hcl_token.specs.Tokens.{Pair}
-use Rattle.hcl_token.specs.declared.kind.Kind.TheVariants as k
-use Rattle.hcl_token.specs.declared.kind.Kind.{Kind}
 use Rattle.tf_reuse.proofs.MovedParts.{form_of, shape_of, first_here, past_here, some_token}
 use Rattle.tf_reuse.proofs.RenumberedNodes as moved
 use Rattle.tf_reuse.proofs.RenumberedNodes.{MovedExpr, MovedForm, MovedLinks, MovedShape}
@@ -31,7 +25,6 @@ use Rattle.tf_rules.specs.Findings.{plain_message, finding_at}
 use Rattle.tf_rules.specs.Fixes.{when, is_in_order}
 use Rattle.tf_rules.specs.Rules.Equality.{is_empty_list, is_empty_list_kind, is_empty_list_primary, equality_findings, chain_findings, operation_findings, is_equal, is_equality, length_fix, list_on_right, list_on_left, is_comparison_fixable}
 use Rattle.tf_rules.specs.Trivia.{token_range, has_trivia, is_here_close}
-use Rattle.tf_rules.specs.declared.finding.Finding.{Finding}
 use Rattle.tf_rules.specs.declared.fix.Insertion.TheVariants as insertion
 use Rattle.tf_rules.specs.declared.rule.Rule.TheVariants.{EmptyListEquality}
 use Rattle.tf_rules_laws.proofs.OfRule as found

@@ -1,7 +1,7 @@
 -- Legacy indices.
 use Rattle.std.proofs.Common.{◌≡◌, ℕ, Bool, true, not, List, refl, length, arith, ◌+◌, nat_le}
-use Rattle.hcl_grammar.specs.Grammar.{IsTail, by_name, legacy, attribute_splat, full_splat, index}
-use Rattle.hcl_grammar.specs.Tokens.{Token, next_index, after_next}
+use Rattle.hcl_grammar.specs.Grammar.{IsTail}
+use Rattle.hcl_grammar.specs.Tokens.{Token}
 use Rattle.hcl_grammar.specs.TreeLayers.{TailLayer}
 use Rattle.hcl_grammar.specs.declared.tree.ExprKind.TheOpen.{Tail-F}
 use Rattle.hcl_grammar.specs.declared.tree.Tail.{out-Tail, Tail}

@@ -1,19 +1,17 @@
 -- Quoted text that is one interpolation.
-use Rattle.std.proofs.Common.{◌≡◌, ℕ, ◌&&◌, Bool, true, false, not, List, Option, Some, None, refl, ap₂, subst, length, arith, ◌+◌, ◌-◌, ◌<◌, ◌||◌, nat_lt, nat_le, ◌≤◌}
+use Rattle.std.proofs.Common.{◌≡◌, ℕ, ◌&&◌, Bool, true, false, not, List, Option, Some, None, refl, ap₂, length, arith, ◌+◌, ◌-◌, ◌<◌, ◌||◌, nat_lt, nat_le, ◌≤◌}
 use Rattle.std.proofs.lemmas.Bool.{leb-true, leb-false}
-use Rattle.hcl_grammar.specs.Grammar.{IsTerm, number, identifier, call, tuple, object, for_tuple, for_object, quoted, heredoc, parens, IsParts, no_parts, parts, IsPart, quote_text, here_text, interp, if_directive, for_directive}
-use Rattle.hcl_grammar.specs.Lookahead.{NextIs}
+use Rattle.hcl_grammar.specs.Grammar.{IsTerm}
 use Rattle.hcl_grammar.specs.Nodes as node
-use Rattle.hcl_grammar.specs.Tokens.{Token, after_next}
+use Rattle.hcl_grammar.specs.Tokens.{Token}
 use Rattle.hcl_grammar.specs.declared.tree.Expr.{Expr}
 use Rattle.hcl_grammar.specs.declared.tree.ExprKind.{out-ExprKind, ExprKind}
-use Rattle.hcl_grammar.specs.declared.tree.Part.{Part, out-Part}
+use Rattle.hcl_grammar.specs.declared.tree.Part.{Part}
 use Rattle.hcl_grammar.specs.declared.tree.Primary.{out-Primary, Primary}
 use Rattle.hcl_grammar.specs.declared.tree.Term.{Term}
 use Rattle.hcl_grammar_laws.proofs.Opens.{open_conditional, open_chain, open_prefixed, open_tailed, open_plain, open_number, open_identifier, open_call, open_tuple, open_object, open_for_tuple, open_for_object, open_quoted, open_heredoc, open_parens, open_literal, open_interp, open_if, open_for}
 use Rattle.hcl_scan.specs.Follows.{tokens_of}
 use Rattle.hcl_token.specs.Tokens.{Pair}
-use Rattle.hcl_token.specs.declared.kind.Kind.TheVariants as k
 use Rattle.tf_reuse.proofs.MovedParts.{form_of}
 use Rattle.tf_reuse.proofs.RenumberedNodes as moved
 use Rattle.tf_reuse.proofs.RenumberedNodes.{MovedForm, MovedShape, MovedParts, MovedFilter}
@@ -24,7 +22,7 @@ use Rattle.tf_reuse.proofs.Window.{Here, Same}
 use Rattle.tf_reuse.specs.SameTokens.{SameTokens}
 use Rattle.tf_rules.specs.Findings.{plain_message, finding_at, is_fix_valid}
 use Rattle.tf_rules.specs.Fixes.{kept, keep_one, when, is_in_order}
-use Rattle.tf_rules.specs.Rules.Interpolation.{sole_interpolation, is_post_kind, sole_part, interpolation_findings, is_object_key, is_elsewhere, is_interpolation_fixable, part_interpolation}
+use Rattle.tf_rules.specs.Rules.Interpolation.{sole_interpolation, is_post_kind, sole_part, interpolation_findings, is_object_key, is_elsewhere, is_interpolation_fixable}
 use Rattle.tf_rules.specs.declared.fix.Fix.{Fix}
 use Rattle.tf_rules.specs.declared.fix.Insertion.TheVariants as insertion
 use Rattle.tf_rules.specs.declared.role.Role.{Role}

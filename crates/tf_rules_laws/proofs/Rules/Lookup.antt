@@ -1,9 +1,8 @@
 -- Calls of `lookup`.
-use Rattle.std.proofs.Common.{◌≡◌, ◌∙◌, ℕ, ◌&&◌, Bool, true, false, not, List, [], ◌∷◌, Option, Some, None, refl, ap, length, arith, ◌<◌, ◌||◌, nat_lt, nat_le, ◌≤◌, rules, if◌then◌else◌}
-use Rattle.hcl_grammar.specs.Grammar.{IsTerm, number, identifier, call, tuple, object, for_tuple, for_object, quoted, heredoc, parens}
-use Rattle.hcl_grammar.specs.Lookahead.{NextIs}
+use Rattle.std.proofs.Common.{◌≡◌, ℕ, ◌&&◌, Bool, true, not, List, [], Option, Some, None, refl, ap, length, arith, ◌<◌, ◌||◌, nat_lt, nat_le, ◌≤◌, rules, if◌then◌else◌}
+use Rattle.hcl_grammar.specs.Grammar.{IsTerm}
 use Rattle.hcl_grammar.specs.Nodes as node
-use Rattle.hcl_grammar.specs.Tokens.{Token, next_index}
+use Rattle.hcl_grammar.specs.Tokens.{Token}
 use Rattle.hcl_grammar.specs.TreeLayers.{PrimaryLayer, CallLayer}
 use Rattle.hcl_grammar.specs.declared.tree.Call.{out-Call, roll-Call, Call}
 use Rattle.hcl_grammar.specs.declared.tree.Expr.{Expr}
@@ -15,9 +14,7 @@ use Rattle.hcl_grammar.specs.declared.tree.Tail.{Tail}
 use Rattle.hcl_grammar.specs.declared.tree.Term.{Term}
 use Rattle.hcl_grammar_laws.proofs.Opens.{open_conditional, open_chain, open_prefixed, open_tailed, open_plain, open_number, open_identifier, open_call, open_tuple, open_object, open_for_tuple, open_for_object, open_quoted, open_heredoc, open_parens, open_name, open_legacy, open_index, call_arguments, call_names}
 use Rattle.hcl_scan.specs.Follows.{tokens_of}
-use Rattle.hcl_token.specs.TokenizedText.{spelling_of}
 use Rattle.hcl_token.specs.Tokens.{Pair}
-use Rattle.hcl_token.specs.declared.kind.Kind.TheVariants as k
 use Rattle.tf_reuse.proofs.MovedParts.{form_of, first_here, past_here}
 use Rattle.tf_reuse.proofs.RenumberedNodes as moved
 use Rattle.tf_reuse.proofs.RenumberedNodes.{MovedNumbers, MovedExpr, MovedForm, MovedTails, MovedTail, MovedShape, MovedExprs}

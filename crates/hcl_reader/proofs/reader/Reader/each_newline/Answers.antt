@@ -1,5 +1,5 @@
 use Rattle.std.proofs.Common.{rules, arith}
-use Rattle.hcl_grammar.specs.Pure.Parser.{skip_newlines_from}
+use Rattle.hcl_grammar.specs.Pure.Steps.{skip_newlines_from}
 use Rattle.hcl_reader.specs.ReaderRules as spec
 use Rattle.hcl_reader.proofs.Turns.{one_left, none_left, refused}
 use Rattle.hcl_reader.proofs.reader.Reader.each_newline.Goals as goal
