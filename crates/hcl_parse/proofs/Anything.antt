@@ -2,7 +2,7 @@
 use Rattle.std.proofs.Common.{rules}
 use Rattle.hcl_parse.specs.Alike.{Relations, Respects}
 use Rattle.hcl_parse.specs.Laws.{Any}
-use Rattle.hcl_parse.specs.Makers.{Types, Makers}
+use Rattle.hcl_grammar.specs.Pure.Makers.{Types, Makers}
 
 abbrev pub anything : (s t : Types) → Relations s t
 anything s t = record {

@@ -8,7 +8,7 @@ use Rattle.hcl_grammar.specs.declared.tree.Operation.{Operation}
 use Rattle.hcl_grammar.specs.Nodes as node
 use Rattle.hcl_grammar.specs.Operators.{levels}
 use Rattle.hcl_parse.specs.Chains.{before, after, first_level}
-use Rattle.hcl_parse.specs.Nodes.{operator_level, chain_end, split_level, group}
+use Rattle.hcl_grammar.specs.Pure.NodeMakers.{operator_level, chain_end, split_level, group}
 
 -- ---- the tests of a level
 

@@ -9,8 +9,9 @@ use Rattle.hcl_grammar.specs.Operators.{unary_operator}
 use Rattle.hcl_grammar.specs.Pure.Reading.{Step, and_then, next_is, after_if_next, expect}
 use Rattle.hcl_grammar.specs.Tokens as tokens
 use Rattle.hcl_grammar.specs.Tokens.{Token, next_index, next_kind, after_next, first_token_in}
-use Rattle.hcl_parse.specs.Makers.{Types, Makers}
-use Rattle.hcl_parse.specs.Parser as p
+use Rattle.hcl_grammar.specs.Pure.Makers.{Types, Makers}
+use Rattle.hcl_grammar.specs.Pure.Parser as p
+use Rattle.hcl_grammar.specs.Pure.Steps as steps
 
 -- the place after the next token
 pub past : (ts : List Token) (m : Bool) (i a : ℕ) → a ≡ next_index ts m i → a + 1 ≡ after_next ts m i
@@ -72,16 +73,16 @@ module _ {types : Types} (a : Makers types) (ts : List Token) where
     unfolding p.conditional after_if_next
     no_choice first c j e = rw e refl
 
-    no_operators : (n : ℕ) (found : Operations) (j : ℕ) → p.eat_operator ts m j ≡ Ok (None, j) → p.operations_from a ts depth inner m n found j ≡ Ok (found, j)
+    no_operators : (n : ℕ) (found : Operations) (j : ℕ) → steps.eat_operator ts m j ≡ Ok (None, j) → p.operations_from a ts depth inner m n found j ≡ Ok (found, j)
     unfolding p.operations_from
     no_operators zero found j e = refl
     no_operators (suc n) found j e = rw e refl
 
-    no_chain : (c : Expr) (j : ℕ) → p.eat_operator ts m j ≡ Ok (None, j) → p.chain a ts depth inner m c j ≡ Ok (c, j)
+    no_chain : (c : Expr) (j : ℕ) → steps.eat_operator ts m j ≡ Ok (None, j) → p.chain a ts depth inner m c j ≡ Ok (c, j)
     unfolding p.chain
     no_chain c j e = rw (no_operators (length ts) a.no_operations j e) (ap (λ (x : Expr). Ok (x, j)) (a.alone c))
 
-    pub operand_ends : (first : ℕ) (c : Expr) (j : ℕ) → p.eat_operator ts m j ≡ Ok (None, j) → next_is ts m k.Question j ≡ false → and_then (p.chain a ts depth inner m c j) (p.conditional a ts depth inner m first) ≡ Ok (c, j)
+    pub operand_ends : (first : ℕ) (c : Expr) (j : ℕ) → steps.eat_operator ts m j ≡ Ok (None, j) → next_is ts m k.Question j ≡ false → and_then (p.chain a ts depth inner m c j) (p.conditional a ts depth inner m first) ≡ Ok (c, j)
     operand_ends first c j quiet other = rw (no_chain c j quiet) (no_choice first c j other)
 
     -- after a term and tails of it, which may be the whole expression
@@ -93,7 +94,7 @@ module _ {types : Types} (a : Makers types) (ts : List Token) where
     unfolding p.with_tails
     ends_tails n first head found j e = rw (no_tails n found j e) refl
 
-    pub plain_whole : (n i q j : ℕ) (t : Kind) (head : Term) (found : Tails) → q ≡ next_index ts m i → next_kind ts m i ≡ Some t → unary_operator t ≡ None → p.post_by a ts depth inner m q t (q + 1) ≡ p.with_tails a ts depth inner m n q head found j → p.tail_of a ts depth inner m j ≡ Ok (None, j) → p.eat_operator ts m j ≡ Ok (None, j) → next_is ts m k.Question j ≡ false → p.whole a ts depth inner m i ≡ Ok (a.postfix q j head found, j)
+    pub plain_whole : (n i q j : ℕ) (t : Kind) (head : Term) (found : Tails) → q ≡ next_index ts m i → next_kind ts m i ≡ Some t → unary_operator t ≡ None → p.post_by a ts depth inner m q t (q + 1) ≡ p.with_tails a ts depth inner m n q head found j → p.tail_of a ts depth inner m j ≡ Ok (None, j) → steps.eat_operator ts m j ≡ Ok (None, j) → next_is ts m k.Question j ≡ false → p.whole a ts depth inner m i ≡ Ok (a.postfix q j head found, j)
     plain_whole n i q j t head found here kind first post none quiet other = plain_rest n i q j t head found here kind first post ∙ rw (ends_tails n q head found j none) (operand_ends q (a.postfix q j head found) j quiet other)
 
     pub with_one_tail : (n first : ℕ) (head : Term) (found : Tails) (t : Tail) (i j : ℕ) → p.tail_of a ts depth inner m i ≡ Ok (Some t, j) → p.with_tails a ts depth inner m (suc n) first head found i ≡ p.with_tails a ts depth inner m n first head (a.add_tail found t) j

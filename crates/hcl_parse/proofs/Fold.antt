@@ -8,13 +8,16 @@ use Rattle.hcl_grammar.specs.declared.goal.Goal.TheVariants.{Whole, Operand}
 use Rattle.hcl_grammar.specs.declared.tree.BinaryOperator.{BinaryOperator}
 use Rattle.hcl_grammar.specs.declared.tree.UnaryOperator.{UnaryOperator}
 use Rattle.hcl_grammar.specs.Operators.{unary_operator, binary_operator}
-use Rattle.hcl_grammar.specs.Pure.BodyParser.{eol, expect_end, saturating_pred}
-use Rattle.hcl_grammar.specs.Pure.Parser.{eat_newline, eat_inner_newline, skip_newlines_from, skip_newlines, eat_separator, eat_separator_or_brace, second_name, keyword_directive}
+use Rattle.hcl_grammar.specs.Pure.BodyParser as bodies
+use Rattle.hcl_grammar.specs.Pure.BodyParser.{saturating_pred}
+use Rattle.hcl_grammar.specs.Pure.Steps.{eol, expect_end}
+use Rattle.hcl_grammar.specs.Pure.Steps.{eat_newline, eat_inner_newline, skip_newlines_from, skip_newlines, eat_separator, eat_separator_or_brace, second_name, keyword_directive}
 use Rattle.hcl_grammar.specs.Pure.Reading.{Outcome, Step, and_then, next_is, after_if_next, next_is_word, expect, expect_word, enter, enter_two}
 use Rattle.hcl_grammar.specs.Tokens.{Token, next_index, next_kind, after_next, for_word, in_word, if_word, else_word, endif_word, endfor_word}
 use Rattle.hcl_parse.specs.Alike.{Alike, read, fault, InSome, Relations, Respects}
-use Rattle.hcl_parse.specs.Makers.{Types, Makers}
-use Rattle.hcl_parse.specs.Parser as g
+use Rattle.hcl_grammar.specs.Pure.Makers.{Types, Makers}
+use Rattle.hcl_grammar.specs.Pure.Parser as g
+use Rattle.hcl_grammar.specs.Pure.Steps as steps
 
 -- something was read, or the error is not that memory ran out
 abbrev Own : {A : Type 0} → Outcome A → Type 0
@@ -97,19 +100,19 @@ module _ (ts : List Token) where
   unfolding eol
   own_eol i = own_then (eat_newline ts i) _ (own_eat_newline i) (λ is_line j. own_branch is_line j _ _ tt (own_expect_end _ _))
 
-  own_equals_or_colon : (i : ℕ) → Own (g.equals_or_colon ts i)
-  unfolding g.equals_or_colon
+  own_equals_or_colon : (i : ℕ) → Own (steps.equals_or_colon ts i)
+  unfolding steps.equals_or_colon
   own_equals_or_colon i = own_branch (next_is ts false k.Equal i) _ _ _ tt (own_expect false k.Colon _)
 
-  own_eat_operator : (m : Bool) (i : ℕ) → Own (g.eat_operator ts m i)
-  unfolding g.eat_operator
+  own_eat_operator : (m : Bool) (i : ℕ) → Own (steps.eat_operator ts m i)
+  unfolding steps.eat_operator
   own_eat_operator m i = by (next_kind ts m i)
     where
-      taken : (o : Option (ℕ × BinaryOperator)) → Own (g.take_operator ts m i o)
+      taken : (o : Option (ℕ × BinaryOperator)) → Own (steps.take_operator ts m i o)
       taken None = tt
       taken (Some q) = tt
 
-      by : (o : Option Kind) → Own (g.operator_by_kind ts m i o)
+      by : (o : Option Kind) → Own (steps.operator_by_kind ts m i o)
       by None = tt
       by (Some t) = taken (binary_operator t)
 
@@ -159,7 +162,7 @@ module _ {s t : Types} (a : Makers s) (b : Makers t) (R : Relations s t) (r : Re
 
     element : (x : s.Elements) (y : t.Elements) (i : ℕ) → R.Elements x y → Alike R.Elements (g.element a ts I x i) (g.element b ts J y i)
     unfolding g.element
-    element x y i e = following _ _ (h false Whole i) (λ v w j d. step (g.equals_or_colon ts j) (own_equals_or_colon ts j) _ _ (λ u l. following _ _ (h false Whole l) (λ c z o f. read (r.add_element x y e v w d c z f))))
+    element x y i e = following _ _ (h false Whole i) (λ v w j d. step (steps.equals_or_colon ts j) (own_equals_or_colon ts j) _ _ (λ u l. following _ _ (h false Whole l) (λ c z o f. read (r.add_element x y e v w d c z f))))
 
     elements : (n : ℕ) (x : s.Elements) (y : t.Elements) (i : ℕ) → R.Elements x y → Alike R.Elements (g.elements_from a ts I n x i) (g.elements_from b ts J n y i)
     unfolding g.elements_from
@@ -283,7 +286,7 @@ module _ {s t : Types} (a : Makers s) (b : Makers t) (R : Relations s t) (r : Re
     operations : (m : Bool) (n : ℕ) (x : s.Operations) (y : t.Operations) (i : ℕ) → R.Operations x y → Alike R.Operations (g.operations_from a ts depth I m n x i) (g.operations_from b ts depth J m n y i)
     unfolding g.operations_from
     operations m zero x y i e = read e
-    operations m (suc n) x y i e = step (g.eat_operator ts m i) (own_eat_operator ts m i) _ _ (λ o j. by (λ op v w l d. operations m n _ _ l (r.add_operation x y e op v w d)) o j)
+    operations m (suc n) x y i e = step (steps.eat_operator ts m i) (own_eat_operator ts m i) _ _ (λ o j. by (λ op v w l d. operations m n _ _ l (r.add_operation x y e op v w d)) o j)
       where
         by : ((op : BinaryOperator) (v : s.Expr) (w : t.Expr) (l : ℕ) → R.Expr v w → Alike R.Operations (g.operations_from a ts depth I m n (a.add_operation x op v) l) (g.operations_from b ts depth J m n (b.add_operation y op w) l)) → (o : Option BinaryOperator) (j : ℕ) → Alike R.Operations (g.operations_step a ts depth I m (g.operations_from a ts depth I m n) x o j) (g.operations_step b ts depth J m (g.operations_from b ts depth J m n) y o j)
         by again None j = read e
@@ -356,64 +359,64 @@ module _ {s t : Types} (a : Makers s) (b : Makers t) (R : Relations s t) (r : Re
 
   -- ---- bodies
 
-  quoted_label : (first i : ℕ) → Alike R.Label (g.quoted_label a ts first i) (g.quoted_label b ts first i)
-  unfolding g.quoted_label
+  quoted_label : (first i : ℕ) → Alike R.Label (bodies.quoted_label a ts first i) (bodies.quoted_label b ts first i)
+  unfolding bodies.quoted_label
   quoted_label first i = step (expect ts false k.QuoteClose _) (own_expect ts false k.QuoteClose _) _ _ (λ u j. read (r.label first j _))
 
-  label_by : (first : ℕ) (o : Option Kind) (i : ℕ) → Alike (InSome R.Label) (g.label_by a ts first o i) (g.label_by b ts first o i)
+  label_by : (first : ℕ) (o : Option Kind) (i : ℕ) → Alike (InSome R.Label) (bodies.label_by a ts first o i) (bodies.label_by b ts first o i)
   label_by first (Some k.Identifier) i = read (r.label first _ _)
   label_by first (Some k.QuoteOpen) i = following _ _ (quoted_label first _) (λ x y j e. read e)
   label_by first (Some _) i = read tt
   label_by first None i = read tt
 
-  labels : (n : ℕ) (x : s.Labels) (y : t.Labels) (i : ℕ) → R.Labels x y → Alike R.Labels (g.labels_from a ts n x i) (g.labels_from b ts n y i)
-  unfolding g.labels_from g.label_of
+  labels : (n : ℕ) (x : s.Labels) (y : t.Labels) (i : ℕ) → R.Labels x y → Alike R.Labels (bodies.labels_from a ts n x i) (bodies.labels_from b ts n y i)
+  unfolding bodies.labels_from bodies.label_of
   labels zero x y i e = read e
-  labels (suc n) x y i e = following _ _ (label_by _ (next_kind ts false i) i) (λ v w j d. each R.Label (g.labels_step a ts (g.labels_from a ts n) x) (g.labels_step b ts (g.labels_from b ts n) y) j (read e) (λ v w d. labels n _ _ j (r.add_label x y e v w d)) v w d)
+  labels (suc n) x y i e = following _ _ (label_by _ (next_kind ts false i) i) (λ v w j d. each R.Label (bodies.labels_step a ts (bodies.labels_from a ts n) x) (bodies.labels_step b ts (bodies.labels_from b ts n) y) j (read e) (λ v w d. labels n _ _ j (r.add_label x y e v w d)) v w d)
 
-  one_line_body : (depth i : ℕ) → Alike R.Content (g.one_line_body a ts depth i) (g.one_line_body b ts depth i)
-  unfolding g.one_line_body
+  one_line_body : (depth i : ℕ) → Alike R.Content (bodies.one_line_body a ts depth i) (bodies.one_line_body b ts depth i)
+  unfolding bodies.one_line_body
   one_line_body depth i = branch (next_is ts false k.Identifier i) (after_if_next ts false k.Identifier i) _ _ _ _ (step (expect ts false k.Equal _) (own_expect ts false k.Equal _) _ _ (λ u j. following _ _ (expr depth false Whole j) (λ x y l e. read (r.one_line _ _ (r.attribute _ l x y e))))) (read (r.one_line None None tt))
 
   module _ (depth : ℕ) (I : Step s.Members) (J : Step t.Members) (h : (i : ℕ) → Alike R.Members (I i) (J i)) where
-    attribute_by : (first i : ℕ) → Alike R.Member (g.attribute_by a ts depth I first i) (g.attribute_by b ts depth J first i)
-    unfolding g.attribute_by
+    attribute_by : (first i : ℕ) → Alike R.Member (bodies.attribute_by a ts depth I first i) (bodies.attribute_by b ts depth J first i)
+    unfolding bodies.attribute_by
     attribute_by first i = following _ _ (expr depth false Whole i) (λ x y j e. step (eol ts j) (own_eol ts j) _ _ (λ u l. read (r.attribute_member _ _ (r.attribute first l x y e))))
 
-    nested_body : (i : ℕ) → Alike R.Content (g.nested_body a ts depth I i) (g.nested_body b ts depth J i)
-    unfolding g.nested_body
+    nested_body : (i : ℕ) → Alike R.Content (bodies.nested_body a ts depth I i) (bodies.nested_body b ts depth J i)
+    unfolding bodies.nested_body
     nested_body i = following _ _ (h i) (λ x y j e. read (r.block_body _ _ (r.body _ j x y e)))
 
-    block_content : (i : ℕ) → Alike R.Content (g.block_content a ts depth I i) (g.block_content b ts depth J i)
-    unfolding g.block_content
-    block_content i = step (eat_inner_newline ts i) (own_eat_inner_newline ts i) _ _ (λ is_line j. branch is_line j _ _ _ _ (nested_body j) (one_line_body (saturating_pred ts depth) j))
+    block_content : (i : ℕ) → Alike R.Content (bodies.block_content a ts depth I i) (bodies.block_content b ts depth J i)
+    unfolding bodies.block_content
+    block_content i = step (eat_inner_newline ts i) (own_eat_inner_newline ts i) _ _ (λ is_line j. branch is_line j _ _ _ _ (nested_body j) (one_line_body (saturating_pred depth) j))
 
-    block_by : (first i : ℕ) → Alike R.Member (g.block_by a ts depth I first i) (g.block_by b ts depth J first i)
-    unfolding g.block_by
+    block_by : (first i : ℕ) → Alike R.Member (bodies.block_by a ts depth I first i) (bodies.block_by b ts depth J first i)
+    unfolding bodies.block_by
     block_by first i = following _ _ (labels (length ts) _ _ i r.no_labels) (λ x y j e. step (expect ts false k.OpenBrace j) (own_expect ts false k.OpenBrace j) _ _ (λ u l. step (enter depth _ l) (own_enter depth _ l) _ _ (λ u o. following _ _ (block_content o) (λ v w q d. step (expect ts false k.CloseBrace q) (own_expect ts false k.CloseBrace q) _ _ (λ u q. step (eol ts q) (own_eol ts q) _ _ (λ u q. read (r.block first q x y e v w d)))))))
 
-    attribute_or_block : (first i : ℕ) → Alike R.Member (g.attribute_or_block a ts depth I first i) (g.attribute_or_block b ts depth J first i)
-    unfolding g.attribute_or_block
+    attribute_or_block : (first i : ℕ) → Alike R.Member (bodies.attribute_or_block a ts depth I first i) (bodies.attribute_or_block b ts depth J first i)
+    unfolding bodies.attribute_or_block
     attribute_or_block first i = branch (next_is ts false k.Equal i) (after_if_next ts false k.Equal i) _ _ _ _ (attribute_by first _) (block_by first _)
 
-    member_of : (i : ℕ) → Alike (InSome R.Member) (g.member_of a ts depth I i) (g.member_of b ts depth J i)
-    unfolding g.member_of
+    member_of : (i : ℕ) → Alike (InSome R.Member) (bodies.member_of a ts depth I i) (bodies.member_of b ts depth J i)
+    unfolding bodies.member_of
     member_of i = branch (next_is ts false k.Identifier i) (after_if_next ts false k.Identifier i) _ _ _ _ (following _ _ (attribute_or_block _ _) (λ x y j e. read e)) (read tt)
 
-    members_from : (n : ℕ) (x : s.Members) (y : t.Members) (i : ℕ) → R.Members x y → Alike R.Members (g.members_from a ts depth I n x i) (g.members_from b ts depth J n y i)
-    unfolding g.members_from
+    members_from : (n : ℕ) (x : s.Members) (y : t.Members) (i : ℕ) → R.Members x y → Alike R.Members (bodies.members_from a ts depth I n x i) (bodies.members_from b ts depth J n y i)
+    unfolding bodies.members_from
     members_from zero x y i e = read e
-    members_from (suc n) x y i e = step (eat_newline ts i) (own_eat_newline ts i) _ _ (λ is_line j. branch is_line j _ _ _ _ (members_from n x y j e) (following _ _ (member_of j) (λ v w j d. each R.Member (g.members_step a ts depth I (g.members_from a ts depth I n) x) (g.members_step b ts depth J (g.members_from b ts depth J n) y) j (read e) (λ v w d. members_from n _ _ j (r.add_member x y e v w d)) v w d)))
+    members_from (suc n) x y i e = step (eat_newline ts i) (own_eat_newline ts i) _ _ (λ is_line j. branch is_line j _ _ _ _ (members_from n x y j e) (following _ _ (member_of j) (λ v w j d. each R.Member (bodies.members_step a ts depth I (bodies.members_from a ts depth I n) x) (bodies.members_step b ts depth J (bodies.members_from b ts depth J n) y) j (read e) (λ v w d. members_from n _ _ j (r.add_member x y e v w d)) v w d)))
 
-  members : (depth i : ℕ) → Alike R.Members (g.members a ts depth i) (g.members b ts depth i)
-  unfolding g.members
+  members : (depth i : ℕ) → Alike R.Members (bodies.members a ts depth i) (bodies.members b ts depth i)
+  unfolding bodies.members
   members zero i = members_from zero _ _ (λ i. fault (is_deep i)) (length ts) _ _ i r.no_members
   members (suc depth) i = members_from (suc depth) _ _ (λ i. members depth i) (length ts) _ _ i r.no_members
 
-  pub member : (depth i : ℕ) → Alike (InSome R.Member) (g.member_of a ts depth (g.deeper_members a ts depth) i) (g.member_of b ts depth (g.deeper_members b ts depth) i)
+  pub member : (depth i : ℕ) → Alike (InSome R.Member) (bodies.member_of a ts depth (bodies.deeper_members a ts depth) i) (bodies.member_of b ts depth (bodies.deeper_members b ts depth) i)
   member zero i = member_of zero _ _ (λ i. fault (is_deep i)) i
   member (suc depth) i = member_of (suc depth) _ _ (λ i. members depth i) i
 
-  pub file : (depth i : ℕ) → Alike R.Tree (g.file a ts depth i) (g.file b ts depth i)
-  unfolding g.file
+  pub file : (depth i : ℕ) → Alike R.Tree (bodies.file a ts depth i) (bodies.file b ts depth i)
+  unfolding bodies.file
   file depth i = following _ _ (members depth _) (λ x y j e. step (expect_end ts _ _) (own_expect_end ts _ _) _ _ (λ u l. read (r.tree (length ts) _ _ (r.body _ j x y e))))

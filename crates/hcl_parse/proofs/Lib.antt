@@ -1,8 +1,5 @@
-pub mod Outcomes
 pub mod Fold
 pub mod Anything
-pub mod Levels
-pub mod Tree
 pub mod Ends
 pub mod Turns
 pub mod Chains

@@ -6,7 +6,7 @@ use Rattle.hcl_grammar.specs.declared.fault.TokenFault.TheVariants.{Memory}
 use Rattle.hcl_grammar.specs.declared.tree.BinaryOperator.{BinaryOperator}
 use Rattle.hcl_grammar.specs.declared.tree.UnaryOperator.{UnaryOperator}
 use Rattle.hcl_grammar.specs.Pure.Reading.{Outcome}
-use Rattle.hcl_parse.specs.Makers.{Types, Makers}
+use Rattle.hcl_grammar.specs.Pure.Makers.{Types, Makers}
 
 -- both end at the same place, with values that are related, or with the same error, which is not
 -- that memory ran out

@@ -2,8 +2,8 @@
 use Rattle.std.specs.Prelude.{ℕ, suc, length, Option}
 use Rattle.hcl_grammar.specs.Pure.Reading.{Step}
 use Rattle.hcl_reader.specs.ReaderRules.{ReaderState}
-use Rattle.hcl_parse.specs.Makers.{Types, Makers}
-use Rattle.hcl_parse.specs.Parser as p
+use Rattle.hcl_grammar.specs.Pure.Makers.{Types, Makers}
+use Rattle.hcl_grammar.specs.Pure.BodyParser as p
 
 module _ {types : Types} (a : Makers types) (t : ReaderState) where
   open types use {Label, Labels, Content, Member, Members, Tree}

@@ -2,7 +2,7 @@
 use Rattle.std.specs.Prelude.{ℕ, nat_lt, if◌then◌else◌, List, [], ◌∷◌}
 use Rattle.hcl_grammar.specs.declared.tree.Operation.{Operation}
 use Rattle.hcl_grammar.specs.Operators.{levels}
-use Rattle.hcl_parse.specs.Nodes.{operator_level}
+use Rattle.hcl_grammar.specs.Pure.NodeMakers.{operator_level}
 
 -- the operators up to the first that is not of a level below n
 abbrev pub before : ℕ → List Operation → List Operation

@@ -1,6 +1,3 @@
-pub mod Makers
-pub mod Parser
-pub mod Nodes
 pub mod Nothing
 pub mod Alike
 pub mod Laws

@@ -1,6 +1,6 @@
 -- The makers that make nothing.
 use Rattle.std.specs.Prelude.{refl}
-use Rattle.hcl_parse.specs.Makers.{Types, Makers}
+use Rattle.hcl_grammar.specs.Pure.Makers.{Types, Makers}
 
 abbrev pub nothing_types : Types
 nothing_types = record {

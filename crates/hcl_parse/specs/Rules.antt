@@ -11,8 +11,10 @@ use Rattle.hcl_grammar.specs.declared.tree.UnaryOperator.{UnaryOperator}
 use Rattle.hcl_grammar.specs.Pure.Reading as r
 use Rattle.hcl_grammar.specs.Pure.Reading.{Outcome, Step, ◌>>=◌, ◌>>◌}
 use Rattle.hcl_reader.specs.ReaderRules.{ReaderState, IsEntered, IsEnteredTwice}
-use Rattle.hcl_parse.specs.Makers.{Types, Makers}
-use Rattle.hcl_parse.specs.Parser as p
+use Rattle.hcl_grammar.specs.Pure.Makers.{Types, Makers}
+use Rattle.hcl_grammar.specs.Pure.BodyParser as bodies
+use Rattle.hcl_grammar.specs.Pure.Parser as p
+use Rattle.hcl_grammar.specs.Pure.Steps as steps
 
 -- the error is not that memory ran out, if it may
 abbrev pub IsOwn : Bool → TokenFault → Type 0
@@ -32,10 +34,10 @@ is_called t i =
     || r.next_is t.tokens t.skip_newlines k.DoubleColon i
 
 abbrev pub eat_operator : ReaderState → Step (Option BinaryOperator)
-eat_operator t = p.eat_operator t.tokens t.skip_newlines
+eat_operator t = steps.eat_operator t.tokens t.skip_newlines
 
 abbrev pub equals_or_colon : ReaderState → Step (Unit {0})
-equals_or_colon t = p.equals_or_colon t.tokens
+equals_or_colon t = steps.equals_or_colon t.tokens
 
 module _ {types : Types} (a : Makers types) (t : ReaderState) where
   open types use {Expr, Exprs, Operations, Term, Tail, Tails, Names, Elements, Intro}
@@ -224,7 +226,7 @@ module _ {types : Types} (a : Makers types) (t : ReaderState) where
   pub record IsInside (inner : ReaderState) : Type 0 where
     pub opened : IsEntered t inner
     pub deeper : p.deeper a t.tokens t.depth ≡ p.under a t.tokens inner.depth
-    pub members : p.deeper_members a t.tokens t.depth ≡ p.members a t.tokens inner.depth
+    pub members : bodies.deeper_members a t.tokens t.depth ≡ bodies.members a t.tokens inner.depth
 
   -- two, one in the other
   pub record IsInsideTwice (inner : ReaderState) : Type 0 where

@@ -2,7 +2,7 @@
 use Rattle.std.specs.Prelude.{◌≡◌, ℕ, false, Ok}
 use Rattle.hcl_token.specs.declared.kind.Kind.{Kind}
 use Rattle.hcl_reader.specs.ReaderRules.{ReaderState}
-use Rattle.hcl_parse.specs.Makers.{Types, Makers}
+use Rattle.hcl_grammar.specs.Pure.Makers.{Types, Makers}
 use Rattle.hcl_parse.specs.Rules as spec
 use Rattle.hcl_parse.specs.declared.plain.Unread.{Unread}
 use Rattle.hcl_parse.specs.declared.plain.Unread.TheVariants as unread

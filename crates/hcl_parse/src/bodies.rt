@@ -17,7 +17,7 @@ use hcl_reader::{Next, Reader};
 use hcl_token::Kind;
 
 /// Takes the rest of a `Label` in quotes, after its quote, which is token `first`.
-#[tactic(auto, unfolding(crate::specs::Parser::quoted_label))]
+#[tactic(auto, unfolding(hcl_grammar::specs::Pure::BodyParser::quoted_label))]
 fn quoted_label<S: Builder>(
     builder: &S,
     reader: &Reader<'_, '_>,
@@ -38,7 +38,7 @@ fn quoted_label<S: Builder>(
 }
 
 /// Takes a `Label`, if one comes next: `Identifier | QuoteOpen QuoteLit? QuoteClose`.
-#[tactic(auto, unfolding(crate::specs::Parser::label_of, hcl_grammar::specs::Tokens::after_next))]
+#[tactic(auto, unfolding(hcl_grammar::specs::Pure::BodyParser::label_of, hcl_grammar::specs::Tokens::after_next))]
 fn label<S: Builder>(
     builder: &S,
     reader: &Reader<'_, '_>,
@@ -80,7 +80,7 @@ fn labels<S: Builder>(
 }
 
 /// Takes what a block on one line has in its braces: `(Identifier "=" Expr)?`.
-#[tactic(auto, unfolding(crate::specs::Parser::one_line_body))]
+#[tactic(auto, unfolding(hcl_grammar::specs::Pure::BodyParser::one_line_body))]
 fn one_line_body<S: Builder>(
     builder: &S,
     reader: &Reader<'_, '_>,
@@ -101,7 +101,7 @@ fn one_line_body<S: Builder>(
 }
 
 /// Takes the rest of an attribute, after its name, which is token `first`, and `=`: `Expr Eol`.
-#[tactic(auto, unfolding(crate::specs::Parser::attribute_by))]
+#[tactic(auto, unfolding(hcl_grammar::specs::Pure::BodyParser::attribute_by))]
 fn attribute<S: Builder>(
     builder: &S,
     reader: &Reader<'_, '_>,
@@ -119,7 +119,7 @@ fn attribute<S: Builder>(
 
 /// Takes the body of a block that was opened.
 #[cycle(nest)]
-#[tactic(auto, unfolding(crate::specs::Parser::nested_body))]
+#[tactic(auto, unfolding(hcl_grammar::specs::Pure::BodyParser::nested_body))]
 fn nested_body<S: Builder>(
     builder: &S,
     reader: &Reader<'_, '_>,
@@ -137,7 +137,7 @@ fn nested_body<S: Builder>(
 
 /// Takes what is in the braces of a block: `nl Body`, or what a block on one line has.
 #[cycle(nest)]
-#[tactic(auto, unfolding(crate::specs::Parser::block_content))]
+#[tactic(auto, unfolding(hcl_grammar::specs::Pure::BodyParser::block_content))]
 fn block_content<S: Builder>(
     builder: &S,
     reader: &Reader<'_, '_>,
@@ -156,7 +156,7 @@ fn block_content<S: Builder>(
 /// their content, `Eol`.
 #[cycle(nest)]
 #[inline(never)]
-#[tactic(auto, unfolding(crate::specs::Parser::block_by))]
+#[tactic(auto, unfolding(hcl_grammar::specs::Pure::BodyParser::block_by))]
 fn block<S: Builder>(
     builder: &S,
     reader: &Reader<'_, '_>,
@@ -181,7 +181,7 @@ fn block<S: Builder>(
 /// Takes the rest of an attribute or of a block, after its first word, which is token `first`.
 #[cycle(nest)]
 #[inline(always)]
-#[tactic(auto, unfolding(crate::specs::Parser::attribute_or_block))]
+#[tactic(auto, unfolding(hcl_grammar::specs::Pure::BodyParser::attribute_or_block))]
 fn attribute_or_block<S: Builder>(
     builder: &S,
     reader: &Reader<'_, '_>,
@@ -215,7 +215,7 @@ pub fn member<S: Builder>(
 /// Takes an attribute or a block, if one comes next. The next token is `next`.
 #[cycle(nest)]
 #[inline(always)]
-#[tactic(auto, unfolding(crate::specs::Parser::member_of))]
+#[tactic(auto, unfolding(hcl_grammar::specs::Pure::BodyParser::member_of))]
 fn member_next<S: Builder>(
     builder: &S,
     reader: &Reader<'_, '_>,
@@ -262,7 +262,7 @@ fn members<S: Builder>(
 }
 
 /// Takes a `File`, which is all tokens: `Mark? Body (LineComment)? end`.
-#[tactic(auto, unfolding(crate::specs::Parser::file))]
+#[tactic(auto, unfolding(hcl_grammar::specs::Pure::BodyParser::file))]
 pub fn file<S: Builder>(
     builder: &S,
     reader: &Reader<'_, '_>,

@@ -1,7 +1,7 @@
 //! What a parser makes of what it reads.
 
 ghost use Rattle.std.specs.Prelude.{◌≡◌, Bool, true, IfOk, OnOk, IfErr};
-ghost use Rattle.hcl_parse.specs.Makers.{Makers};
+ghost use Rattle.hcl_grammar.specs.Pure.Makers.{Makers};
 
 use hcl_grammar::tree::{BinaryOperator, UnaryOperator};
 use std::alloc::{AllocError, Global};

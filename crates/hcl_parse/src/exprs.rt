@@ -21,7 +21,7 @@ use hcl_token::Kind;
 
 /// Takes a binary operator, of whatever level, if one comes next.
 #[inline(always)]
-#[tactic(auto, unfolding(crate::specs::Parser::eat_operator, hcl_grammar::specs::Tokens::after_next))]
+#[tactic(auto, unfolding(hcl_grammar::specs::Pure::Steps::eat_operator, hcl_grammar::specs::Tokens::after_next))]
 fn eat_operator(reader: &Reader<'_, '_>, at: &mut u32) -> Option<BinaryOperator>
     ensures { spec.eat_operator reader.now at.old ≡ Ok (result, at.new) }
 {
@@ -182,7 +182,7 @@ fn unary_with<S: Builder>(
 }
 
 /// Returns whether an operand is a whole `Expr`: neither an operator comes next nor `?`.
-#[tactic(auto, unfolding(crate::specs::Parser::eat_operator, hcl_grammar::specs::Pure::Reading::next_is))]
+#[tactic(auto, unfolding(hcl_grammar::specs::Pure::Steps::eat_operator, hcl_grammar::specs::Pure::Reading::next_is))]
 fn ends(reader: &Reader<'_, '_>, at: u32) -> bool
     ensures quiet { result ≡ true → spec.eat_operator reader.now at ≡ Ok (None, at) }
     ensures other { result ≡ true → tokens.next_is reader.now k.Question at ≡ false }
@@ -196,7 +196,7 @@ fn ends(reader: &Reader<'_, '_>, at: u32) -> bool
 /// Takes an `Expr`: `Or ("?" Expr ":" Expr)?`.
 #[cycle(nest)]
 #[inline(never)]
-#[tactic(auto, unfolding(crate::specs::Parser::whole))]
+#[tactic(auto, unfolding(hcl_grammar::specs::Pure::Parser::whole))]
 fn whole<S: Builder>(
     builder: &S,
     reader: &Reader<'_, '_>,
@@ -233,7 +233,7 @@ fn after_operand<S: Builder>(
 /// rest of a conditional.
 #[cycle(nest)]
 #[inline(always)]
-#[tactic(auto, unfolding(crate::specs::Parser::chain))]
+#[tactic(auto, unfolding(hcl_grammar::specs::Pure::Parser::chain))]
 fn chain<S: Builder>(
     builder: &S,
     reader: &Reader<'_, '_>,
@@ -274,7 +274,7 @@ fn operations<S: Builder>(
 /// Takes the rest of a conditional, if one comes next: `("?" Expr ":" Expr)?`.
 #[cycle(nest)]
 #[inline(never)]
-#[tactic(auto, unfolding(crate::specs::Parser::conditional))]
+#[tactic(auto, unfolding(hcl_grammar::specs::Pure::Parser::conditional))]
 fn conditional<S: Builder>(
     builder: &S,
     reader: &Reader<'_, '_>,
@@ -306,7 +306,7 @@ fn conditional<S: Builder>(
 /// Takes a `Unary`: `("-"|"!") Unary | Post`.
 #[cycle(nest)]
 #[inline(always)]
-#[tactic(auto, unfolding(crate::specs::Parser::unary, hcl_grammar::specs::Tokens::after_next))]
+#[tactic(auto, unfolding(hcl_grammar::specs::Pure::Parser::unary, hcl_grammar::specs::Tokens::after_next))]
 fn unary<S: Builder>(
     builder: &S,
     reader: &Reader<'_, '_>,

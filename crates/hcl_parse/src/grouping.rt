@@ -6,7 +6,7 @@ ghost use Rattle.std.specs.Prelude.{◌≡◌, ◌<◌, suc, [], ◌∷◌, ◌+
 ghost use Rattle.hcl_grammar.specs.Operators as operators;
 ghost use Rattle.hcl_grammar.specs.Nodes as node;
 ghost use Rattle.hcl_parse.specs.Chains.{before, after, first_level};
-ghost use Rattle.hcl_parse.specs.Nodes as spec;
+ghost use Rattle.hcl_grammar.specs.Pure.NodeMakers as spec;
 
 use hcl_grammar::tree::{BinaryOperator, Expr, ExprKind, Operation};
 use hcl_grammar::{Boxed, Items, nodes};

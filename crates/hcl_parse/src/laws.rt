@@ -1,15 +1,10 @@
 //! What the instances of the parser have to do with one another. Each law is the contract of a
 //! function that does nothing.
 
-ghost use Rattle.hcl_parse.specs.Laws.{EndAlike, MakesTree};
+ghost use Rattle.hcl_parse.specs.Laws.{EndAlike};
 
 /// A parser that makes nothing ends where the one ends that makes nodes, or has the same error,
 /// which is not that memory ran out.
 pub fn both_end_alike()
     ensures { EndAlike }
-{}
-
-/// The parser that makes nodes is the pure parser of hcl_grammar.
-pub fn makes_the_tree()
-    ensures { MakesTree }
 {}

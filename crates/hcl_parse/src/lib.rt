@@ -19,4 +19,4 @@ pub use builder::Builder;
 pub use exprs::expr;
 pub use nodes::Nodes;
 pub use nothing::Nothing;
-pub use reads::{check, next_member, parse, skip_member};
+pub use reads::{check, next_member, parse};

@@ -1,7 +1,7 @@
 //! A builder that makes the nodes of the tree.
 
 ghost use Rattle.std.specs.Prelude.{◌≡◌, true, IfOk, IfErr};
-ghost use Rattle.hcl_parse.specs.Nodes.{nodes};
+ghost use Rattle.hcl_grammar.specs.Pure.NodeMakers.{nodes};
 
 use crate::builder::Builder;
 use crate::grouping::{Queue, group};

@@ -48,7 +48,7 @@ pub struct Read<T, L> {
 
 /// Returns whether a term before this place is known to be a whole `Expr`: what comes next ends it.
 #[inline(always)]
-#[tactic(auto, unfolding(crate::specs::Parser::eat_operator, crate::specs::Parser::tail_of, hcl_grammar::specs::Pure::Reading::next_is, hcl_grammar::specs::Tokens::same_kind))]
+#[tactic(auto, unfolding(hcl_grammar::specs::Pure::Steps::eat_operator, hcl_grammar::specs::Pure::Parser::tail_of, hcl_grammar::specs::Pure::Reading::next_is, hcl_grammar::specs::Tokens::same_kind))]
 fn ends_expr<S: Builder>(builder: &S, reader: &Reader<'_, '_>, at: u32) -> bool
     ensures operator { result ≡ true → spec.eat_operator reader.now at ≡ Ok (None, at) }
     ensures question { result ≡ true → tokens.next_is reader.now k.Question at ≡ false }
@@ -72,7 +72,7 @@ fn ends_expr<S: Builder>(builder: &S, reader: &Reader<'_, '_>, at: u32) -> bool
 
 /// Takes a `Tail` with a dot, if one comes next: `"." (Identifier|"*") | DotIndex`.
 #[inline(always)]
-#[tactic(auto, unfolding(crate::specs::Parser::tail_of, crate::specs::Parser::dot_tail, hcl_grammar::specs::Pure::Reading::next_is, hcl_grammar::specs::Pure::Reading::after_if_next, hcl_grammar::specs::Pure::Reading::expect, hcl_grammar::specs::Tokens::after_next, hcl_grammar::specs::Tokens::same_kind))]
+#[tactic(auto, unfolding(hcl_grammar::specs::Pure::Parser::tail_of, hcl_grammar::specs::Pure::Parser::dot_tail, hcl_grammar::specs::Pure::Reading::next_is, hcl_grammar::specs::Pure::Reading::after_if_next, hcl_grammar::specs::Pure::Reading::expect, hcl_grammar::specs::Tokens::after_next, hcl_grammar::specs::Tokens::same_kind))]
 fn eat_dotted<S: Builder>(builder: &S, reader: &Reader<'_, '_>, at: &mut usize) -> Option<S::Tail>
     ensures taken { IfSome result (λ t.
         spec.tail (S.make builder.now) reader.now at.old ≡ Ok (Some t, at.new)) }

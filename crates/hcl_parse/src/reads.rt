@@ -1,8 +1,9 @@
-//! The parser with either builder, by the parser of hcl_grammar.
+//! The parser with either builder, by the pure parser that makes nodes.
 
+ghost use Rattle.hcl_grammar.specs.Pure.NodeMakers.{nodes};
 ghost use Rattle.hcl_grammar.specs.Pure.Reading.{Reads};
-ghost use Rattle.hcl_parse.specs.Roots as spec;
-ghost use Rattle.hcl_parse.specs.Roots.{Ends, Skips};
+ghost use Rattle.hcl_parse.specs.BodyRules as spec;
+ghost use Rattle.hcl_parse.specs.Roots.{Ends};
 
 use crate::nodes::Nodes;
 use crate::nothing::Nothing;
@@ -17,9 +18,8 @@ use hcl_reader::Reader;
 ///
 /// The first error, reading from left to right; `Memory` if an allocation fails before that.
 pub fn parse(reader: &Reader<'_, '_>, at: &mut u32) -> Result<Tree, TokenFault>
-    ensures { Reads (spec.file reader.now at.old) result at.new }
+    ensures { Reads (spec.file nodes reader.now at.old) result at.new }
 {
-    laws::makes_the_tree();
     bodies::file::<Nodes>(&Nodes, reader, at)
 }
 
@@ -29,9 +29,8 @@ pub fn parse(reader: &Reader<'_, '_>, at: &mut u32) -> Result<Tree, TokenFault>
 ///
 /// The first error, reading from left to right; `Memory` if an allocation fails before that.
 pub fn next_member(reader: &Reader<'_, '_>, at: &mut u32) -> Result<Option<Member>, TokenFault>
-    ensures { Reads (spec.member reader.now at.old) result at.new }
+    ensures { Reads (spec.member nodes reader.now at.old) result at.new }
 {
-    laws::makes_the_tree();
     bodies::member::<Nodes>(&Nodes, reader, at)
 }
 
@@ -41,27 +40,8 @@ pub fn next_member(reader: &Reader<'_, '_>, at: &mut u32) -> Result<Option<Membe
 ///
 /// The first error, reading from left to right. Memory does not run out, since none is taken.
 pub fn check(reader: &Reader<'_, '_>, at: &mut u32) -> Result<(), TokenFault>
-    ensures { Ends (spec.file reader.now at.old) result at.new }
+    ensures { Ends (spec.file nodes reader.now at.old) result at.new }
 {
-    laws::makes_the_tree();
     laws::both_end_alike();
     bodies::file::<Nothing>(&Nothing, reader, at)
-}
-
-/// Takes an attribute or a block, if one comes next, and makes nothing of it. Returns whether one
-/// comes next.
-///
-/// # Errors
-///
-/// The first error, reading from left to right. Memory does not run out, since none is taken.
-pub fn skip_member(reader: &Reader<'_, '_>, at: &mut u32) -> Result<bool, TokenFault>
-    ensures { Skips (spec.member reader.now at.old) result at.new }
-{
-    laws::makes_the_tree();
-    laws::both_end_alike();
-    match bodies::member::<Nothing>(&Nothing, reader, at) {
-        Ok(Some(_member)) => Ok(true),
-        Ok(None) => Ok(false),
-        Err(fault) => Err(fault),
-    }
 }

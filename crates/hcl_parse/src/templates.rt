@@ -18,7 +18,7 @@ use hcl_reader::Reader;
 use hcl_token::Kind;
 
 /// Takes a directive that is one word: `DirectiveOpen word SeqClose`.
-#[tactic(auto, unfolding(hcl_grammar::specs::Pure::Parser::keyword_directive))]
+#[tactic(auto, unfolding(hcl_grammar::specs::Pure::Steps::keyword_directive))]
 fn keyword_directive(reader: &Reader<'_, '_>, word: &[u8], at: &mut u32) -> Result<(), TokenFault>
     ensures { ReadsExactly (tokens.keyword_directive reader.now word.now at.old) result at.new }
 {
@@ -52,7 +52,7 @@ fn eat_directive_open(reader: &Reader<'_, '_>, word: &[u8], at: &mut u32) -> boo
 
 /// Takes `Parts`, in a construct that was opened.
 #[cycle(nest)]
-#[tactic(auto, unfolding(crate::specs::Parser::template))]
+#[tactic(auto, unfolding(hcl_grammar::specs::Pure::Parser::template))]
 pub fn template<S: Builder>(
     builder: &S,
     reader: &Reader<'_, '_>,
@@ -69,7 +69,7 @@ pub fn template<S: Builder>(
 
 /// Takes the rest of an `Interp`, after its opening, which is token `first`.
 #[cycle(nest)]
-#[tactic(auto, unfolding(crate::specs::Parser::interpolation))]
+#[tactic(auto, unfolding(hcl_grammar::specs::Pure::Parser::interpolation))]
 fn interpolation<S: Builder>(
     builder: &S,
     reader: &Reader<'_, '_>,
@@ -85,7 +85,7 @@ fn interpolation<S: Builder>(
 
 /// Takes what follows the parts of an `IfDir`: its `else` with parts, if it has one, and `endif`.
 #[cycle(nest)]
-#[tactic(auto, unfolding(crate::specs::Parser::else_and_endif))]
+#[tactic(auto, unfolding(hcl_grammar::specs::Pure::Parser::else_and_endif))]
 fn else_and_endif<S: Builder>(
     builder: &S,
     reader: &Reader<'_, '_>,
@@ -107,7 +107,7 @@ fn else_and_endif<S: Builder>(
 
 /// Takes the rest of an `IfDir`, after its opening, which is token `first`.
 #[cycle(nest)]
-#[tactic(auto, unfolding(crate::specs::Parser::if_directive, hcl_grammar::specs::Pure::Reading::expect_word))]
+#[tactic(auto, unfolding(hcl_grammar::specs::Pure::Parser::if_directive, hcl_grammar::specs::Pure::Reading::expect_word))]
 fn if_directive<S: Builder>(
     builder: &S,
     reader: &Reader<'_, '_>,
@@ -136,7 +136,7 @@ fn if_directive<S: Builder>(
 
 /// Takes the rest of a `ForDir`, after its opening, which is token `first`.
 #[cycle(nest)]
-#[tactic(auto, unfolding(crate::specs::Parser::for_directive))]
+#[tactic(auto, unfolding(hcl_grammar::specs::Pure::Parser::for_directive))]
 fn for_directive<S: Builder>(
     builder: &S,
     reader: &Reader<'_, '_>,
@@ -157,7 +157,7 @@ fn for_directive<S: Builder>(
 /// Takes an `IfDir` or a `ForDir`, if one comes next.
 #[cycle(nest)]
 #[inline(never)]
-#[tactic(auto, unfolding(crate::specs::Parser::directive))]
+#[tactic(auto, unfolding(hcl_grammar::specs::Pure::Parser::directive))]
 fn directive<S: Builder>(
     builder: &S,
     reader: &Reader<'_, '_>,
@@ -179,7 +179,7 @@ fn directive<S: Builder>(
 /// Takes one of the `Parts`, if one comes next: `QuoteLit | HereLit | Interp | IfDir | ForDir`.
 #[cycle(nest)]
 #[inline(always)]
-#[tactic(auto, unfolding(crate::specs::Parser::part_of, hcl_grammar::specs::Tokens::after_next))]
+#[tactic(auto, unfolding(hcl_grammar::specs::Pure::Parser::part_of, hcl_grammar::specs::Tokens::after_next))]
 fn part<S: Builder>(
     builder: &S,
     reader: &Reader<'_, '_>,

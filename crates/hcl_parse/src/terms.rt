@@ -100,7 +100,7 @@ fn tuple_items<S: Builder>(
 
 /// Takes the rest of a `Tuple`, after its `[`, which is token `first`.
 #[cycle(nest)]
-#[tactic(auto, unfolding(crate::specs::Parser::tuple))]
+#[tactic(auto, unfolding(hcl_grammar::specs::Pure::Parser::tuple))]
 fn tuple<S: Builder>(
     builder: &S,
     reader: &Reader<'_, '_>,
@@ -117,7 +117,7 @@ fn tuple<S: Builder>(
 /// Takes an `Elem`, and adds it to those that were found. Its first token is `next`.
 #[cycle(nest)]
 #[inline(always)]
-#[tactic(auto, unfolding(crate::specs::Parser::element))]
+#[tactic(auto, unfolding(hcl_grammar::specs::Pure::Parser::element))]
 fn element<S: Builder>(
     builder: &S,
     reader: &Reader<'_, '_>,
@@ -142,7 +142,7 @@ fn element<S: Builder>(
 
 /// Takes the `=` or `:` after a key.
 #[inline(always)]
-#[tactic(auto, unfolding(crate::specs::Parser::equals_or_colon))]
+#[tactic(auto, unfolding(hcl_grammar::specs::Pure::Steps::equals_or_colon))]
 fn equals_or_colon(reader: &Reader<'_, '_>, at: &mut u32) -> Result<(), TokenFault>
     ensures { ReadsExactly (spec.equals_or_colon reader.now at.old) result at.new }
 {
@@ -181,7 +181,7 @@ fn elements<S: Builder>(
 
 /// Takes the rest of an `Object`, after its `{`, which is token `first`.
 #[cycle(nest)]
-#[tactic(auto, unfolding(crate::specs::Parser::object))]
+#[tactic(auto, unfolding(hcl_grammar::specs::Pure::Parser::object))]
 fn object<S: Builder>(
     builder: &S,
     reader: &Reader<'_, '_>,
@@ -198,7 +198,7 @@ fn object<S: Builder>(
 
 /// Takes an `Intro`: `"for" Identifier ("," Identifier)? "in" Expr`.
 #[cycle(nest)]
-#[tactic(auto, unfolding(crate::specs::Parser::intro))]
+#[tactic(auto, unfolding(hcl_grammar::specs::Pure::Parser::intro))]
 pub fn intro<S: Builder>(
     builder: &S,
     reader: &Reader<'_, '_>,
@@ -220,7 +220,7 @@ pub fn intro<S: Builder>(
 
 /// Takes the condition of a `For`, if it has one, and the bracket that closes it.
 #[cycle(nest)]
-#[tactic(auto, unfolding(crate::specs::Parser::condition))]
+#[tactic(auto, unfolding(hcl_grammar::specs::Pure::Parser::condition))]
 fn condition<S: Builder>(
     builder: &S,
     reader: &Reader<'_, '_>,
@@ -242,7 +242,7 @@ fn condition<S: Builder>(
 
 /// Takes the rest of a `For` in brackets, after its `[`, which is token `first`.
 #[cycle(nest)]
-#[tactic(auto, unfolding(crate::specs::Parser::for_tuple))]
+#[tactic(auto, unfolding(hcl_grammar::specs::Pure::Parser::for_tuple))]
 fn for_tuple<S: Builder>(
     builder: &S,
     reader: &Reader<'_, '_>,
@@ -262,7 +262,7 @@ fn for_tuple<S: Builder>(
 
 /// Takes the rest of a `For` in braces, after its key.
 #[cycle(nest)]
-#[tactic(auto, unfolding(crate::specs::Parser::for_value))]
+#[tactic(auto, unfolding(hcl_grammar::specs::Pure::Parser::for_value))]
 fn for_value<S: Builder>(
     builder: &S,
     reader: &Reader<'_, '_>,
@@ -284,7 +284,7 @@ fn for_value<S: Builder>(
 
 /// Takes the rest of a `For` in braces, after its `{`, which is token `first`.
 #[cycle(nest)]
-#[tactic(auto, unfolding(crate::specs::Parser::for_object))]
+#[tactic(auto, unfolding(hcl_grammar::specs::Pure::Parser::for_object))]
 fn for_object<S: Builder>(
     builder: &S,
     reader: &Reader<'_, '_>,
@@ -304,7 +304,7 @@ fn for_object<S: Builder>(
 /// Takes the rest of a `Tuple`, or of a `For` in brackets, after its `[`, which is token `first`.
 #[cycle(nest)]
 #[inline(never)]
-#[tactic(auto, unfolding(crate::specs::Parser::tuple_or_for))]
+#[tactic(auto, unfolding(hcl_grammar::specs::Pure::Parser::tuple_or_for))]
 fn tuple_or_for<S: Builder>(
     builder: &S,
     reader: &Reader<'_, '_>,
@@ -325,7 +325,7 @@ fn tuple_or_for<S: Builder>(
 /// Takes the rest of an `Object`, or of a `For` in braces, after its `{`, which is token `first`.
 #[cycle(nest)]
 #[inline(never)]
-#[tactic(auto, unfolding(crate::specs::Parser::object_or_for))]
+#[tactic(auto, unfolding(hcl_grammar::specs::Pure::Parser::object_or_for))]
 fn object_or_for<S: Builder>(
     builder: &S,
     reader: &Reader<'_, '_>,
@@ -347,7 +347,7 @@ fn object_or_for<S: Builder>(
 /// `Interp`.
 #[cycle(nest)]
 #[inline(always)]
-#[tactic(auto, unfolding(crate::specs::Parser::enclosed))]
+#[tactic(auto, unfolding(hcl_grammar::specs::Pure::Parser::enclosed))]
 pub fn enclosed<S: Builder>(
     builder: &S,
     reader: &Reader<'_, '_>,
@@ -367,7 +367,7 @@ pub fn enclosed<S: Builder>(
 /// Takes an `Expr` in parentheses, and the `)`.
 #[cycle(nest)]
 #[inline(always)]
-#[tactic(auto, unfolding(crate::specs::Parser::parens))]
+#[tactic(auto, unfolding(hcl_grammar::specs::Pure::Parser::parens))]
 fn parens<S: Builder>(
     builder: &S,
     reader: &Reader<'_, '_>,
@@ -384,7 +384,7 @@ fn parens<S: Builder>(
 /// Takes the rest of a `Quoted`, after its quote.
 #[cycle(nest)]
 #[inline(never)]
-#[tactic(auto, unfolding(crate::specs::Parser::quoted))]
+#[tactic(auto, unfolding(hcl_grammar::specs::Pure::Parser::quoted))]
 fn quoted<S: Builder>(
     builder: &S,
     reader: &Reader<'_, '_>,
@@ -403,7 +403,7 @@ fn quoted<S: Builder>(
 /// Takes the rest of a `Heredoc`, after its opening.
 #[cycle(nest)]
 #[inline(never)]
-#[tactic(auto, unfolding(crate::specs::Parser::heredoc))]
+#[tactic(auto, unfolding(hcl_grammar::specs::Pure::Parser::heredoc))]
 fn heredoc<S: Builder>(
     builder: &S,
     reader: &Reader<'_, '_>,
@@ -422,7 +422,7 @@ fn heredoc<S: Builder>(
 /// Takes the rest of a `Call`, after the first name of the function.
 #[cycle(nest)]
 #[inline(never)]
-#[tactic(auto, unfolding(crate::specs::Parser::call))]
+#[tactic(auto, unfolding(hcl_grammar::specs::Pure::Parser::call))]
 fn call<S: Builder>(
     builder: &S,
     reader: &Reader<'_, '_>,
@@ -457,7 +457,7 @@ pub fn is_called(reader: &Reader<'_, '_>, next: Option<Kind>, at: u32) -> bool
 /// Takes the rest of a `Call`, after its identifier, if it is one.
 #[cycle(nest)]
 #[inline(always)]
-#[tactic(auto, unfolding(crate::specs::Parser::identifier_or_call))]
+#[tactic(auto, unfolding(hcl_grammar::specs::Pure::Parser::identifier_or_call))]
 fn identifier_or_call<S: Builder>(
     builder: &S,
     reader: &Reader<'_, '_>,
@@ -501,7 +501,7 @@ pub fn term<S: Builder>(
 }
 
 /// Takes the rest of a `Tail`, after its `.`: a name, or `*`.
-#[tactic(auto, unfolding(crate::specs::Parser::dot_tail, hcl_grammar::specs::Pure::Reading::next_is, hcl_grammar::specs::Pure::Reading::after_if_next, hcl_grammar::specs::Pure::Reading::expect, hcl_grammar::specs::Tokens::after_next))]
+#[tactic(auto, unfolding(hcl_grammar::specs::Pure::Parser::dot_tail, hcl_grammar::specs::Pure::Reading::next_is, hcl_grammar::specs::Pure::Reading::after_if_next, hcl_grammar::specs::Pure::Reading::expect, hcl_grammar::specs::Tokens::after_next))]
 fn dot_tail<S: Builder>(
     builder: &S,
     reader: &Reader<'_, '_>,
@@ -528,7 +528,7 @@ fn dot_tail<S: Builder>(
 
 /// Takes the rest of a `Tail`, after its `[`, which is token `first`: `*` or an `Expr`, and `]`.
 #[cycle(nest)]
-#[tactic(auto, unfolding(crate::specs::Parser::bracket_tail))]
+#[tactic(auto, unfolding(hcl_grammar::specs::Pure::Parser::bracket_tail))]
 fn bracket_tail<S: Builder>(
     builder: &S,
     reader: &Reader<'_, '_>,
@@ -550,7 +550,7 @@ fn bracket_tail<S: Builder>(
 
 /// Takes a `Tail`, if one comes next.
 #[cycle(nest)]
-#[tactic(auto, unfolding(crate::specs::Parser::tail_of, hcl_grammar::specs::Tokens::after_next))]
+#[tactic(auto, unfolding(hcl_grammar::specs::Pure::Parser::tail_of, hcl_grammar::specs::Tokens::after_next))]
 fn tail<S: Builder>(
     builder: &S,
     reader: &Reader<'_, '_>,
@@ -578,7 +578,7 @@ fn tail<S: Builder>(
 }
 
 /// Returns whether a `Tail` comes next. The next token is `next`.
-#[tactic(auto, unfolding(crate::specs::Parser::tail_of))]
+#[tactic(auto, unfolding(hcl_grammar::specs::Pure::Parser::tail_of))]
 pub fn has_tail<S: Builder>(
     builder: &S,
     reader: &Reader<'_, '_>,
@@ -621,7 +621,7 @@ pub fn each_tail<S: Builder>(
 /// tail, as one look shows.
 #[cycle(nest)]
 #[inline(always)]
-#[tactic(auto, unfolding(crate::specs::Parser::post_by))]
+#[tactic(auto, unfolding(hcl_grammar::specs::Pure::Parser::post_by))]
 pub fn post<S: Builder>(
     builder: &S,
     reader: &Reader<'_, '_>,
@@ -661,7 +661,7 @@ fn with_tails<S: Builder>(
 /// Takes the tails that come next, at most `turns`, after a term and tails of it.
 #[cycle(nest)]
 #[inline(always)]
-#[tactic(auto, unfolding(crate::specs::Parser::with_tails))]
+#[tactic(auto, unfolding(hcl_grammar::specs::Pure::Parser::with_tails))]
 pub fn more_tails<S: Builder>(
     builder: &S,
     reader: &Reader<'_, '_>,

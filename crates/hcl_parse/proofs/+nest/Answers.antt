@@ -1,7 +1,7 @@
 use Rattle.std.proofs.Common.{◌∙◌, length, refl, sym, rules, arith}
 use Rattle.std.proofs.lemmas.Grind.{common_steps}
 use Rattle.hcl_reader.proofs.Turns.{one_left, none_left}
-use Rattle.hcl_parse.specs.Parser.{deeper, arguments_from, tuple_items_from, elements_from, parts_from, operations_from, tails_from, post_by}
+use Rattle.hcl_grammar.specs.Pure.Parser.{deeper, arguments_from, tuple_items_from, elements_from, parts_from, operations_from, tails_from, post_by}
 use Rattle.hcl_parse.specs.Rules as spec
 use Rattle.hcl_parse.proofs.Ends.{expr_is, operand_is, parts_is, operand_ends, ends_tails}
 use Rattle.hcl_parse.proofs.Turns.{refused}

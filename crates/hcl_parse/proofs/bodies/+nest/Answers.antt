@@ -3,9 +3,9 @@ use Rattle.std.proofs.lemmas.Grind.{common_steps}
 use Rattle.hcl_grammar.specs.Tokens.{Token}
 use Rattle.hcl_reader.proofs.Turns.{one_left, none_left}
 use Rattle.hcl_parse.specs.BodyRules as spec
-use Rattle.hcl_parse.specs.Makers.{Types, Makers}
-use Rattle.hcl_parse.specs.Parser as p
-use Rattle.hcl_parse.specs.Parser.{members_from}
+use Rattle.hcl_grammar.specs.Pure.Makers.{Types, Makers}
+use Rattle.hcl_grammar.specs.Pure.BodyParser as p
+use Rattle.hcl_grammar.specs.Pure.BodyParser.{members_from}
 use Rattle.hcl_parse.proofs.Turns.{refused}
 use Rattle.hcl_parse.proofs.bodies.+nest.Goals as goal
 

@@ -1,7 +1,7 @@
 use Rattle.std.proofs.Common.{rules, arith}
 use Rattle.std.proofs.lemmas.Grind.{common_steps}
 use Rattle.hcl_reader.proofs.Turns.{one_left, none_left}
-use Rattle.hcl_parse.specs.Parser.{labels_from}
+use Rattle.hcl_grammar.specs.Pure.BodyParser.{labels_from}
 use Rattle.hcl_parse.specs.BodyRules as spec
 use Rattle.hcl_parse.proofs.Turns.{gives_refused}
 use Rattle.hcl_parse.proofs.bodies.labels.Goals as goal

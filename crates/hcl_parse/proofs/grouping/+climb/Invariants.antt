@@ -1,6 +1,6 @@
 use Rattle.std.proofs.Common.{◌≡◌, ◌+◌, ◌*◌, suc, [], ◌++◌, length}
 use Rattle.hcl_parse.specs.Chains.{before, after}
-use Rattle.hcl_parse.specs.Nodes as spec
+use Rattle.hcl_grammar.specs.Pure.NodeMakers as spec
 use Rattle.hcl_parse.proofs.grouping.+climb.Given as goal
 
 abbrev pub decreases-climb : goal.decreases-climb

@@ -1,6 +1,6 @@
 use Rattle.std.proofs.Common.{ap, ◌∙◌}
 use Rattle.hcl_grammar.specs.Operators.{levels}
-use Rattle.hcl_parse.specs.Nodes.{group}
+use Rattle.hcl_grammar.specs.Pure.NodeMakers.{group}
 use Rattle.hcl_parse.proofs.Chains.{before_all}
 use Rattle.hcl_parse.proofs.grouping.group.Goals as goal
 

@@ -1,4 +1,4 @@
-use Rattle.hcl_parse.specs.Nodes.{nodes, node_types}
+use Rattle.hcl_grammar.specs.Pure.NodeMakers.{nodes, node_types}
 use Rattle.hcl_parse.specs.Nothing.{nothing, nothing_types}
 use Rattle.hcl_parse.proofs.Anything.{anything, respected}
 use Rattle.hcl_parse.proofs.Fold.{expr, member, file}

@@ -1,7 +1,7 @@
 use Rattle.std.proofs.Common.{◌≡◌, ◌-◌, false, Ok, Some, length, ap, ◌∙◌, rules, arith}
 use Rattle.std.proofs.lemmas.Grind.{common_steps}
 use Rattle.hcl_reader.proofs.Turns.{one_left}
-use Rattle.hcl_parse.specs.Parser.{deeper}
+use Rattle.hcl_grammar.specs.Pure.Parser.{deeper}
 use Rattle.hcl_parse.specs.Rules as spec
 use Rattle.hcl_parse.proofs.Ends.{not_called, with_one_tail}
 use Rattle.hcl_parse.proofs.plain.eat_all_dotted.Goals as goal

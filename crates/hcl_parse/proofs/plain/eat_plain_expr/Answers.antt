@@ -1,5 +1,5 @@
 use Rattle.std.proofs.Common.{Ok, refl, sym, ap, ◌∙◌}
-use Rattle.hcl_parse.specs.Parser.{deeper}
+use Rattle.hcl_grammar.specs.Pure.Parser.{deeper}
 use Rattle.hcl_parse.proofs.Ends.{plain_rest, plain_whole, expr_is}
 use Rattle.hcl_parse.proofs.plain.eat_plain_expr.Goals as goal
 

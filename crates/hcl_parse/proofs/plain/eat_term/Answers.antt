@@ -1,5 +1,5 @@
 use Rattle.std.proofs.Common.{◌≡◌, Ok}
-use Rattle.hcl_parse.specs.Parser.{deeper}
+use Rattle.hcl_grammar.specs.Pure.Parser.{deeper}
 use Rattle.hcl_parse.specs.Rules as spec
 use Rattle.hcl_parse.proofs.Ends.{number_alone, text_alone}
 use Rattle.hcl_parse.proofs.plain.eat_term.Goals as goal

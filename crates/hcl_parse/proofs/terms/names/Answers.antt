@@ -1,7 +1,7 @@
 use Rattle.std.proofs.Common.{rules, arith}
 use Rattle.std.proofs.lemmas.Grind.{common_steps}
 use Rattle.hcl_reader.proofs.Turns.{one_left, none_left}
-use Rattle.hcl_parse.specs.Parser.{names_from}
+use Rattle.hcl_grammar.specs.Pure.Parser.{names_from}
 use Rattle.hcl_parse.specs.Rules as spec
 use Rattle.hcl_parse.proofs.terms.names.Goals as goal
 
