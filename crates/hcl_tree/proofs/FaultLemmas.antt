@@ -10,6 +10,7 @@ use Rattle.hcl_grammar.specs.declared.tree.Tree.{Tree}
 use Rattle.hcl_grammar.specs.Bodies.{IsFile}
 use Rattle.hcl_grammar.specs.Faults as pure
 use Rattle.hcl_grammar.specs.Pure.BodyParser.{file}
+use Rattle.hcl_grammar.specs.Pure.NodeMakers.{nodes}
 use Rattle.hcl_grammar.specs.Pure.Reading.{Reads}
 use Rattle.hcl_grammar.specs.Tokens.{Token}
 use Rattle.hcl_grammar.specs.declared.bounds.TheConstants.{MAX_NESTING}
@@ -23,11 +24,11 @@ use Rattle.hcl_text_laws.specs.Faults.{IsAtToken, IsMemory, IsMemoryOrDeep, to_p
 
 -- what is read by a reader of a text is read of the text's own tokens
 pub its_reading : (ts : List Token) {here : ReaderState} {r q : Result Tree TokenFault} (new : ℕ) → here ≡ record { tokens = ts; skip_newlines = false; depth = MAX_NESTING } → r ≡ q
-    → Reads (file here.tokens here.depth 0) r new → Reads (file ts MAX_NESTING 0) q new
-its_reading ts {here} {r} {q} new e same h = subst (λ (h : ReaderState). Reads (file h.tokens h.depth 0) q new) e (subst (λ (o : Result Tree TokenFault). Reads (file here.tokens here.depth 0) o new) same h)
+    → Reads (file nodes here.tokens here.depth 0) r new → Reads (file nodes ts MAX_NESTING 0) q new
+its_reading ts {here} {r} {q} new e same h = subst (λ (h : ReaderState). Reads (file nodes h.tokens h.depth 0) q new) e (subst (λ (o : Result Tree TokenFault). Reads (file nodes here.tokens here.depth 0) o new) same h)
 
 pub its_answer : (ts : List Token) {here : ReaderState} {r q : Result Tree TokenFault} (new : ℕ) → FileParserIsExact → here ≡ record { tokens = ts; skip_newlines = false; depth = MAX_NESTING } → r ≡ q
-    → Reads (file here.tokens here.depth 0) r new → IsParseResult ts MAX_NESTING q
+    → Reads (file nodes here.tokens here.depth 0) r new → IsParseResult ts MAX_NESTING q
 its_answer ts {q = q} new answers e same h = answers ts MAX_NESTING q new (its_reading ts new e same h)
 
 -- ---- errors by bytes
@@ -58,7 +59,7 @@ module _ (s : TokenizedText) where
   place_by_bytes (Ok t) result tree fault = rw tree tt
   place_by_bytes (Err f) result tree fault = rw fault (at_token s f)
 
-  pub first_by_bytes : (read : Result Tree TokenFault) (result : Result Tree ParseFault) (new : ℕ) → IfOk read (λ t. result ≡ Ok t) → IfErr read (λ f. result ≡ Err (to_parse_fault s f)) → Reads (file (tokens_of s.pairs) MAX_NESTING 0) read new
+  pub first_by_bytes : (read : Result Tree TokenFault) (result : Result Tree ParseFault) (new : ℕ) → IfOk read (λ t. result ≡ Ok t) → IfErr read (λ f. result ≡ Err (to_parse_fault s f)) → Reads (file nodes (tokens_of s.pairs) MAX_NESTING 0) read new
       → IfErr result (λ e. e ≢ byte.Memory → IsFirstError s e)
   first_by_bytes (Ok t) result new tree fault h = rw tree tt
   first_by_bytes (Err f) result new tree fault h = rw fault (λ other. record { fault = f; found = h (λ m. other (ap (to_parse_fault s) m)); is = refl })

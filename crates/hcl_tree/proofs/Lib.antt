@@ -1,2 +1,3 @@
+pub mod CheckResults
 pub mod FaultLemmas
 pub mod Passing

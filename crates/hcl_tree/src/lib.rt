@@ -4,10 +4,12 @@
 //! which texts parse, and to which tree.
 #![tactic(auto)]
 
+mod checker;
 pub mod laws;
 mod parser;
 pub mod reading;
 
+pub use checker::check;
 pub use hcl_grammar::tree::{
     Attribute, BinaryOperator, Block, Body, Call, Content, Elem, Expr, ExprKind, ForDirective,
     ForObject, ForTuple, IfDirective, Intro, Label, Member, Operation, Part, Primary, Tail,

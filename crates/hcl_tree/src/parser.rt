@@ -55,7 +55,7 @@ pub fn parse(alloc: Global, scanned: &Scanned<'_>) -> Result<Tree, ParseFault>
         → MatchResult result (λ x. x ≡ t) IsMemoryOrDeep }
     // The place of an error is where a token begins, or the length of the text.
     ensures place { IfErr result (λ e. IsAtToken scanned.now e) }
-    // Unless memory runs out, the error is the first, which `hcl_check::check` returns too.
+    // Unless memory runs out, the error is the first, which `check` returns too.
     ensures fault { IfErr result (λ e. e ≢ Memory → IsFirstError scanned.now e) }
 {
     hcl_grammar_laws::laws::file_parser_is_exact();

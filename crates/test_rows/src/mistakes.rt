@@ -12,7 +12,7 @@ use std::str::from_utf8;
 pub fn answer(row: &Row, out: &mut Answer) {
     let text = row.text(1);
     match scan(out.alloc, text) {
-        Ok(scanned) => match hcl_check::check(out.alloc, &scanned) {
+        Ok(scanned) => match hcl_tree::check(out.alloc, &scanned) {
             Ok(()) => out.put("parses"),
             Err(fault) => write_said(row, say_parse_fault(out.alloc, text, fault), out),
         },

@@ -33,7 +33,7 @@ pub fn read(row: &Row, text: &[u8], out: &mut Answer) {
 
 /// The parser that makes no tree has the same answer, with the same error at the same byte.
 fn check_says(scanned: &Scanned<'_>, fault: Option<ParseFault>, out: &mut Answer) {
-    let is_said = hcl_check::check(out.alloc, scanned).err() == fault;
+    let is_said = hcl_tree::check(out.alloc, scanned).err() == fault;
     out.hold(is_said, "the check says otherwise");
 }
 

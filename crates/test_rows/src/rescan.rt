@@ -46,7 +46,7 @@ fn again(row: &Row, out: &mut Answer) {
 fn tokenize_again(old: &Scanned<'_>, text: &[u8], piece: ReplacedRange, out: &mut Answer) {
     parsed_tokens_are_apart();
     let _old_text = old.text();
-    match hcl_check::check(out.alloc, old) {
+    match hcl_tree::check(out.alloc, old) {
         Ok(()) => match rescan(out.alloc, Vec::new(out.alloc), text, old, &[piece]) {
             Ok(scanned) => write_each_token(&scanned, out),
             Err(fault) => out.refuse(&fault),

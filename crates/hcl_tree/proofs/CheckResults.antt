@@ -9,9 +9,10 @@ use Rattle.hcl_grammar.specs.Tokens.{Token}
 use Rattle.hcl_grammar_laws.specs.Pure.ParserResults.{FileParserIsExact}
 use Rattle.hcl_grammar.specs.declared.bounds.TheConstants.{MAX_NESTING}
 use Rattle.hcl_grammar.specs.Pure.BodyParser as bodies
+use Rattle.hcl_grammar.specs.Pure.NodeMakers.{nodes}
 use Rattle.hcl_reader.specs.ReaderRules.{ReaderState}
 use Rattle.hcl_parse.specs.Roots.{Ends}
-use Rattle.hcl_check.specs.CheckResult.{IsDeep, IsCheckResult, IsTooDeep}
+use Rattle.hcl_tree.specs.CheckResult.{IsDeep, IsCheckResult, IsTooDeep}
 use Rattle.hcl_grammar_laws.proofs.BodyComplete.{file_answers}
 use Rattle.hcl_grammar_laws.proofs.Steps.{Answers, found, deep}
 use Rattle.hcl_token.specs.TokenizedText.{TokenizedText}
@@ -29,34 +30,34 @@ refused_deep f found e = absurd (cc)
 refused_deep {o = o} f (deep {at} l) e = (l, deep_is at f o refl e)
 
 module _ (ts : List Token) (b : ℕ) (answers : FileParserIsExact) where
-  derived : (r : Result (Unit {0}) TokenFault) (new : ℕ) → Ends (bodies.file ts b 0) r new → OnOk r ((t : Tree) × IsFile ts b t)
+  derived : (r : Result (Unit {0}) TokenFault) (new : ℕ) → Ends (bodies.file nodes ts b 0) r new → OnOk r ((t : Tree) × IsFile ts b t)
   derived (Ok x) new h = (h.0, (answers ts b (Ok h.0) new h.1).derived)
   derived (Err f) new h = tt
 
-  only : (r : Result (Unit {0}) TokenFault) (new : ℕ) → Ends (bodies.file ts b 0) r new → (t : Tree) → IsFile ts b t → r ≡ Ok tt
+  only : (r : Result (Unit {0}) TokenFault) (new : ℕ) → Ends (bodies.file nodes ts b 0) r new → (t : Tree) → IsFile ts b t → r ≡ Ok tt
   only (Ok x) new h t w = refl
   only (Err f) new h t w = absurd (omega (arith, (refused_deep f (file_answers ts b b t w).1 h.0).0))
 
-  deeper : (r : Result (Unit {0}) TokenFault) (new : ℕ) → Ends (bodies.file ts b 0) r new → (d : ℕ) (t : Tree) → IsFile ts d t → IfErr r IsDeep
+  deeper : (r : Result (Unit {0}) TokenFault) (new : ℕ) → Ends (bodies.file nodes ts b 0) r new → (d : ℕ) (t : Tree) → IsFile ts d t → IfErr r IsDeep
   deeper (Ok x) new h d t w = tt
   deeper (Err f) new h d t w = (refused_deep f (file_answers ts b d t w).1 h.0).1
 
-  no_memory : (r : Result (Unit {0}) TokenFault) (new : ℕ) → Ends (bodies.file ts b 0) r new → IfErr r (λ e. e ≢ Memory)
+  no_memory : (r : Result (Unit {0}) TokenFault) (new : ℕ) → Ends (bodies.file nodes ts b 0) r new → IfErr r (λ e. e ≢ Memory)
   no_memory (Ok x) new h = tt
   no_memory (Err f) new h = h.1
 
-  first : (r : Result (Unit {0}) TokenFault) (new : ℕ) → Ends (bodies.file ts b 0) r new → IfErr r (λ e. bodies.file ts b 0 ≡ Err e)
+  first : (r : Result (Unit {0}) TokenFault) (new : ℕ) → Ends (bodies.file nodes ts b 0) r new → IfErr r (λ e. bodies.file nodes ts b 0 ≡ Err e)
   first (Ok x) new h = tt
   first (Err f) new h = h.0
 
-  pub result_of : (r : Result (Unit {0}) TokenFault) (new : ℕ) → Ends (bodies.file ts b 0) r new → IsCheckResult ts b r
+  pub result_of : (r : Result (Unit {0}) TokenFault) (new : ℕ) → Ends (bodies.file nodes ts b 0) r new → IsCheckResult ts b r
   result_of r new h = record { derived = derived r new h; only = only r new h; deeper = deeper r new h; no_memory = no_memory r new h; first = first r new h }
 
 -- what is read by a reader of a text is read of the text's own tokens
 pub own_result : (ts : List Token) {here : ReaderState} {r s : Result (Unit {0}) TokenFault} (new : ℕ) → FileParserIsExact → here ≡ record { tokens = ts; skip_newlines = false; depth = MAX_NESTING } → r ≡ s
-    → Ends (bodies.file here.tokens here.depth 0) r new → IsCheckResult ts MAX_NESTING s
+    → Ends (bodies.file nodes here.tokens here.depth 0) r new → IsCheckResult ts MAX_NESTING s
 own_result ts {here} {r} {s} new answers e same h =
-    result_of ts MAX_NESTING answers s new (subst (λ (h : ReaderState). Ends (bodies.file h.tokens h.depth 0) s new) e (subst (λ (o : Result (Unit {0}) TokenFault). Ends (bodies.file here.tokens here.depth 0) o new) same h))
+    result_of ts MAX_NESTING answers s new (subst (λ (h : ReaderState). Ends (bodies.file nodes h.tokens h.depth 0) s new) e (subst (λ (o : Result (Unit {0}) TokenFault). Ends (bodies.file nodes here.tokens here.depth 0) o new) same h))
 
 pub deep_by_bytes : (s : TokenizedText) (f : TokenFault) → IsDeep f → IsTooDeep (to_parse_fault s f)
 deep_by_bytes s (TooDeep at) h = tt

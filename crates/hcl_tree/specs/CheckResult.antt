@@ -6,6 +6,7 @@ use Rattle.hcl_grammar.specs.declared.fault.TokenFault.TheVariants as token
 use Rattle.hcl_grammar.specs.declared.tree.Tree.{Tree}
 use Rattle.hcl_grammar.specs.Bodies.{IsFile}
 use Rattle.hcl_grammar.specs.Pure.BodyParser.{file}
+use Rattle.hcl_grammar.specs.Pure.NodeMakers.{nodes}
 use Rattle.hcl_grammar.specs.Tokens.{Token}
 use Rattle.hcl_text_laws.specs.declared.fault.ParseFault.{ParseFault}
 use Rattle.hcl_text_laws.specs.declared.fault.ParseFault.TheVariants as fault
@@ -32,4 +33,4 @@ pub record IsCheckResult (ts : List Token) (b : ℕ) (answer : Result (Unit {0})
   -- no memory is taken, so that it does not run out
   pub no_memory : IfErr answer (λ e. e ≢ token.Memory)
   -- the error is that of the grammar's parser
-  pub first : IfErr answer (λ e. file ts b 0 ≡ Err e)
+  pub first : IfErr answer (λ e. file nodes ts b 0 ≡ Err e)
