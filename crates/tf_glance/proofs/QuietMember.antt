@@ -1,15 +1,13 @@
 -- What the parser that makes what is seen says of the member that the other one makes.
 use Rattle.std.proofs.Common.{◌≡◌, ◌≢◌, ℕ, true, false, List, Option, Some, None, Result, Ok, Err, refl, ap, subst}
+use Rattle.hcl_grammar.specs.Pure.BodyParser as g
+use Rattle.hcl_grammar.specs.Pure.NodeMakers.{nodes}
 use Rattle.hcl_grammar.specs.Pure.Reading.{Outcome}
 use Rattle.hcl_grammar.specs.declared.bounds.TheConstants.{MAX_NESTING}
 use Rattle.hcl_grammar.specs.declared.fault.TokenFault.{TokenFault}
 use Rattle.hcl_grammar.specs.declared.fault.TokenFault.TheVariants.{Syntax, TooDeep, Memory}
-use Rattle.hcl_grammar.specs.declared.tree.Member.{Member}
 use Rattle.hcl_parse.proofs.Fold as fold
 use Rattle.hcl_parse.specs.Alike.{Alike, read, fault, InSome}
-use Rattle.hcl_parse.specs.Laws.{MakesTree}
-use Rattle.hcl_parse.specs.Nodes.{nodes}
-use Rattle.hcl_parse.specs.Parser as g
 use Rattle.hcl_parse.specs.Rules.{IsOwn, Yields}
 use Rattle.hcl_reader.specs.ReaderRules.{ReaderState}
 use Rattle.hcl_scan.specs.Follows.{tokens_of}
@@ -52,7 +50,7 @@ module _ {A B : Type 0} (R : A → B → Type 0) where
   failed (read h) f e = absurd (cc)
   failed (fault {e = d} other) f e = let same : d ≡ f = cc in ap (λ (d : TokenFault). Err d) same
 
-module _ (pairs : List Pair) (seen_as : Word) (law : MakesTree) (from : ℕ) where
+module _ (pairs : List Pair) (seen_as : Word) (from : ℕ) where
   -- what is read with what is seen
   abbrev glanced : ReaderState → Outcome (Option Lines)
   glanced t = g.member_of (glance pairs seen_as) t.tokens t.depth (g.deeper_members (glance pairs seen_as) t.tokens t.depth) from
@@ -73,7 +71,7 @@ module _ (pairs : List Pair) (seen_as : Word) (law : MakesTree) (from : ℕ) whe
       let known = s.related (left x.quiet x.complete w) in
       record {
         member = s.value;
-        answer = subst (λ (o : Outcome (Option Member)). o ≡ Ok (Some s.value, past)) (law.member (tokens_of pairs) MAX_NESTING from) s.answer;
+        answer = s.answer;
         at_nodes = λ rules. tree_findings rules (one (member s.value) known.0);
         at_block = known.2 (right x.quiet x.complete w);
       }
@@ -81,4 +79,4 @@ module _ (pairs : List Pair) (seen_as : Word) (law : MakesTree) (from : ℕ) whe
   pub failing : (t : ReaderState) → t ≡ whole → (r : Result (Option Lines) TokenFault) (f : TokenFault) (past : ℕ) → r ≡ Err f → Yields true (glanced t) r past → f ≢ Memory → IsMemberFault pairs from f
   failing t e r f past is h other =
       let err : Yields true (glanced whole) (Err f) past = yields t e r (Err f) past is h in
-      subst (λ (o : Outcome (Option Member)). o ≡ Err f) (law.member (tokens_of pairs) MAX_NESTING from) (failed (MemberOf pairs seen_as) alike f (err (own f other)))
+      failed (MemberOf pairs seen_as) alike f (err (own f other))

@@ -8,7 +8,7 @@ use Rattle.hcl_grammar.specs.declared.tree.Primary.TheVariants as shape
 use Rattle.hcl_grammar.specs.declared.tree.Tail.TheVariants as variant
 use Rattle.hcl_grammar_laws.proofs.Opens.{open_conditional, open_prefixed, open_number, open_identifier, open_object, open_parens, open_name, open_attribute_splat, open_full_splat, open_index}
 use Rattle.hcl_parse.specs.Alike.{Relations, Respects}
-use Rattle.hcl_parse.specs.Nodes.{node_types, nodes}
+use Rattle.hcl_grammar.specs.Pure.NodeMakers.{node_types, nodes}
 use Rattle.hcl_token.specs.Tokens.{Pair}
 use Rattle.tf_glance.proofs.Blocks.{LabelOf, LabelsOf, label, no_labels, labels, blocks}
 use Rattle.tf_glance.proofs.Bodies.{AttributeOf, MemberOf, MembersOf, BodyOf, ContentOf, attributes, attribute_member, no_members, members, body, block_body, line_body}

@@ -3,7 +3,7 @@
 use Rattle.std.specs.Prelude.{ℕ, not, ◌&&◌, ◌||◌, if◌then◌else◌, Bool, true, false, List, [], ◌∷◌}
 use Rattle.std.specs.Prelude.{Option, Some, None, codes, refl}
 use Rattle.std.specs.Str.{bytes_eq}
-use Rattle.hcl_parse.specs.Makers.{Types, Makers}
+use Rattle.hcl_grammar.specs.Pure.Makers.{Types, Makers}
 use Rattle.hcl_token.specs.Tokens.{Pair}
 use Rattle.tf_glance.specs.Seen as seen
 use Rattle.tf_glance.specs.Seen.{is_quiet, is_quiet_option, plain_if, is_quiet_operand}

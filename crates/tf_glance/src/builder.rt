@@ -9,12 +9,12 @@ use crate::seen::{
     Count, Lines, Piece, Pieces, Value, add_one, chain, directive, interpolation, is_quiet_option,
     is_quiet_template_option, joined, no_lines, plain_if, quoted, tuple,
 };
-use crate::word::{Word, is_spelled, name_text, token_text, word_of};
+use crate::word::{Word, word_of};
 use hcl_grammar::tree::{BinaryOperator, UnaryOperator};
 use hcl_parse::Builder;
 use hcl_scan::Scanned;
 use std::alloc::{AllocError, Global};
-use tf_rules::is_snake_case;
+use tf_rules::{is_snake_case, is_spelled, name_text, token_text};
 
 /// Makes what is seen of a member of a text, as one that begins with a word. It takes no memory;
 /// `AllocError` says that a rule may find something, so that no more is read.
@@ -363,7 +363,9 @@ impl<'s, 't> Builder for Glance<'s, 't> {
         value: Self::Expr,
         condition: Option<Self::Expr>,
     ) -> Result<Self::Term, AllocError>
-        ensures made { IfOk result (λ s. s ≡ (glance self.now.scanned.now.pairs self.now.word).for_tuple first past intro value condition) }
+        ensures made { IfOk result
+            (λ s. s ≡ (glance self.now.scanned.now.pairs self.now.word).for_tuple first past intro
+            value condition) }
         ensures memory { IfErr result (λ _. true ≡ true) }
     {
         plain_if(intro && value.is_quiet() && is_quiet_option(condition))
@@ -382,7 +384,8 @@ impl<'s, 't> Builder for Glance<'s, 't> {
         condition: Option<Self::Expr>,
     ) -> Result<Self::Term, AllocError>
         ensures made { IfOk result
-            (λ s. s ≡ (glance self.now.scanned.now.pairs self.now.word).for_object first past intro key value grouped condition) }
+            (λ s. s ≡ (glance self.now.scanned.now.pairs self.now.word).for_object first past intro
+            key value grouped condition) }
         ensures memory { IfErr result (λ _. true ≡ true) }
     {
         plain_if(intro && key.is_quiet() && value.is_quiet() && is_quiet_option(condition))
@@ -458,7 +461,8 @@ impl<'s, 't> Builder for Glance<'s, 't> {
         else_branch: Option<Self::Template>,
     ) -> Result<Self::Part, AllocError>
         ensures made { IfOk result
-            (λ s. s ≡ (glance self.now.scanned.now.pairs self.now.word).if_directive first past condition then_branch else_branch) }
+            (λ s. s ≡ (glance self.now.scanned.now.pairs self.now.word).if_directive first past
+            condition then_branch else_branch) }
         ensures memory { IfErr result (λ _. true ≡ true) }
     {
         directive(
@@ -511,7 +515,8 @@ impl<'s, 't> Builder for Glance<'s, 't> {
         alloc: Global,
         attribute: Option<Self::Attribute>,
     ) -> Result<Self::Content, AllocError>
-        ensures made { IfOk result (λ s. s ≡ (glance self.now.scanned.now.pairs self.now.word).one_line attribute) }
+        ensures made { IfOk result
+            (λ s. s ≡ (glance self.now.scanned.now.pairs self.now.word).one_line attribute) }
         ensures memory { IfErr result (λ _. true ≡ true) }
     {
         match attribute {

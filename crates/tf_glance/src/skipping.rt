@@ -5,11 +5,23 @@ ghost use Rattle.hcl_grammar.specs.declared.fault.TokenFault.TheVariants.{Memory
 ghost use Rattle.tf_glance.specs.QuietMember.{IsQuietMember, IsMemberFault};
 
 use crate::builder::Glance;
-use crate::word::{token_text, word_of};
+use crate::word::{Word, word_of};
 use hcl_grammar::fault::TokenFault;
 use hcl_reader::Reader;
 use hcl_scan::Scanned;
+use hcl_token::Kind;
 use std::alloc::Global;
+use tf_rules::token_text;
+
+/// Returns the word that a block begins with at this token, if it is no attribute. A wrong one costs
+/// time alone.
+fn seen_word(scanned: &Scanned<'_>, n: u32) -> Word {
+    let next = n as usize + 1;
+    if next < scanned.len() && matches!(scanned.kind(next), Kind::Equal) {
+        return Word::Other;
+    }
+    word_of(token_text(scanned, n))
+}
 
 /// Reads the member that comes next, and returns whether there is one in which no rule can find
 /// anything.
@@ -22,10 +34,9 @@ fn is_quiet_member(alloc: Global, scanned: &Scanned<'_>, at: &mut u32) -> Result
     ensures quiet { result ≡ Ok true → IsQuietMember scanned.now.pairs at.old at.new }
     ensures fault { IfErr result (λ e. e ≢ Memory → IsMemberFault scanned.now.pairs at.old e) }
 {
-    hcl_parse::laws::makes_the_tree();
     let glance = Glance {
         scanned,
-        word: word_of(token_text(scanned, *at)),
+        word: seen_word(scanned, *at),
     };
     match hcl_parse::member::<Glance<'_, '_>>(&glance, &Reader::new(alloc, scanned), at) {
         Ok(Some(lines)) => Ok(lines.is_without_findings()),

@@ -1,12 +1,10 @@
 //! Words that blocks begin with, by what the rules on blocks look at.
 
 ghost use Rattle.std.specs.Prelude.{◌≡◌};
-ghost use Rattle.std.specs.Str.{bytes_eq};
 ghost use Rattle.tf_glance.specs.Glance as spec;
-ghost use Rattle.tf_rules.specs.Spelling.{token_text, name_text};
 
 use crate::seen::{Count, Lines};
-use hcl_scan::Scanned;
+use tf_rules::is_spelled;
 
 /// The word that a block begins with.
 #[derive(Clone, Copy)]
@@ -23,36 +21,6 @@ pub enum Word {
     Output,
     /// `locals`, whose attributes have names.
     Locals,
-}
-
-/// Returns the spelling of token `n`, from 0, or no bytes if there is no such token.
-#[inline(always)]
-pub fn token_text<'t>(scanned: &Scanned<'t>, n: u32) -> &'t [u8]
-    ensures { result.now ≡ token_text scanned.now.pairs n }
-{
-    if n >= scanned.count() {
-        return b"";
-    }
-    scanned.spelling(n as usize)
-}
-
-/// Returns the spelling of a name, or no bytes if it has no token, as the label `""` has none.
-#[inline(always)]
-pub fn name_text<'t>(scanned: &Scanned<'t>, name: Option<u32>) -> &'t [u8]
-    ensures { result.now ≡ name_text scanned.now.pairs name }
-{
-    match name {
-        Some(n) => token_text(scanned, n),
-        None => b"",
-    }
-}
-
-/// Whether a spelling is the expected one.
-#[inline(always)]
-pub fn is_spelled(spelling: &[u8], expected: &[u8]) -> bool
-    ensures { result ≡ bytes_eq spelling.now expected.now }
-{
-    spelling == expected
 }
 
 /// Returns the word of this spelling.

@@ -5,6 +5,7 @@ use Rattle.std.proofs.lemmas.Grind.{flat_map-append}
 use Rattle.std.proofs.lemmas.List.Elements.{filter-append}
 use Rattle.std.specs.List.{flat_map}
 use Rattle.hcl_grammar.specs.Pure.BodyParser.{deeper_members, member_of}
+use Rattle.hcl_grammar.specs.Pure.NodeMakers.{nodes}
 use Rattle.hcl_grammar.specs.declared.tree.Member.{Member}
 use Rattle.hcl_grammar.specs.declared.bounds.TheConstants.{MAX_NESTING}
 use Rattle.hcl_scan.specs.Follows.{tokens_of}
@@ -91,7 +92,7 @@ module _ {rules : RuleSet} {pairs : List Pair} where
 
 -- the member that comes next, as the parser answers it
 pub read_as : {rules : RuleSet} {pairs : List Pair} {from past : ℕ} {x : LintedMember} → (next : (x.from ≡ from) × (x.past ≡ past) × IsLintedMember rules pairs x)
-    → member_of (tokens_of pairs) MAX_NESTING (deeper_members (tokens_of pairs) MAX_NESTING) from ≡ Ok (Some next.2.member, past)
+    → member_of nodes (tokens_of pairs) MAX_NESTING (deeper_members nodes (tokens_of pairs) MAX_NESTING) from ≡ Ok (Some next.2.member, past)
 read_as {pairs} {past} next =
-    subst (λ n. member_of (tokens_of pairs) MAX_NESTING (deeper_members (tokens_of pairs) MAX_NESTING) n ≡ Ok (Some next.2.member, past)) next.0
+    subst (λ n. member_of nodes (tokens_of pairs) MAX_NESTING (deeper_members nodes (tokens_of pairs) MAX_NESTING) n ≡ Ok (Some next.2.member, past)) next.0
     (member_answers (tokens_of pairs) next.2.is_member ∙ ap (λ n. Ok (Some next.2.member, n)) next.1)

@@ -8,6 +8,7 @@ use Rattle.hcl_grammar.specs.declared.tree.Member.{Member}
 use Rattle.hcl_grammar.specs.Bodies.{IsLabels, IsOneLineBody}
 use Rattle.hcl_grammar.specs.Pure.BodyParser as bodies
 use Rattle.hcl_grammar.specs.Pure.BodyParser.{deeper_members}
+use Rattle.hcl_grammar.specs.Pure.NodeMakers.{nodes}
 use Rattle.hcl_grammar.specs.Pure.Reading.{expect}
 use Rattle.hcl_grammar.specs.Lookahead.{NextIs, IsNewline, IsEol}
 use Rattle.hcl_grammar.specs.Nodes as node
@@ -26,7 +27,7 @@ module _ (ts : List Token) where
   -- ---- what is answered is derived
 
   attribute_derives : (b i : ℕ) → NextIs ts false k.Identifier i → NextIs ts false k.Equal (after_next ts false i) → (m : Member) (j : ℕ)
-      → bodies.attribute_by ts b (deeper_members ts b) (next_index ts false i) (after_next ts false (after_next ts false i)) ≡ done m j → IsOneMember ts b m i j
+      → bodies.attribute_by nodes ts b (deeper_members nodes ts b) (next_index ts false i) (after_next ts false (after_next ts false i)) ≡ done m j → IsOneMember ts b m i j
   unfolding bodies.attribute_by
   attribute_derives b i h q m j e =
       let w = bind_inv _ _ e in
@@ -41,10 +42,10 @@ module _ (ts : List Token) where
   block_from a i h ls br n e x (inside_line {x = one} {o = to} y) c el = line_block h ls br (subst (λ n. IsOneLineBody ts a one n to) e y) c el
 
   block_derives : (b i : ℕ) → NextIs ts false k.Identifier i → (m : Member) (j : ℕ)
-      → bodies.block_by ts b (deeper_members ts b) (next_index ts false i) (after_next ts false i) ≡ done m j → IsOneMember ts b m i j
+      → bodies.block_by nodes ts b (deeper_members nodes ts b) (next_index ts false i) (after_next ts false i) ≡ done m j → IsOneMember ts b m i j
   unfolding bodies.block_by
   block_derives zero i h m j e =
-      let w = bind_inv (bodies.labels_from ts (length ts) [] (after_next ts false i)) _ e in
+      let w = bind_inv (bodies.labels_from nodes ts (length ts) [] (after_next ts false i)) _ e in
       absurd (shut (expect ts false k.OpenBrace w.at) (TooDeep (next_index ts false w.at)) w.rest)
   block_derives (suc a) i h m j e =
       let w = bind_inv _ _ e in
@@ -57,14 +58,14 @@ module _ (ts : List Token) where
       along (λ m j. IsOneMember ts (suc a) m i j) el.rest (block_from a i h ls br (after_next ts false w.at) refl x.value y c (s_eol ts (after_next ts false x.at) el.is))
 
   named_derives : (b i : ℕ) → NextIs ts false k.Identifier i → (m : Member) (j : ℕ)
-      → bodies.attribute_or_block ts b (deeper_members ts b) (next_index ts false i) (after_next ts false i) ≡ done m j → IsOneMember ts b m i j
+      → bodies.attribute_or_block nodes ts b (deeper_members nodes ts b) (next_index ts false i) (after_next ts false i) ≡ done m j → IsOneMember ts b m i j
   unfolding bodies.attribute_or_block
   named_derives b i h m j e = elim (eat_inv ts false k.Equal (after_next ts false i)) [
     | eaten q s l ↦ attribute_derives b i h q m j (rw (s, l) at e)
     | uneaten s l ↦ block_derives b i h m j (rw (s, l) at e)
   ]
 
-  pub member_derives : (b i : ℕ) (m : Member) (j : ℕ) → bodies.member_of ts b (deeper_members ts b) i ≡ done (Some m) j → IsOneMember ts b m i j
+  pub member_derives : (b i : ℕ) (m : Member) (j : ℕ) → bodies.member_of nodes ts b (deeper_members nodes ts b) i ≡ done (Some m) j → IsOneMember ts b m i j
   unfolding bodies.member_of
   member_derives b i m j e = elim (eat_inv ts false k.Identifier i) [
     | eaten q s l ↦ (let w = bind_inv _ _ (rw (s, l) at e) in some_along (λ m j. IsOneMember ts b m i j) w.rest (named_derives b i q w.value w.at w.is))
@@ -73,12 +74,12 @@ module _ (ts : List Token) where
 
   -- ---- what is derived is answered
 
-  named_answers : {d b : ℕ} {x : Member} {j : ℕ} (i : ℕ) → NextIs ts false k.Identifier i → Answers d b x j (bodies.attribute_or_block ts b (deeper_members ts b) (next_index ts false i) (after_next ts false i))
-      → Answers d b (Some x) j (bodies.member_of ts b (deeper_members ts b) i)
+  named_answers : {d b : ℕ} {x : Member} {j : ℕ} (i : ℕ) → NextIs ts false k.Identifier i → Answers d b x j (bodies.attribute_or_block nodes ts b (deeper_members nodes ts b) (next_index ts false i) (after_next ts false i))
+      → Answers d b (Some x) j (bodies.member_of nodes ts b (deeper_members nodes ts b) i)
   unfolding bodies.member_of
   named_answers i q x = rw (sees-yes ts false k.Identifier i q, if_next-yes ts false k.Identifier i q) (bind _ x found)
 
-  answers : {d : ℕ} {x : Member} {i j : ℕ} → IsOneMember ts d x i j → (b : ℕ) → Answers d b (Some x) j (bodies.member_of ts b (deeper_members ts b) i)
+  answers : {d : ℕ} {x : Member} {i j : ℕ} → IsOneMember ts d x i j → (b : ℕ) → Answers d b (Some x) j (bodies.member_of nodes ts b (deeper_members nodes ts b) i)
   answers (attribute {i} q e x el) b =
       named_answers i q (member_attribute ts (next_index ts false i) (after_next ts false i) e (nested ts false (after_next ts false (after_next ts false i)) b (c_expr ts x (eol_stop ts el) b)) el)
   answers (block {i} {j} {n} {o} h ls br nl bs cl el) b =
@@ -87,5 +88,5 @@ module _ (ts : List Token) where
   answers (line_block {i} h ls br x cl el) b =
       named_answers i h (member_block ts (next_index ts false i) (after_next ts false i) ls br cl el b (λ a. c_on_line ts x cl a))
 
-  pub member_answers : {d : ℕ} {x : Member} {i j : ℕ} → IsOneMember ts d x i j → bodies.member_of ts d (deeper_members ts d) i ≡ done (Some x) j
+  pub member_answers : {d : ℕ} {x : Member} {i j : ℕ} → IsOneMember ts d x i j → bodies.member_of nodes ts d (deeper_members nodes ts d) i ≡ done (Some x) j
   member_answers {d} h = found_at (omega arith) (answers h d)

@@ -4,6 +4,7 @@
 
 ghost use Rattle.std.specs.Prelude.{◌≡◌, ◌≢◌, ◌∷◌, [], ◌++◌, true, List, OnOk, IfOk, IfErr, Err};
 ghost use Rattle.hcl_grammar.specs.Pure.BodyParser as spec;
+ghost use Rattle.hcl_grammar.specs.Pure.NodeMakers.{nodes};
 ghost use Rattle.hcl_grammar.specs.declared.fault.TokenFault.TheVariants as fault;
 ghost use Rattle.hcl_grammar.specs.declared.tree.Member.{Member};
 ghost use Rattle.hcl_grammar.specs.declared.bounds.TheConstants.{MAX_NESTING};
@@ -119,10 +120,10 @@ pub fn lint_body(
     requires { AreLintedMembers search.now.rules search.now.old.now.pairs search.now.old_members.now }
     ensures members_linted { IfOk result
         (λ found. IsBodyRead search.now.rules search.now.scanned.now.pairs
-        (spec.members (tokens_of search.now.scanned.now.pairs) MAX_NESTING at.old) at.new found) }
+        (spec.members nodes (tokens_of search.now.scanned.now.pairs) MAX_NESTING at.old) at.new found) }
     ensures fault { IfErr result
         (λ e. e ≢ fault.Memory
-        → spec.members (tokens_of search.now.scanned.now.pairs) MAX_NESTING at.old ≡ Err e) }
+        → spec.members nodes (tokens_of search.now.scanned.now.pairs) MAX_NESTING at.old ≡ Err e) }
 {
     let reader = Reader::new(alloc, search.scanned);
     let mut found = BodyFindings {

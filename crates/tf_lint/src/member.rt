@@ -3,6 +3,7 @@
 ghost use Rattle.std.specs.Prelude.{◌≡◌, ◌≢◌, ◌+◌, ◌-◌, ◌<◌, ◌^◌, ◌∷◌, [], length, true, false, None, Ok, IfOk};
 ghost use Rattle.std.specs.Prelude.{IfErr, IfSome, Err};
 ghost use Rattle.hcl_grammar.specs.Pure.BodyParser as spec;
+ghost use Rattle.hcl_grammar.specs.Pure.NodeMakers.{nodes};
 ghost use Rattle.hcl_grammar.specs.Tokens as tokens;
 ghost use Rattle.hcl_grammar.specs.declared.fault.TokenFault.TheVariants as fault;
 ghost use Rattle.hcl_grammar.specs.declared.bounds.TheConstants.{MAX_NESTING};
@@ -139,7 +140,7 @@ fn lint_next_member(
     ensures next { IfOk result (λ x. IsNextMember rules scanned.now.pairs at.old x at.new) }
     ensures fault { let ts = tokens_of scanned.now.pairs in
         IfErr result (λ e. e ≢ fault.Memory
-        → spec.member_of ts MAX_NESTING (spec.deeper_members ts MAX_NESTING) at.old
+        → spec.member_of nodes ts MAX_NESTING (spec.deeper_members nodes ts MAX_NESTING) at.old
         ≡ Err e) }
 {
     let from = *at;
@@ -257,7 +258,7 @@ pub fn next_member(
         (λ x. IsNextMember search.now.rules search.now.scanned.now.pairs at.old x at.new) }
     ensures fault { let ts = tokens_of search.now.scanned.now.pairs in
         IfErr result (λ e. e ≢ fault.Memory
-        → spec.member_of ts MAX_NESTING (spec.deeper_members ts MAX_NESTING) at.old
+        → spec.member_of nodes ts MAX_NESTING (spec.deeper_members nodes ts MAX_NESTING) at.old
         ≡ Err e) }
 {
     let Some(x) = reuse_member_at(alloc, search, index, *at)? else {

@@ -6,9 +6,8 @@ ghost use Rattle.tf_fix.specs.ParsedTexts.{IsParseOf};
 ghost use Rattle.tf_lint.specs.ParseFaults.{IsReadFault};
 
 use crate::fault::FixFault;
-use hcl_check::check;
 use hcl_scan::{Scanned, scan};
-use hcl_tree::parse;
+use hcl_tree::{check, parse};
 use std::alloc::Global;
 use tf_fix::Parsed;
 

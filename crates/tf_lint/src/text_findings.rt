@@ -3,6 +3,7 @@
 ghost use Rattle.std.specs.Prelude.{◌≡◌, ◌≢◌, ◌++◌, ℕ, true, List, length, IfOk, IfErr, Ok, Err};
 ghost use Rattle.hcl_grammar.specs.Bodies.{IsFile};
 ghost use Rattle.hcl_grammar.specs.Pure.BodyParser as spec;
+ghost use Rattle.hcl_grammar.specs.Pure.NodeMakers.{nodes};
 ghost use Rattle.hcl_grammar.specs.declared.fault.TokenFault.{TokenFault};
 ghost use Rattle.hcl_grammar.specs.declared.fault.TokenFault.TheVariants as fault;
 ghost use Rattle.hcl_grammar.specs.declared.tree.Member.{Member};
@@ -48,11 +49,11 @@ fn lint_file(
     requires { AreLintedMembers search.now.rules search.now.old.now.pairs search.now.old_members.now }
     ensures found { IfOk result
         (λ found. (t : Tree)
-        × (spec.file (tokens_of search.now.scanned.now.pairs) MAX_NESTING at.old ≡ Ok (t, at.new))
+        × (spec.file nodes (tokens_of search.now.scanned.now.pairs) MAX_NESTING at.old ≡ Ok (t, at.new))
         × AreBodyFindings search.now.rules search.now.scanned.now.pairs t.body.members found) }
     ensures fault { IfErr result
         (λ e. e ≢ fault.Memory
-        → spec.file (tokens_of search.now.scanned.now.pairs) MAX_NESTING at.old ≡ Err e) }
+        → spec.file nodes (tokens_of search.now.scanned.now.pairs) MAX_NESTING at.old ≡ Err e) }
 {
     let reader = Reader::new(alloc, search.scanned);
     let _is_mark = reader.eat(Kind::Mark, at);

@@ -29,4 +29,5 @@ pub use rules::{
     check_term_beyond,
 };
 pub use snake_case::is_snake_case;
+pub use spelling::{is_spelled, name_text, token_text};
 pub use unbroken::Unbroken;

@@ -7,6 +7,7 @@ ghost use Rattle.tf_rules.specs.Spelling.{token_text, name_text};
 use hcl_scan::Scanned;
 
 /// Returns the spelling of token `n`, from 0, or no bytes if there is no such token.
+#[inline(always)]
 pub fn token_text<'t>(scanned: &Scanned<'t>, n: u32) -> &'t [u8]
     ensures { result.now ≡ token_text scanned.now.pairs n }
 {
@@ -17,6 +18,7 @@ pub fn token_text<'t>(scanned: &Scanned<'t>, n: u32) -> &'t [u8]
 }
 
 /// Returns the spelling of a name, or no bytes if it has no token, as the label `""` has none.
+#[inline(always)]
 pub fn name_text<'t>(scanned: &Scanned<'t>, name: Option<u32>) -> &'t [u8]
     ensures { result.now ≡ name_text scanned.now.pairs name }
 {
@@ -27,6 +29,7 @@ pub fn name_text<'t>(scanned: &Scanned<'t>, name: Option<u32>) -> &'t [u8]
 }
 
 /// Whether the spelling of a token is this one, byte for byte.
+#[inline(always)]
 pub fn is_spelled(spelling: &[u8], expected: &[u8]) -> bool
     ensures { result ≡ bytes_eq spelling.now expected.now }
 {

@@ -1,6 +1,7 @@
 -- What is found in the members that a parser reads.
 use Rattle.std.specs.Prelude.{◌≡◌, ℕ, List, Option, Some, None, Ok, map, length}
 use Rattle.hcl_grammar.specs.Pure.BodyParser.{deeper_members, member_of}
+use Rattle.hcl_grammar.specs.Pure.NodeMakers.{nodes}
 use Rattle.hcl_grammar.specs.Pure.Reading.{Outcome}
 use Rattle.hcl_grammar.specs.declared.bounds.TheConstants.{MAX_NESTING}
 use Rattle.hcl_grammar.specs.declared.tree.Member.{Member}
@@ -18,8 +19,8 @@ use Rattle.tf_rules.specs.Rules.{top_level_findings}
 -- the member, or none, that the parser reads from one place up to another, with what is found in it
 abbrev pub IsNextMember : RuleSet → List Pair → ℕ → Option LintedMember → ℕ → Type 0
 IsNextMember rules pairs from None past =
-    member_of (tokens_of pairs) MAX_NESTING (deeper_members (tokens_of pairs) MAX_NESTING)
-    from ≡ Ok (None, past)
+    member_of nodes (tokens_of pairs) MAX_NESTING
+    (deeper_members nodes (tokens_of pairs) MAX_NESTING) from ≡ Ok (None, past)
 IsNextMember rules pairs from (Some x) past =
     (x.from ≡ from) × (x.past ≡ past) × IsLintedMember rules pairs x
 

@@ -4,6 +4,7 @@ use Rattle.std.proofs.lemmas.List.{length-map}
 use Rattle.hcl_token.specs.Tokens.{Pair}
 use Rattle.hcl_reader.proofs.Turns.{one_left, none_left}
 use Rattle.hcl_grammar.specs.Pure.BodyParser.{members}
+use Rattle.hcl_grammar.specs.Pure.NodeMakers.{nodes}
 use Rattle.hcl_grammar.specs.declared.fault.TokenFault.{TokenFault}
 use Rattle.hcl_grammar.specs.declared.fault.TokenFault.TheVariants.{Memory}
 use Rattle.hcl_grammar.specs.declared.bounds.TheConstants.{MAX_NESTING}
@@ -35,7 +36,7 @@ returns-in_err-x-clause-fault c =
     let so_far = c.loop-turn.invariant in
     let n = c.len-turn-end.result - (c.loop-turn._turn + 1) in
     let e = one_left (λ k. left ts MAX_NESTING k so_far.0 c.loop-turn.at) c.loop-turn-test.true so_far.1 in
-    residual c.from_residual.result c.in_err-x.field-0.0 (λ (f : TokenFault). f ≢ Memory → members ts MAX_NESTING c.args.at.now ≡ Err f) c.from_residual.ensures
+    residual c.from_residual.result c.in_err-x.field-0.0 (λ (f : TokenFault). f ≢ Memory → members nodes ts MAX_NESTING c.args.at.now ≡ Err f) c.from_residual.ensures
     (λ other. begins ts MAX_NESTING c.args.at.now ∙ (e ∙ at_fault ts MAX_NESTING n so_far.0 c.loop-turn.at (rw c.new-reader.ensures at c.eat_newline.ensures) c.if-eat_newline.false (c.in_err-x.ensures.fault other)))
 
 pub returns-in_default-clause-members_linted : goal.returns-in_default-clause-members_linted

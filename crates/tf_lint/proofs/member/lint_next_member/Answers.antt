@@ -1,6 +1,7 @@
 -- What the parser returns is derived there.
 use Rattle.std.proofs.Common.{◌≡◌, true, Some, Ok, rules}
 use Rattle.hcl_grammar.specs.Pure.BodyParser.{deeper_members, member_of}
+use Rattle.hcl_grammar.specs.Pure.NodeMakers.{nodes}
 use Rattle.hcl_grammar.specs.declared.bounds.TheConstants.{MAX_NESTING}
 use Rattle.hcl_scan.specs.Follows.{tokens_of}
 use Rattle.tf_lint.proofs.MemberAnswers.{member_derives}
@@ -11,7 +12,7 @@ pub returns-clause-next : goal.returns-clause-next
 returns-clause-next c =
     let ts = tokens_of c.args.scanned.now.pairs in
     let x = c.in-Some.x in
-    let read : member_of ts MAX_NESTING (deeper_members ts MAX_NESTING) c.args.at.now
+    let read : member_of nodes ts MAX_NESTING (deeper_members nodes ts MAX_NESTING) c.args.at.now
     ≡ Ok (Some x, c.member.new.at) = search rules in
     let member_is_derived = member_derives ts MAX_NESTING c.args.at.now x c.member.new.at read in
     let seen = c.in_ok-lint_member.ensures in (

@@ -1,6 +1,7 @@
 use Rattle.std.proofs.Common.{◌≢◌, ◌≡◌, true, Err, subst, sym}
 use Rattle.std.specs.Prelude.{List}
 use Rattle.hcl_grammar.specs.Pure.BodyParser as spec
+use Rattle.hcl_grammar.specs.Pure.NodeMakers.{nodes}
 use Rattle.hcl_grammar.specs.declared.fault.TokenFault.{TokenFault}
 use Rattle.hcl_grammar.specs.declared.fault.TokenFault.TheVariants.{Memory}
 use Rattle.hcl_grammar.specs.declared.tree.Member.{Member}
@@ -16,7 +17,7 @@ returns-in_err-members-clause-fault c =
     let ts = tokens_of c.args.search.now.scanned.now.pairs in
     let i = c.args.at.now in
     let f = c.in_err-members.field-0.0 in
-    residual c.from_residual.result f (λ (e : TokenFault). e ≢ Memory → spec.file ts MAX_NESTING i ≡ Err e) c.from_residual.ensures
+    residual c.from_residual.result f (λ (e : TokenFault). e ≢ Memory → spec.file nodes ts MAX_NESTING i ≡ Err e) c.from_residual.ensures
     (body_refused ts MAX_NESTING i f c.eat-is_mark.new.at (rw c.new-reader.ensures at c.eat-is_mark.ensures.after) c.in_err-members.ensures.fault)
 
 pub returns-in_err-expect_end-clause-fault : goal.returns-in_err-expect_end-clause-fault
@@ -25,7 +26,7 @@ returns-in_err-expect_end-clause-fault c =
     let i = c.args.at.now in
     let f = c.in_err-expect_end.field-0.0 in
     let linted = c.in_ok-members.ensures.members_linted in
-    residual c.from_residual-in_err-expect_end.result f (λ (e : TokenFault). e ≢ Memory → spec.file ts MAX_NESTING i ≡ Err e) c.from_residual-in_err-expect_end.ensures
+    residual c.from_residual-in_err-expect_end.result f (λ (e : TokenFault). e ≢ Memory → spec.file nodes ts MAX_NESTING i ≡ Err e) c.from_residual-in_err-expect_end.ensures
     (λ _. end_refused ts MAX_NESTING i linted.0 f c.eat-is_mark.new.at c.lint_body.new.at c.eat-is_comment.new.at (rw c.new-reader.ensures at c.eat-is_mark.ensures.after) linted.1 (rw c.new-reader.ensures at c.eat-is_comment.ensures.after) (rw c.new-reader.ensures at c.in_err-expect_end.ensures))
 
 pub returns-clause-found : goal.returns-clause-found

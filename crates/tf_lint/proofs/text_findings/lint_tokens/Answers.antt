@@ -1,6 +1,7 @@
 use Rattle.std.proofs.Common.{◌≡◌, ◌≢◌, ℕ, List, Result, Ok, Err, sym, subst}
 use Rattle.std.specs.Prelude.{IfOk, IfErr}
 use Rattle.hcl_grammar.specs.Pure.BodyParser as spec
+use Rattle.hcl_grammar.specs.Pure.NodeMakers.{nodes}
 use Rattle.hcl_grammar.specs.declared.bounds.TheConstants.{MAX_NESTING}
 use Rattle.hcl_grammar.specs.declared.fault.TokenFault.{TokenFault}
 use Rattle.hcl_grammar.specs.declared.fault.TokenFault.TheVariants as token
@@ -23,7 +24,7 @@ use Rattle.tf_lint.proofs.text_findings.lint_tokens.Goals as goal
 -- the file is read up to a place, and this is found in its members
 abbrev IsRead : RuleSet → List Pair → ℕ → BodyFindings → Type 0
 IsRead rules pairs new found =
-    (t : Tree) × (spec.file (tokens_of pairs) MAX_NESTING 0 ≡ Ok (t, new)) × AreBodyFindings rules pairs t.body.members found
+    (t : Tree) × (spec.file nodes (tokens_of pairs) MAX_NESTING 0 ≡ Ok (t, new)) × AreBodyFindings rules pairs t.body.members found
 
 was_read : (rules : RuleSet) (pairs : List Pair) (new : ℕ) (outcome : Result BodyFindings TokenFault) (found : BodyFindings) → outcome ≡ Ok found → IfOk outcome (IsRead rules pairs new)
     → IsRead rules pairs new found
@@ -61,7 +62,7 @@ returns-in_err-read-clause-only c = λ t p.
     let ts = tokens_of s.pairs in
     let own = own_tokens s t p (c.one_tokenization.ensures _ _ _ _ _ c.len-count.ensures.tokenization p.tokenization).0 in
     residual c.from_residual.result c.in_err-read.field-0.0 IsMemory c.from_residual.ensures
-    (by_byte s (λ e. e ≢ token.Memory → spec.file ts MAX_NESTING 0 ≡ Err e) IsMemory
+    (by_byte s (λ e. e ≢ token.Memory → spec.file nodes ts MAX_NESTING 0 ≡ Err e) IsMemory
     (λ why h. memory_to_parse_fault s why ((c.file_parser_is_exact.ensures ts MAX_NESTING (Err why) c.lint_file-outcome.new.at h).only t own))
     c.lint_file-outcome.result c.in_err-read.field-0.0 c.in_err-read.ensures.fault c.lint_file-outcome.ensures.fault)
 
@@ -70,6 +71,6 @@ returns-in_err-read-clause-too_deep c = λ d t w.
     let s = c.args.search.now.scanned.now in
     let ts = tokens_of s.pairs in
     residual c.from_residual.result c.in_err-read.field-0.0 IsMemoryOrDeep c.from_residual.ensures
-    (by_byte s (λ e. e ≢ token.Memory → spec.file ts MAX_NESTING 0 ≡ Err e) IsMemoryOrDeep
+    (by_byte s (λ e. e ≢ token.Memory → spec.file nodes ts MAX_NESTING 0 ≡ Err e) IsMemoryOrDeep
     (λ why h. deep_to_parse_fault s why ((c.file_parser_is_exact.ensures ts MAX_NESTING (Err why) c.lint_file-outcome.new.at h).deeper d t w))
     c.lint_file-outcome.result c.in_err-read.field-0.0 c.in_err-read.ensures.fault c.lint_file-outcome.ensures.fault)
