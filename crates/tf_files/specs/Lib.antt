@@ -1,6 +1,8 @@
+pub mod Causes
 pub mod Common
 pub mod Handles
 pub mod Paths
+pub mod Replies
 pub mod Reading
 pub mod Snapshots
 pub mod Ends

@@ -1,7 +1,10 @@
 //! Makes the system calls that save one of the two files, and returns the replies to them.
 
-ghost use Rattle.std.specs.Prelude.{◌≡◌, string_bytes};
+ghost use Rattle.std.specs.IoError.{raw_os_error};
+ghost use Rattle.std.specs.Prelude.{◌≡◌, string_bytes, Some};
+ghost use Rattle.tf_files.specs.Causes.{refused_with, unlike, with_cause};
 ghost use Rattle.tf_files.specs.Paths.{text_folder, journal_folder};
+ghost use Rattle.tf_files.specs.Replies.{reply_to};
 
 use crate::adoption::can_adopt;
 use crate::cause::{Cause, Reason, Subject};
@@ -73,6 +76,10 @@ impl<'a> PartFile<'a> {
         ensures paths { result.paths.now ≡ paths.now }
         ensures bytes { result.bytes.now ≡ bytes.now }
         ensures read { result.read ≡ read }
+        ensures new_file { result.new_file ≡ new_file }
+        ensures sent { result.sent ≡ 0 }
+        ensures subject { result.subject ≡ Subject.File }
+        ensures starts_early { result.starts_early ≡ starts_early }
     {
         PartFile {
             folder: paths.text_folder(),
@@ -104,6 +111,10 @@ impl<'a> PartFile<'a> {
         ensures paths { result.paths.now ≡ paths.now }
         ensures bytes { result.bytes.now ≡ bytes.now }
         ensures read { result.read ≡ read }
+        ensures new_file { result.new_file ≡ new_file }
+        ensures sent { result.sent ≡ 0 }
+        ensures subject { result.subject ≡ Subject.Journal }
+        ensures starts_early { result.starts_early ≡ starts_early }
     {
         PartFile {
             folder: paths.journal_folder(),
@@ -134,13 +145,19 @@ impl PartFile<'_> {
     }
 
     /// Notes why a call failed.
-    pub fn note(&mut self, error: &io::Error) {
+    pub fn note(&mut self, error: &io::Error)
+        ensures { self.exit.now ≡ with_cause self.entry.now
+            (refused_with self.entry.now.subject (raw_os_error error.now)) }
+    {
         self.cause = Cause::after(self.subject, error);
     }
 
     /// Notes that another program has changed a file. Nothing of what was written is then to be
     /// reported.
-    pub fn note_change(&mut self, subject: Subject) {
+    pub fn note_change(&mut self, subject: Subject)
+        ensures { self.exit.now ≡ unlike self.entry.now
+            (Some (record { subject = subject; reason = Reason.Changed })) }
+    {
         self.note_unlike(Some(Cause {
             subject,
             reason: Reason::Changed,
@@ -149,13 +166,17 @@ impl PartFile<'_> {
 
     /// Notes why a file is not known to be as it was. Nothing of what was written is then to be
     /// reported.
-    pub fn note_unlike(&mut self, cause: Option<Cause>) {
+    pub fn note_unlike(&mut self, cause: Option<Cause>)
+        ensures { self.exit.now ≡ unlike self.entry.now cause }
+    {
         self.sent = 0;
         self.cause = cause;
     }
 
     /// Returns which file the part's own one is.
-    pub fn own_subject(&self) -> Subject {
+    pub fn own_subject(&self) -> Subject
+        ensures { result ≡ self.now.subject }
+    {
         self.subject
     }
 
@@ -193,7 +214,9 @@ pub fn make<R: SystemFiles>(
 }
 
 /// Returns the reply to a call by what the system answered.
-pub fn reply_to<T: Drop>(answer: io::Result<T>) -> Reply {
+pub fn reply_to<T: Drop>(answer: io::Result<T>) -> Reply
+    ensures { result ≡ reply_to answer }
+{
     match answer {
         Ok(_) => Reply::Done,
         Err(error) if is_not_found(&error) => Reply::NotFound,

@@ -1,6 +1,8 @@
 //! Why a file can't be read or written, beside the error that says which of both.
 
-ghost use Rattle.std.specs.Prelude.{◌≡◌, true};
+ghost use Rattle.std.specs.IoError.{raw_os_error};
+ghost use Rattle.std.specs.Prelude.{◌≡◌, true, Some};
+ghost use Rattle.tf_files.specs.Causes.{over_limit, refused_with, with_subject};
 ghost use Rattle.tf_files.specs.Opening.{is_file_fault};
 
 use hcl_scan::MAX_TEXT;
@@ -65,7 +67,8 @@ pub struct Trouble {
 impl Trouble {
     /// Returns the error of a file that can't be read.
     pub fn unread(subject: Subject, reason: Reason) -> Trouble
-        ensures { result.fault ≡ RunFault.Read }
+        ensures fault { result.fault ≡ RunFault.Read }
+        ensures cause { result.cause ≡ Some (record { subject = subject; reason = reason }) }
     {
         Trouble {
             fault: RunFault::Read,
@@ -75,7 +78,8 @@ impl Trouble {
 
     /// Returns the error of a file that can't be read after a call that failed so.
     pub fn unread_after(subject: Subject, error: &io::Error) -> Trouble
-        ensures { result.fault ≡ RunFault.Read }
+        ensures fault { result.fault ≡ RunFault.Read }
+        ensures cause { result.cause ≡ refused_with subject (raw_os_error error.now) }
     {
         Trouble {
             fault: RunFault::Read,
@@ -87,14 +91,16 @@ impl Trouble {
 impl Trouble {
     /// Returns the error of a text that was not read whole.
     pub fn of_text(fault: RunFault) -> Trouble
-        ensures { result.fault ≡ fault }
+        ensures fault { result.fault ≡ fault }
+        ensures cause { result.cause ≡ over_limit fault Subject.File MAX_TEXT }
     {
         Trouble::unless_within(fault, Subject::File, MAX_TEXT)
     }
 
     /// Returns the error of a journal that was not read whole.
     pub fn of_journal(fault: RunFault) -> Trouble
-        ensures { result.fault ≡ fault }
+        ensures fault { result.fault ≡ fault }
+        ensures cause { result.cause ≡ over_limit fault Subject.Journal MAX_JOURNAL }
     {
         Trouble::unless_within(fault, Subject::Journal, MAX_JOURNAL)
     }
@@ -102,7 +108,8 @@ impl Trouble {
     /// Returns the error of a file that was not read whole, which is `Endless` if it has more bytes
     /// than this.
     fn unless_within(fault: RunFault, subject: Subject, limit: usize) -> Trouble
-        ensures { result.fault ≡ fault }
+        ensures fault { result.fault ≡ fault }
+        ensures cause { result.cause ≡ over_limit fault subject limit }
     {
         let cause = match fault {
             RunFault::Endless => Some(Cause {
@@ -118,7 +125,8 @@ impl Trouble {
 impl Trouble {
     /// Returns this error, of another file.
     pub fn of_subject(self, subject: Subject) -> Trouble
-        ensures { result.fault ≡ self.fault }
+        ensures fault { result.fault ≡ self.fault }
+        ensures cause { result.cause ≡ with_subject subject self.cause }
     {
         let cause = match self.cause {
             Some(Cause { reason, .. }) => Some(Cause { subject, reason }),
@@ -174,7 +182,9 @@ impl Cause {
     }
 
     /// Returns the cause of a call that failed with this error; none if it isn't the system's.
-    pub fn after(subject: Subject, error: &io::Error) -> Option<Cause> {
+    pub fn after(subject: Subject, error: &io::Error) -> Option<Cause>
+        ensures { result ≡ refused_with subject (raw_os_error error.now) }
+    {
         match error.raw_os_error() {
             Some(number) => Some(Cause {
                 subject,

@@ -1,6 +1,7 @@
 //! One part of what is saved: the text of a file, or its journal.
 
 ghost use Rattle.std.specs.Prelude.{◌≡◌};
+ghost use Rattle.tf_files.specs.Causes.{subject_of};
 ghost use Rattle.tf_files.specs.Ends.{session_part};
 
 use crate::cause::{Cause, Subject, Trouble};
@@ -18,7 +19,8 @@ pub fn write_fault(part: SessionPart, sent: usize) -> RunFault
 
 /// Returns the error that a part was not written whole, and why.
 pub fn unwritten_part(part: SessionPart, sent: usize, cause: Option<Cause>) -> Trouble
-    ensures { result.fault ≡ RunFault.Write part sent }
+    ensures fault { result.fault ≡ RunFault.Write part sent }
+    ensures cause { result.cause ≡ cause }
 {
     Trouble {
         fault: RunFault::Write { part, sent },
@@ -84,7 +86,9 @@ pub fn write_part(part: SessionPart, bytes: &[u8], file: &mut File) -> Result<()
 }
 
 /// Returns which file a part is.
-pub fn subject_of(part: SessionPart) -> Subject {
+pub fn subject_of(part: SessionPart) -> Subject
+    ensures { result ≡ subject_of part }
+{
     match part {
         SessionPart::Text => Subject::File,
         SessionPart::Journal => Subject::Journal,

@@ -137,12 +137,16 @@ impl FilePaths {
     }
 
     /// Returns what had the path of the text when its folder was opened.
-    pub fn found_text(&self) -> &Look {
+    pub fn found_text(&self) -> &Look
+        ensures { result.now ≡ self.now.places.found_text }
+    {
         &self.places.found_text
     }
 
     /// Returns what had the path of the journal when its folder was opened.
-    pub fn found_journal(&self) -> &Look {
+    pub fn found_journal(&self) -> &Look
+        ensures { result.now ≡ self.now.places.found_journal }
+    {
         &self.places.found_journal
     }
 

@@ -80,7 +80,9 @@ impl Folder {
     }
 
     /// Returns the first part of the paths of files in this folder.
-    pub fn prefix(&self) -> &str {
+    pub fn prefix(&self) -> &str
+        ensures { result.now ≡ string_bytes self.now.prefix }
+    {
         self.prefix.as_str()
     }
 

@@ -1,6 +1,7 @@
 //! Whether two files, with their journals, have anything in common.
 
-ghost use Rattle.std.specs.Prelude.{◌≡◌, ◌↔◌, true};
+ghost use Rattle.std.specs.Fs.{file_type, IsFile};
+ghost use Rattle.std.specs.Prelude.{◌≡◌, ◌↔◌, true, is_some};
 ghost use Rattle.tf_files.specs.Common.{IsFileOf, IsSomeFileOf, HaveCommon, files_read};
 
 use crate::file_paths::FilePaths;
@@ -117,6 +118,8 @@ impl FoundFiles {
 }
 
 /// Returns the id of a file of which this was found, if it is a regular one.
-fn regular_file(found: &Metadata) -> Option<FileId> {
+fn regular_file(found: &Metadata) -> Option<FileId>
+    ensures { is_some result ≡ true ↔ IsFile (file_type found.now) }
+{
     found.is_file().then_some(FileId::of(found))
 }

@@ -1,7 +1,8 @@
 //! What an interrupted command has left beside a file, and which files there are taken for a
 //! journal or a new file.
 
-ghost use Rattle.std.specs.Prelude.{◌≡◌, ◌↔◌, ℕ, Option, true, is_none, IfErr};
+ghost use Rattle.std.specs.Prelude.{◌≡◌, ◌↔◌, ◌&&◌, ℕ, Option, None, true, is_none, is_some, IfErr};
+ghost use Rattle.std.specs.Prelude.{if◌then◌else◌};
 ghost use Rattle.std.specs.Fs.{file_type, metadata_mode, IsFile};
 ghost use Rattle.tf_files.specs.Opening.{is_file_fault};
 ghost use Rattle.tf_files.specs.Trust.{is_trusted};
@@ -57,13 +58,17 @@ impl Leftovers {
     }
 
     /// Returns whether there are none.
-    pub fn are_none(&self) -> bool {
+    pub fn are_none(&self) -> bool
+        ensures { result ≡ (is_none self.now.new_text && is_none self.now.new_journal) }
+    {
         self.new_text.is_none() && self.new_journal.is_none()
     }
 
     /// Returns the new journal if it is there alone: a command was interrupted after it had replaced
     /// the text.
-    pub fn lone_journal(&self) -> Option<Found> {
+    pub fn lone_journal(&self) -> Option<Found>
+        ensures { result ≡ (if is_some self.now.new_text then None else self.now.new_journal) }
+    {
         match self.new_text {
             Some(_) => None,
             None => self.new_journal,

@@ -1,7 +1,9 @@
 //! What has a path.
 
+ghost use Rattle.std.specs.IoError.{error_kind};
 ghost use Rattle.std.specs.Prelude.{◌≡◌, true, IfErr};
 ghost use Rattle.tf_files.specs.Opening.{is_file_fault};
+ghost use Rattle.tf_files.specs.Replies.{shows_none};
 
 use crate::cause::{Subject, Trouble};
 use crate::folder::SystemFiles;
@@ -54,7 +56,9 @@ pub fn look_for<R: SystemFiles>(rt: &R, path: &str) -> Result<Option<Metadata>, 
 
 /// Returns whether a call that failed with this error shows that no file has its name; none has a
 /// name that is too long for the system.
-pub fn is_not_found(error: &io::Error) -> bool {
+pub fn is_not_found(error: &io::Error) -> bool
+    ensures { result ≡ shows_none (error_kind error.now) }
+{
     matches!(
         error.kind(),
         ErrorKind::NotFound | ErrorKind::InvalidFilename

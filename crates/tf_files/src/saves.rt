@@ -1,6 +1,7 @@
 //! Follows the saves of many files: each up to its next wait for the disk, then all waits in a row.
 
 ghost use Rattle.std.specs.Prelude.{◌≡◌, true, IfErr};
+ghost use Rattle.tf_files.specs.Causes.{first_known};
 ghost use Rattle.tf_files.specs.Ends.{result_of_end, part_fault, unknown_fault};
 ghost use Rattle.tf_files.specs.Ends.{attempt_of, ended_attempt, failed_attempt};
 ghost use Rattle.tf_files.specs.Opening.{is_file_fault};
@@ -129,6 +130,8 @@ impl<'a> Save<'a> {
         ensures journal { result.journal.bytes.now ≡ contents.entry.journal.now }
         ensures journal_paths { result.journal.paths.now ≡ paths.now }
         ensures journal_read { result.journal.read ≡ read }
+        ensures text_early { result.text.starts_early ≡ is_in_company }
+        ensures journal_early { result.journal.starts_early ≡ is_in_company }
     {
         let new_file = NewFile::NotCreated;
         let text = PartFile::text(paths, contents.text, read, new_file, is_in_company);
@@ -142,7 +145,9 @@ impl<'a> Save<'a> {
     }
 
     /// Returns why a call failed, if it is known.
-    pub fn cause(&self) -> Option<Cause> {
+    pub fn cause(&self) -> Option<Cause>
+        ensures { result ≡ first_known self.now.text.cause self.now.journal.cause }
+    {
         match self.text.cause {
             Some(cause) => Some(cause),
             None => self.journal.cause,

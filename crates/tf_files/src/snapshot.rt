@@ -1,5 +1,6 @@
 //! Whether a file or its journal has changed.
-ghost use Rattle.std.specs.Prelude.{◌≡◌, is_some, is_none};
+ghost use Rattle.std.specs.Fs.{file_type, IsFile};
+ghost use Rattle.std.specs.Prelude.{◌≡◌, ◌↔◌, true, is_some, is_none};
 ghost use Rattle.tf_files.specs.Common.{regular_id};
 ghost use Rattle.tf_files.specs.Snapshots.{access_of, snapshots_of, snapshots_of_text};
 
@@ -32,7 +33,9 @@ pub struct Snapshot {
 
 impl Snapshot {
     /// Returns the snapshot of a file of which this was found.
-    pub fn of_found(found: &Metadata) -> Snapshot {
+    pub fn of_found(found: &Metadata) -> Snapshot
+        ensures { is_some result.regular ≡ true ↔ IsFile (file_type found.now) }
+    {
         Snapshot {
             id: FileId::of(found),
             regular: found.is_file().then_some(FileState::of(found)),

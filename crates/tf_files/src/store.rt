@@ -1,6 +1,6 @@
 //! What a command needs of files and their journals: to find them by name, to read and to save them.
 
-ghost use Rattle.std.specs.Prelude.{◌≡◌, Option, false, IfOk, IfErr, OnErr, map};
+ghost use Rattle.std.specs.Prelude.{◌≡◌, ◌+◌, ◌-◌, ◌^◌, Option, false, IfOk, IfErr, OnErr, length, map, min};
 ghost use Rattle.tf_files.specs.Stores.{Files, Spot, IsSpotOf, IfKnown, AreApart, HasContentsAt, HasContents};
 ghost use Rattle.tf_files.specs.Stores.{HasTextOf, MayFail, MayFailAt, Saves, SavesEach, IsSaveResult};
 ghost use Rattle.tf_files.specs.Stores.{contents_to_save, contents_read};
@@ -25,7 +25,10 @@ pub struct ChangedFile<P> {
 
 impl<P> ChangedFile<P> {
     /// Returns how many bytes it holds.
-    pub fn size(&self) -> usize {
+    pub fn size(&self) -> usize
+        ensures { result ≡ min (length self.now.text.items + length self.now.journal.items)
+            (2 ^ 64 - 1) }
+    {
         self.text.len().saturating_add(self.journal.len())
     }
 }
