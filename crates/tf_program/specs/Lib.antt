@@ -1,3 +1,4 @@
+pub mod Hints
 pub mod Lines
 pub mod Location
 pub mod Printing

@@ -1,6 +1,8 @@
 //! Why the work on a file failed, and the lines that say so.
 
-ghost use Rattle.std.specs.Prelude.{◌≡◌, ◌⊎◌, ℕ, List, [], IfSome, None, IfOk, OnOk, OnErr, string_bytes, codes};
+ghost use Rattle.std.specs.Prelude.{◌≡◌, ◌⊎◌, ℕ, List, [], IfSome, None, IfOk, OnOk, OnErr, length};
+ghost use Rattle.std.specs.Prelude.{string_bytes, codes};
+ghost use Rattle.tf_program.specs.Hints.{hint_of, hint_of_answer, said_if};
 ghost use Rattle.tf_program.specs.Location.{byte_of, IsLocation, IsLocationOf, IsLocatedIn, IsSaidAt};
 ghost use Rattle.tf_program.specs.Printing.{channel_of, PrintsAll, PrintsPart, Prints, PrintsError};
 ghost use Rattle.tf_program.specs.Printing.{IsErrorText, IsShortErrorText, IsSecondLine};
@@ -98,6 +100,8 @@ impl FileError {
         ensures location { IsLocationOf text.now (byte_of fault) result.location }
         ensures explained { IfSome result.explained
             (λ explained. IsSaidAt text.now fault explained.location) }
+        ensures cause { result.cause ≡ None }
+        ensures hint { result.hint ≡ hint }
     {
         let location = location_in(&fault, text);
         let explained = explain_in(alloc, &fault, text);
@@ -121,6 +125,8 @@ impl FileError {
     ) -> FileError
         ensures fault { result.fault ≡ fault }
         ensures location { IsLocatedIn text.now locate result }
+        ensures cause { result.cause ≡ None }
+        ensures hint { result.hint ≡ said_if locate (hint_of command fault (length text.now)) }
     {
         if locate {
             let hint = hint_of(command, &fault, text.len());
@@ -134,6 +140,9 @@ impl FileError {
     pub fn unlocated(fault: RunFault, hint: Option<Hint>, locate: bool) -> FileError
         ensures fault { result.fault ≡ fault }
         ensures location { result.location ≡ None }
+        ensures explained { result.explained ≡ None }
+        ensures cause { result.cause ≡ None }
+        ensures hint { result.hint ≡ said_if locate hint }
     {
         FileError {
             fault,
@@ -148,6 +157,8 @@ impl FileError {
     pub fn of_text(alloc: Global, fault: RunFault, text: &[u8], locate: bool) -> FileError
         ensures fault { result.fault ≡ fault }
         ensures location { IsLocatedIn text.now locate result }
+        ensures cause { result.cause ≡ None }
+        ensures hint { result.hint ≡ said_if locate (hint_of_answer fault) }
     {
         if locate {
             let hint = hint_of_answer(&fault);

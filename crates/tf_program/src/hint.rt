@@ -1,5 +1,8 @@
 //! What an error of a command on a journal or of standard output means, and what to do.
 
+ghost use Rattle.std.specs.Prelude.{◌≡◌};
+ghost use Rattle.tf_program.specs.Hints.{hint_of, hint_of_answer, hint_of_refused, hint_of_unread};
+
 use std::fmt;
 use tf_session::{Command, Refused, RunFault};
 
@@ -31,7 +34,9 @@ pub enum Hint {
 }
 
 /// Returns what is said of an error of a command on a file with `len` bytes.
-pub fn hint_of(command: Command, fault: &RunFault, len: usize) -> Option<Hint> {
+pub fn hint_of(command: Command, fault: &RunFault, len: usize) -> Option<Hint>
+    ensures { result ≡ hint_of command fault.now len }
+{
     match fault {
         RunFault::Refused(refused) => hint_of_refused(command, refused, len),
         RunFault::NoRecord => Some(match command {
@@ -44,7 +49,9 @@ pub fn hint_of(command: Command, fault: &RunFault, len: usize) -> Option<Hint> {
 }
 
 /// Returns what is said of an error that is met before any command is done.
-pub fn hint_of_unread(fault: &RunFault) -> Option<Hint> {
+pub fn hint_of_unread(fault: &RunFault) -> Option<Hint>
+    ensures { result ≡ hint_of_unread fault.now }
+{
     match fault {
         RunFault::BadJournal(_) => Some(Hint::NotDecoded),
         _ => None,
@@ -52,7 +59,9 @@ pub fn hint_of_unread(fault: &RunFault) -> Option<Hint> {
 }
 
 /// Returns what is said of an error of an action that changes no file, on a text.
-pub fn hint_of_answer(fault: &RunFault) -> Option<Hint> {
+pub fn hint_of_answer(fault: &RunFault) -> Option<Hint>
+    ensures { result ≡ hint_of_answer fault.now }
+{
     match fault {
         RunFault::Write { .. } => Some(Hint::NotPrinted),
         _ => None,
@@ -61,7 +70,9 @@ pub fn hint_of_answer(fault: &RunFault) -> Option<Hint> {
 
 /// Returns what is said of a record that does not fit. A plain revert compares the file with the
 /// last record; a take compares records with each other before.
-fn hint_of_refused(command: Command, refused: &Refused, len: usize) -> Option<Hint> {
+fn hint_of_refused(command: Command, refused: &Refused, len: usize) -> Option<Hint>
+    ensures { result ≡ hint_of_refused command refused.now len }
+{
     match refused {
         Refused::Length { expected, found } => Some(match command {
             Command::Take(_) if *found == len => Hint::ChangedSomewhere,

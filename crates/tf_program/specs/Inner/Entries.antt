@@ -1,5 +1,5 @@
 -- What a batch holds of files whose commands are done and not reported yet.
-use Rattle.std.specs.Prelude.{◌≡◌, ◌⊎◌, ◌+◌, ◌<◌, ℕ, Bool, List, [], ◌∷◌, ◌++◌, map}
+use Rattle.std.specs.Prelude.{◌≡◌, ◌⊎◌, ◌+◌, ◌<◌, ℕ, Bool, List, [], ◌∷◌, ◌++◌, length, map}
 use Rattle.std.specs.Prelude.{Option, Some, None, Result, Ok, Err, IfOk, IfErr, vec_len}
 use Rattle.std.specs.Borrow.{Bor}
 use Rattle.tf_cli.specs.declared.options.Action.{Action}
@@ -59,6 +59,11 @@ IsResultIn {P} spot command name locate files (Ok made) =
     × (effect : Effect) × HasEffectIn command name files effect × IsMadeOf place effect made
 IsResultIn spot command name locate files (Err error) =
     IsReadError files name error ⊎ HasNoEffectIn command name locate files error
+
+-- how many bytes are held of a file that is to be saved
+abbrev pub size_of : {P : Type 0} → Option (ChangedFile P) → ℕ
+size_of None = 0
+size_of (Some file) = length file.text.items + length file.journal.items
 
 -- ---- how it is saved and reported
 
