@@ -4,6 +4,7 @@
 mod bodies;
 mod builder;
 mod exprs;
+mod for_exprs;
 mod grouping;
 pub mod laws;
 mod nodes;
@@ -11,6 +12,7 @@ mod nothing;
 mod opens;
 mod plain;
 mod reads;
+mod tails;
 mod templates;
 mod terms;
 

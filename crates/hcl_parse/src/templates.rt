@@ -11,8 +11,9 @@ ghost use Rattle.hcl_parse.specs.Rules.{Yields};
 
 use crate::builder::Builder;
 use crate::exprs::expr;
+use crate::for_exprs::intro;
 use crate::opens::enter_two;
-use crate::terms::{enclosed, intro};
+use crate::terms::enclosed;
 use hcl_grammar::fault::TokenFault;
 use hcl_reader::Reader;
 use hcl_token::Kind;

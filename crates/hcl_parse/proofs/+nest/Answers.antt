@@ -103,33 +103,33 @@ terms::tuple_items-returns g t c =
     let e = none_left (λ n. spec.tuple_items_from (g.S.Builder.make c.args.builder.now) c.args.reader.now n c.loop-turn.found c.loop-turn.at) c.loop-turn-test.false c.loop-turn.invariant in
     first_of (search rules, cc, grind (arith, common_steps))
 
-pub terms::each_tail-returns-in_err-more : goal.terms::each_tail-returns-in_err-more
+pub tails::each_tail-returns-in_err-more : goal.tails::each_tail-returns-in_err-more
 unfolding tails_from
-terms::each_tail-returns-in_err-more g t c =
+tails::each_tail-returns-in_err-more g t c =
     let e = one_left (λ n. spec.tails_from (g.S.Builder.make c.args.builder.now) c.args.reader.now n c.loop-turn.all c.loop-turn.at) c.loop-turn-test.true c.loop-turn.invariant in
     refused g.S.Builder.may_run_out _ 0 _ (search rules) e c.in_err-more.ensures
 
-pub terms::each_tail-returns-in-None : goal.terms::each_tail-returns-in-None
+pub tails::each_tail-returns-in-None : goal.tails::each_tail-returns-in-None
 unfolding tails_from
-terms::each_tail-returns-in-None g t c =
+tails::each_tail-returns-in-None g t c =
     let e = one_left (λ n. spec.tails_from (g.S.Builder.make c.args.builder.now) c.args.reader.now n c.loop-turn.all c.loop-turn.at) c.loop-turn-test.true c.loop-turn.invariant in
     first_of (search rules, cc, grind (arith, common_steps))
 
-pub terms::each_tail-loop-turn-preserved : goal.terms::each_tail-loop-turn-preserved
+pub tails::each_tail-loop-turn-preserved : goal.tails::each_tail-loop-turn-preserved
 unfolding tails_from
-terms::each_tail-loop-turn-preserved g t c =
+tails::each_tail-loop-turn-preserved g t c =
     let e = one_left (λ n. spec.tails_from (g.S.Builder.make c.args.builder.now) c.args.reader.now n c.loop-turn.all c.loop-turn.at) c.loop-turn-test.true c.loop-turn.invariant in
     first_of (search rules, cc, grind (arith, common_steps))
 
-pub terms::each_tail-returns : goal.terms::each_tail-returns
+pub tails::each_tail-returns : goal.tails::each_tail-returns
 unfolding tails_from
-terms::each_tail-returns g t c =
+tails::each_tail-returns g t c =
     let e = none_left (λ n. spec.tails_from (g.S.Builder.make c.args.builder.now) c.args.reader.now n c.loop-turn.all c.loop-turn.at) c.loop-turn-test.false c.loop-turn.invariant in
     first_of (search rules, cc, grind (arith, common_steps))
 
-pub terms::post-returns-then-not-has_tail : goal.terms::post-returns-then-not-has_tail
+pub tails::post-returns-then-not-has_tail : goal.tails::post-returns-then-not-has_tail
 unfolding post_by
-terms::post-returns-then-not-has_tail g t c =
+tails::post-returns-then-not-has_tail g t c =
     let e = ends_tails (g.S.Builder.make c.args.builder.now) c.args.reader.now.tokens c.args.reader.now.depth (deeper (g.S.Builder.make c.args.builder.now) c.args.reader.now.tokens c.args.reader.now.depth) c.args.reader.now.skip_newlines (length c.args.reader.now.tokens) c.args.first c.in_ok-head.head ((g.S.Builder.make c.args.builder.now).no_tails) _ (c.has_tail.ensures c.if-not-has_tail.true) in
     rw (c.in_ok-head.ensures {u = tt}, e, c.term_expr.ensures) refl
 

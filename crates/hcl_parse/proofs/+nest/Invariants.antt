@@ -44,20 +44,20 @@ decreases-exprs::expr_next g l = 64 * l.reader.now.depth + 31
 abbrev pub decreases-exprs::expr : goal.decreases-exprs::expr
 decreases-exprs::expr g l = 64 * l.reader.now.depth + 32
 
-abbrev pub decreases-terms::bracket_tail : goal.decreases-terms::bracket_tail
-decreases-terms::bracket_tail g l = 64 * l.reader.now.depth + 1
+abbrev pub decreases-tails::bracket_tail : goal.decreases-tails::bracket_tail
+decreases-tails::bracket_tail g l = 64 * l.reader.now.depth + 1
 
-abbrev pub decreases-terms::tail : goal.decreases-terms::tail
-decreases-terms::tail g l = 64 * l.reader.now.depth + 2
+abbrev pub decreases-tails::tail : goal.decreases-tails::tail
+decreases-tails::tail g l = 64 * l.reader.now.depth + 2
 
-abbrev pub decreases-terms::each_tail : goal.decreases-terms::each_tail
-decreases-terms::each_tail g l = 64 * l.reader.now.depth + 3
+abbrev pub decreases-tails::each_tail : goal.decreases-tails::each_tail
+decreases-tails::each_tail g l = 64 * l.reader.now.depth + 3
 
-abbrev pub decreases-terms::more_tails : goal.decreases-terms::more_tails
-decreases-terms::more_tails g l = 64 * l.reader.now.depth + 4
+abbrev pub decreases-tails::more_tails : goal.decreases-tails::more_tails
+decreases-tails::more_tails g l = 64 * l.reader.now.depth + 4
 
-abbrev pub decreases-terms::with_tails : goal.decreases-terms::with_tails
-decreases-terms::with_tails g l = 64 * l.reader.now.depth + 5
+abbrev pub decreases-tails::with_tails : goal.decreases-tails::with_tails
+decreases-tails::with_tails g l = 64 * l.reader.now.depth + 5
 
 abbrev pub decreases-terms::call : goal.decreases-terms::call
 decreases-terms::call g l = 64 * l.reader.now.depth + 1
@@ -86,8 +86,8 @@ decreases-terms::heredoc g l = 64 * l.reader.now.depth + 1
 abbrev pub decreases-terms::term : goal.decreases-terms::term
 decreases-terms::term g l = 64 * l.reader.now.depth + 3
 
-abbrev pub decreases-terms::post : goal.decreases-terms::post
-decreases-terms::post g l = 64 * l.reader.now.depth + 6
+abbrev pub decreases-tails::post : goal.decreases-tails::post
+decreases-tails::post g l = 64 * l.reader.now.depth + 6
 
 abbrev pub decreases-terms::tuple_items : goal.decreases-terms::tuple_items
 decreases-terms::tuple_items g l = 64 * l.reader.now.depth + 33
@@ -107,20 +107,20 @@ decreases-terms::elements g l = 64 * l.reader.now.depth + 34
 abbrev pub decreases-terms::object : goal.decreases-terms::object
 decreases-terms::object g l = 64 * l.reader.now.depth + 35
 
-abbrev pub decreases-terms::intro : goal.decreases-terms::intro
-decreases-terms::intro g l = 64 * l.reader.now.depth + 33
+abbrev pub decreases-for_exprs::intro : goal.decreases-for_exprs::intro
+decreases-for_exprs::intro g l = 64 * l.reader.now.depth + 33
 
-abbrev pub decreases-terms::condition : goal.decreases-terms::condition
-decreases-terms::condition g l = 64 * l.reader.now.depth + 33
+abbrev pub decreases-for_exprs::condition : goal.decreases-for_exprs::condition
+decreases-for_exprs::condition g l = 64 * l.reader.now.depth + 33
 
-abbrev pub decreases-terms::for_tuple : goal.decreases-terms::for_tuple
-decreases-terms::for_tuple g l = 64 * l.reader.now.depth + 34
+abbrev pub decreases-for_exprs::for_tuple : goal.decreases-for_exprs::for_tuple
+decreases-for_exprs::for_tuple g l = 64 * l.reader.now.depth + 34
 
-abbrev pub decreases-terms::for_value : goal.decreases-terms::for_value
-decreases-terms::for_value g l = 64 * l.reader.now.depth + 34
+abbrev pub decreases-for_exprs::for_value : goal.decreases-for_exprs::for_value
+decreases-for_exprs::for_value g l = 64 * l.reader.now.depth + 34
 
-abbrev pub decreases-terms::for_object : goal.decreases-terms::for_object
-decreases-terms::for_object g l = 64 * l.reader.now.depth + 35
+abbrev pub decreases-for_exprs::for_object : goal.decreases-for_exprs::for_object
+decreases-for_exprs::for_object g l = 64 * l.reader.now.depth + 35
 
 abbrev pub decreases-templates::if_directive : goal.decreases-templates::if_directive
 decreases-templates::if_directive g l = 64 * l.reader.now.depth + 1
@@ -149,8 +149,8 @@ decreases-templates::template g l = 64 * l.reader.now.depth + 6
 abbrev pub decreases-templates::else_and_endif : goal.decreases-templates::else_and_endif
 decreases-templates::else_and_endif g l = 64 * l.reader.now.depth + 7
 
-abbrev pub invariant-terms::each_tail-loop-turn : goal.invariant-terms::each_tail-loop-turn
-invariant-terms::each_tail-loop-turn g l = spec.tails_from (g.S.Builder.make l.builder) l.reader l.turns l.fn.found l.fn.at ≡ spec.tails_from (g.S.Builder.make l.builder) l.reader (l.turns - l._turn) l.all l.at
+abbrev pub invariant-tails::each_tail-loop-turn : goal.invariant-tails::each_tail-loop-turn
+invariant-tails::each_tail-loop-turn g l = spec.tails_from (g.S.Builder.make l.builder) l.reader l.turns l.fn.found l.fn.at ≡ spec.tails_from (g.S.Builder.make l.builder) l.reader (l.turns - l._turn) l.all l.at
 
 abbrev pub invariant-terms::arguments-loop-turn : goal.invariant-terms::arguments-loop-turn
 invariant-terms::arguments-loop-turn g l = spec.arguments (g.S.Builder.make l.builder) l.reader l.fn.at ≡ spec.arguments_from (g.S.Builder.make l.builder) l.reader (l._turn-end - l._turn) l.found l.at

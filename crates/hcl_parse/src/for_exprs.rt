@@ -1,0 +1,115 @@
+//! `for` expressions.
+
+ghost use Rattle.hcl_parse.specs.Rules as spec;
+ghost use Rattle.hcl_parse.specs.Rules.{Yields};
+
+use crate::builder::Builder;
+use crate::exprs::expr;
+use hcl_grammar::fault::TokenFault;
+use hcl_reader::Reader;
+use hcl_token::Kind;
+
+/// Takes an `Intro`: `"for" Identifier ("," Identifier)? "in" Expr`.
+#[cycle(nest)]
+#[tactic(auto, unfolding(hcl_grammar::specs::Pure::Parser::intro))]
+pub fn intro<S: Builder>(
+    builder: &S,
+    reader: &Reader<'_, '_>,
+    at: &mut u32,
+) -> Result<S::Intro, TokenFault>
+    ensures { Yields S.may_run_out
+        (spec.intro (S.make builder.now) reader.now at.old) result at.new }
+{
+    let inside = reader.in_brackets();
+    let first = inside.next_index(*at);
+    inside.expect_word(b"for", at)?;
+    let name = inside.next_index(*at);
+    inside.expect(Kind::Identifier, at)?;
+    let second = inside.second_name(at)?;
+    inside.expect_word(b"in", at)?;
+    let collection = expr::<S>(builder, &inside, at)?;
+    Ok(builder.intro(first, *at, name, second, collection))
+}
+
+/// Takes the condition of a `For`, if it has one, and the bracket that closes it.
+#[cycle(nest)]
+#[tactic(auto, unfolding(hcl_grammar::specs::Pure::Parser::condition))]
+fn condition<S: Builder>(
+    builder: &S,
+    reader: &Reader<'_, '_>,
+    close: Kind,
+    at: &mut u32,
+) -> Result<Option<S::Expr>, TokenFault>
+    ensures { Yields S.may_run_out
+        (spec.condition (S.make builder.now) reader.now close at.old) result at.new }
+{
+    let inside = reader.in_brackets();
+    if !inside.eat_word(b"if", at) {
+        inside.expect(close, at)?;
+        return Ok(None);
+    }
+    let value = expr::<S>(builder, &inside, at)?;
+    inside.expect(close, at)?;
+    Ok(Some(value))
+}
+
+/// Takes the rest of a `For` in brackets, after its `[`, which is token `first`.
+#[cycle(nest)]
+#[tactic(auto, unfolding(hcl_grammar::specs::Pure::Parser::for_tuple))]
+pub fn for_tuple<S: Builder>(
+    builder: &S,
+    reader: &Reader<'_, '_>,
+    first: u32,
+    at: &mut u32,
+) -> Result<S::Term, TokenFault>
+    ensures { Yields S.may_run_out
+        (spec.for_tuple (S.make builder.now) reader.now first at.old) result at.new }
+{
+    let inside = reader.in_brackets();
+    let begin = intro::<S>(builder, &inside, at)?;
+    inside.expect(Kind::Colon, at)?;
+    let value = expr::<S>(builder, &inside, at)?;
+    let met = condition::<S>(builder, &inside, Kind::CloseBracket, at)?;
+    Ok(builder.for_tuple(reader.alloc(), first, *at, begin, value, met)?)
+}
+
+/// Takes the rest of a `For` in braces, after its key.
+#[cycle(nest)]
+#[tactic(auto, unfolding(hcl_grammar::specs::Pure::Parser::for_value))]
+fn for_value<S: Builder>(
+    builder: &S,
+    reader: &Reader<'_, '_>,
+    first: u32,
+    begin: S::Intro,
+    key: S::Expr,
+    at: &mut u32,
+) -> Result<S::Term, TokenFault>
+    ensures { Yields S.may_run_out
+        (spec.for_value (S.make builder.now) reader.now first begin key at.old) result at.new }
+{
+    let inside = reader.in_brackets();
+    inside.expect(Kind::FatArrow, at)?;
+    let value = expr::<S>(builder, &inside, at)?;
+    let grouped = inside.eat(Kind::Ellipsis, at);
+    let met = condition::<S>(builder, &inside, Kind::CloseBrace, at)?;
+    Ok(builder.for_object(reader.alloc(), first, *at, begin, key, value, grouped, met)?)
+}
+
+/// Takes the rest of a `For` in braces, after its `{`, which is token `first`.
+#[cycle(nest)]
+#[tactic(auto, unfolding(hcl_grammar::specs::Pure::Parser::for_object))]
+pub fn for_object<S: Builder>(
+    builder: &S,
+    reader: &Reader<'_, '_>,
+    first: u32,
+    at: &mut u32,
+) -> Result<S::Term, TokenFault>
+    ensures { Yields S.may_run_out
+        (spec.for_object (S.make builder.now) reader.now first at.old) result at.new }
+{
+    let inside = reader.in_brackets();
+    let begin = intro::<S>(builder, &inside, at)?;
+    inside.expect(Kind::Colon, at)?;
+    let key = expr::<S>(builder, &inside, at)?;
+    for_value::<S>(builder, &inside, first, begin, key, at)
+}
