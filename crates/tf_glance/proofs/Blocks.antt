@@ -10,16 +10,16 @@ use Rattle.hcl_grammar.specs.declared.tree.Content.{Content}
 use Rattle.hcl_grammar.specs.declared.tree.Label.{Label}
 use Rattle.hcl_grammar_laws.proofs.Opens.{open_block}
 use Rattle.hcl_token.specs.Tokens.{Pair}
-use Rattle.tf_glance.proofs.Bodies.{is_declaration, is_locals, AreSeen, none_seen, member_free, MemberOf, ContentOf}
+use Rattle.tf_glance.proofs.Bodies.{is_declaration, is_locals, AreSummarized, none_summarized, member_free, MemberOf, ContentOf}
 use Rattle.tf_glance.proofs.Expressions.{left, right, Counts, Listed, listed_more}
 use Rattle.tf_glance.proofs.Nothing.{Nothing, none, choose, unless, append}
-use Rattle.tf_glance.specs.Glance.{word_of, names_after, is_quiet_label, is_complete, block}
-use Rattle.tf_glance.specs.Seen.{is_quiet_count, add_one}
-use Rattle.tf_glance.specs.declared.seen.Count.{Count}
-use Rattle.tf_glance.specs.declared.seen.Count.TheVariants as count
-use Rattle.tf_glance.specs.declared.seen.Lines.{Lines}
-use Rattle.tf_glance.specs.declared.word.Word.{Word}
-use Rattle.tf_glance.specs.declared.word.Word.TheVariants as word
+use Rattle.tf_glance.specs.SummaryMakers.{block_type_of, names_after, is_clean_label, is_complete, block}
+use Rattle.tf_glance.specs.Summary.{is_clean_count, add_one}
+use Rattle.tf_glance.specs.declared.summary.Count.{Count}
+use Rattle.tf_glance.specs.declared.summary.Count.TheVariants as count
+use Rattle.tf_glance.specs.declared.summary.BodyContent.{BodyContent}
+use Rattle.tf_glance.specs.declared.block_type.BlockType.{BlockType}
+use Rattle.tf_glance.specs.declared.block_type.BlockType.TheVariants as block_type
 use Rattle.tf_rules.specs.Attributes.{attributes, has_attribute, has_empty_attribute}
 use Rattle.tf_rules.specs.RuleSets.{has_rule}
 use Rattle.tf_rules.specs.Rules.Missing.{is_undocumented, missing_finding}
@@ -70,18 +70,18 @@ module _ (pairs : List Pair) where
   NamedAt i ls = (k : NameKind) → Nothing (label_findings pairs k (slice_get ls i))
 
   -- the label that names what the block declares
-  abbrev pub AreNamed : Word → List Label → Type 0
-  AreNamed word.Resource ls = NamedAt 1 ls
-  AreNamed word.Module ls = NamedAt 0 ls
-  AreNamed word.Variable ls = NamedAt 0 ls
-  AreNamed word.Output ls = NamedAt 0 ls
+  abbrev pub AreNamed : BlockType → List Label → Type 0
+  AreNamed block_type.Resource ls = NamedAt 1 ls
+  AreNamed block_type.Module ls = NamedAt 0 ls
+  AreNamed block_type.Variable ls = NamedAt 0 ls
+  AreNamed block_type.Output ls = NamedAt 0 ls
   AreNamed _ ls = Unit {0}
 
   abbrev pub LabelOf : Option ℕ → Label → Type 0
   LabelOf o l = l.name ≡ o
 
-  abbrev pub LabelsOf : Word → Count → List Label → Type 0
-  LabelsOf seen_as = Listed (AreNamed seen_as)
+  abbrev pub LabelsOf : BlockType → Count → List Label → Type 0
+  LabelsOf assumed = Listed (AreNamed assumed)
 
   pub label : (i j : ℕ) (o : Option ℕ) → LabelOf o (node.label i j o)
   unfolding node.label
@@ -91,7 +91,7 @@ module _ (pairs : List Pair) where
   snake l o k e h = record { is = rw (e, h) refl }
 
   first_named : (n : Count) (ls : List Label) (o : Option ℕ) (l : Label) → LabelOf o l → Counts n ls → NamedAt 0 ls → (n ≡ count.Zero → is_snake_case (name_text pairs o) ≡ true) → NamedAt 0 (ls ++ l ∷ [])
-  first_named count.Loud ls o l e c h s k = absurd c
+  first_named count.Suspect ls o l e c h s k = absurd c
   first_named count.Zero [] o l e c h s k = snake l o k e (s refl)
   first_named count.Zero (x ∷ ls) o l e c h s k = absurd c
   first_named count.One [] o l e c h s k = absurd c
@@ -102,7 +102,7 @@ module _ (pairs : List Pair) where
   first_named count.Many (x ∷ ls) o l e c h s k = h k
 
   second_named : (n : Count) (ls : List Label) (o : Option ℕ) (l : Label) → LabelOf o l → Counts n ls → NamedAt 1 ls → (n ≡ count.One → is_snake_case (name_text pairs o) ≡ true) → NamedAt 1 (ls ++ l ∷ [])
-  second_named count.Loud ls o l e c h s k = absurd c
+  second_named count.Suspect ls o l e c h s k = absurd c
   second_named count.Zero [] o l e c h s k = none
   second_named count.Zero (x ∷ ls) o l e c h s k = absurd c
   second_named count.One [] o l e c h s k = absurd c
@@ -115,32 +115,32 @@ module _ (pairs : List Pair) where
   second_named count.Many (x ∷ []) o l e c h s k = absurd c
   second_named count.Many (x ∷ y ∷ ls) o l e c h s k = h k
 
-  snake_after : (seen_as : Word) (n m : Count) (o : Option ℕ) → names_after seen_as m ≡ true → is_quiet_label pairs seen_as n o ≡ true → n ≡ m → is_snake_case (name_text pairs o) ≡ true
-  snake_after seen_as n m o f w e = given (names_after seen_as n) (is_snake_case (name_text pairs o)) w (ap (names_after seen_as) e ∙ f)
+  snake_after : (assumed : BlockType) (n m : Count) (o : Option ℕ) → names_after assumed m ≡ true → is_clean_label pairs assumed n o ≡ true → n ≡ m → is_snake_case (name_text pairs o) ≡ true
+  snake_after assumed n m o f w e = given (names_after assumed n) (is_snake_case (name_text pairs o)) w (ap (names_after assumed) e ∙ f)
 
-  named_more : (seen_as : Word) (n : Count) (ls : List Label) (o : Option ℕ) (l : Label) → LabelOf o l → Counts n ls → AreNamed seen_as ls → is_quiet_label pairs seen_as n o ≡ true → AreNamed seen_as (ls ++ l ∷ [])
-  named_more word.Other n ls o l e c h w = tt
-  named_more word.Resource n ls o l e c h w = second_named n ls o l e c h (snake_after word.Resource n count.One o refl w)
-  named_more word.Module n ls o l e c h w = first_named n ls o l e c h (snake_after word.Module n count.Zero o refl w)
-  named_more word.Variable n ls o l e c h w = first_named n ls o l e c h (snake_after word.Variable n count.Zero o refl w)
-  named_more word.Output n ls o l e c h w = first_named n ls o l e c h (snake_after word.Output n count.Zero o refl w)
-  named_more word.Locals n ls o l e c h w = tt
+  named_more : (assumed : BlockType) (n : Count) (ls : List Label) (o : Option ℕ) (l : Label) → LabelOf o l → Counts n ls → AreNamed assumed ls → is_clean_label pairs assumed n o ≡ true → AreNamed assumed (ls ++ l ∷ [])
+  named_more block_type.Other n ls o l e c h w = tt
+  named_more block_type.Resource n ls o l e c h w = second_named n ls o l e c h (snake_after block_type.Resource n count.One o refl w)
+  named_more block_type.Module n ls o l e c h w = first_named n ls o l e c h (snake_after block_type.Module n count.Zero o refl w)
+  named_more block_type.Variable n ls o l e c h w = first_named n ls o l e c h (snake_after block_type.Variable n count.Zero o refl w)
+  named_more block_type.Output n ls o l e c h w = first_named n ls o l e c h (snake_after block_type.Output n count.Zero o refl w)
+  named_more block_type.Locals n ls o l e c h w = tt
 
-  none_named : (seen_as : Word) → AreNamed seen_as []
-  none_named word.Other = tt
-  none_named word.Resource = λ k. none
-  none_named word.Module = λ k. none
-  none_named word.Variable = λ k. none
-  none_named word.Output = λ k. none
-  none_named word.Locals = tt
+  none_named : (assumed : BlockType) → AreNamed assumed []
+  none_named block_type.Other = tt
+  none_named block_type.Resource = λ k. none
+  none_named block_type.Module = λ k. none
+  none_named block_type.Variable = λ k. none
+  none_named block_type.Output = λ k. none
+  none_named block_type.Locals = tt
 
-  pub no_labels : (seen_as : Word) → LabelsOf seen_as count.Zero []
-  no_labels seen_as = λ w. (tt, none_named seen_as)
+  pub no_labels : (assumed : BlockType) → LabelsOf assumed count.Zero []
+  no_labels assumed = λ w. (tt, none_named assumed)
 
-  pub labels : (seen_as : Word) (n : Count) (ls : List Label) (o : Option ℕ) (l : Label) → LabelsOf seen_as n ls → LabelOf o l → LabelsOf seen_as (add_one n (is_quiet_label pairs seen_as n o)) (ls ++ l ∷ [])
-  labels seen_as n ls o l h e = listed_more (AreNamed seen_as) n (is_quiet_label pairs seen_as n o) ls l h (λ c f w. named_more seen_as n ls o l e c f w)
+  pub labels : (assumed : BlockType) (n : Count) (ls : List Label) (o : Option ℕ) (l : Label) → LabelsOf assumed n ls → LabelOf o l → LabelsOf assumed (add_one n (is_clean_label pairs assumed n o)) (ls ++ l ∷ [])
+  labels assumed n ls o l h e = listed_more (AreNamed assumed) n (is_clean_label pairs assumed n o) ls l h (λ c f w. named_more assumed n ls o l e c f w)
 
-  -- ---- a block, by its word
+  -- ---- a block, by its type
 
   module _ (rules : RuleSet) (b : Block) where
     abbrev untyped : List ℕ → Label → List Finding
@@ -156,7 +156,7 @@ module _ (pairs : List Pair) where
     abbrev naming : List ℕ → List Finding
     naming text = declared_findings pairs b (declared_name text) ++ (if bytes_eq text (codes "locals") then flat_map (local_findings pairs) (attributes b) else [])
 
-    -- what is found at it, if this is its word
+    -- what is found at it, if this is its type
     abbrev found : List ℕ → List Finding
     found text = (if has_rule rules NamingConvention then naming text else []) ++ missing text (slice_get b.labels 0)
 
@@ -175,55 +175,55 @@ module _ (pairs : List Pair) where
         (append (none_of_two (has_rule rules DocumentedVariables) (bytes_eq text (codes "variable")) (is_undocumented pairs (attributes b)) (missing_finding DocumentedVariables b l.name) d)
         (none_of_two (has_rule rules DocumentedOutputs) (bytes_eq text (codes "output")) (is_undocumented pairs (attributes b)) (missing_finding DocumentedOutputs b l.name) d))
 
-    -- a word of which only the label is looked at
+    -- a type of which only the label is looked at
     labelled : (text : List ℕ) (declared : Option (NameKind × ℕ)) → declared_name text ≡ declared → Nothing (declared_findings pairs b declared) → bytes_eq text (codes "locals") ≡ false
         → Nothing (missing text (slice_get b.labels 0)) → Nothing (found text)
     labelled text declared e h l m =
         append (choose (has_rule rules NamingConvention) (append (subst (λ (d : Option (NameKind × ℕ)). Nothing (declared_findings pairs b d)) (sym e) h) (unless (bytes_eq text (codes "locals")) _ l none)) none) m
 
-    module _ (seen_as : Word) (x : Lines) (names : AreNamed seen_as b.labels) (has : AreSeen pairs seen_as x.typed x.described (attributes b)) where
-      documents : is_declaration seen_as ≡ true → x.described ≡ true → is_undocumented pairs (attributes b) ≡ false
+    module _ (assumed : BlockType) (x : BodyContent) (names : AreNamed assumed b.labels) (has : AreSummarized pairs assumed x.typed x.described (attributes b)) where
+      documents : is_declaration assumed ≡ true → x.described ≡ true → is_undocumented pairs (attributes b) ≡ false
       documents w d = documented (has_attribute pairs (codes "description") (attributes b)) (has_empty_attribute pairs (codes "description") (attributes b)) (has.has_description d) (has.none_empty w)
 
-      resource : (s : Word) → s ≡ seen_as → is_complete word.Resource s x ≡ true → NamedAt 1 b.labels
-      resource word.Resource e h = subst (λ (s : Word). AreNamed s b.labels) (sym e) names
-      resource word.Other e h = absurd (cc)
-      resource word.Module e h = absurd (cc)
-      resource word.Variable e h = absurd (cc)
-      resource word.Output e h = absurd (cc)
-      resource word.Locals e h = absurd (cc)
+      resource : (s : BlockType) → s ≡ assumed → is_complete block_type.Resource s x ≡ true → NamedAt 1 b.labels
+      resource block_type.Resource e h = subst (λ (s : BlockType). AreNamed s b.labels) (sym e) names
+      resource block_type.Other e h = absurd (cc)
+      resource block_type.Module e h = absurd (cc)
+      resource block_type.Variable e h = absurd (cc)
+      resource block_type.Output e h = absurd (cc)
+      resource block_type.Locals e h = absurd (cc)
 
-      named_module : (s : Word) → s ≡ seen_as → is_complete word.Module s x ≡ true → NamedAt 0 b.labels
-      named_module word.Module e h = subst (λ (s : Word). AreNamed s b.labels) (sym e) names
-      named_module word.Other e h = absurd (cc)
-      named_module word.Resource e h = absurd (cc)
-      named_module word.Variable e h = absurd (cc)
-      named_module word.Output e h = absurd (cc)
-      named_module word.Locals e h = absurd (cc)
+      named_module : (s : BlockType) → s ≡ assumed → is_complete block_type.Module s x ≡ true → NamedAt 0 b.labels
+      named_module block_type.Module e h = subst (λ (s : BlockType). AreNamed s b.labels) (sym e) names
+      named_module block_type.Other e h = absurd (cc)
+      named_module block_type.Resource e h = absurd (cc)
+      named_module block_type.Variable e h = absurd (cc)
+      named_module block_type.Output e h = absurd (cc)
+      named_module block_type.Locals e h = absurd (cc)
 
-      variable : (s : Word) → s ≡ seen_as → is_complete word.Variable s x ≡ true → NamedAt 0 b.labels × (has_attribute pairs (codes "type") (attributes b) ≡ true) × (is_undocumented pairs (attributes b) ≡ false)
-      variable word.Variable e h = (subst (λ (s : Word). AreNamed s b.labels) (sym e) names, has.has_type (left x.typed x.described h), documents (ap is_declaration (sym e)) (right x.typed x.described h))
-      variable word.Other e h = absurd (cc)
-      variable word.Resource e h = absurd (cc)
-      variable word.Module e h = absurd (cc)
-      variable word.Output e h = absurd (cc)
-      variable word.Locals e h = absurd (cc)
+      variable : (s : BlockType) → s ≡ assumed → is_complete block_type.Variable s x ≡ true → NamedAt 0 b.labels × (has_attribute pairs (codes "type") (attributes b) ≡ true) × (is_undocumented pairs (attributes b) ≡ false)
+      variable block_type.Variable e h = (subst (λ (s : BlockType). AreNamed s b.labels) (sym e) names, has.has_type (left x.typed x.described h), documents (ap is_declaration (sym e)) (right x.typed x.described h))
+      variable block_type.Other e h = absurd (cc)
+      variable block_type.Resource e h = absurd (cc)
+      variable block_type.Module e h = absurd (cc)
+      variable block_type.Output e h = absurd (cc)
+      variable block_type.Locals e h = absurd (cc)
 
-      output : (s : Word) → s ≡ seen_as → is_complete word.Output s x ≡ true → NamedAt 0 b.labels × (is_undocumented pairs (attributes b) ≡ false)
-      output word.Output e h = (subst (λ (s : Word). AreNamed s b.labels) (sym e) names, documents (ap is_declaration (sym e)) h)
-      output word.Other e h = absurd (cc)
-      output word.Resource e h = absurd (cc)
-      output word.Module e h = absurd (cc)
-      output word.Variable e h = absurd (cc)
-      output word.Locals e h = absurd (cc)
+      output : (s : BlockType) → s ≡ assumed → is_complete block_type.Output s x ≡ true → NamedAt 0 b.labels × (is_undocumented pairs (attributes b) ≡ false)
+      output block_type.Output e h = (subst (λ (s : BlockType). AreNamed s b.labels) (sym e) names, documents (ap is_declaration (sym e)) h)
+      output block_type.Other e h = absurd (cc)
+      output block_type.Resource e h = absurd (cc)
+      output block_type.Module e h = absurd (cc)
+      output block_type.Variable e h = absurd (cc)
+      output block_type.Locals e h = absurd (cc)
 
-      locals : (s : Word) → s ≡ seen_as → is_complete word.Locals s x ≡ true → flat_map (local_findings pairs) (attributes b) ≡ []
-      locals word.Locals e h = has.named (ap is_locals (sym e))
-      locals word.Other e h = absurd (cc)
-      locals word.Resource e h = absurd (cc)
-      locals word.Module e h = absurd (cc)
-      locals word.Variable e h = absurd (cc)
-      locals word.Output e h = absurd (cc)
+      locals : (s : BlockType) → s ≡ assumed → is_complete block_type.Locals s x ≡ true → flat_map (local_findings pairs) (attributes b) ≡ []
+      locals block_type.Locals e h = has.named (ap is_locals (sym e))
+      locals block_type.Other e h = absurd (cc)
+      locals block_type.Resource e h = absurd (cc)
+      locals block_type.Module e h = absurd (cc)
+      locals block_type.Variable e h = absurd (cc)
+      locals block_type.Output e h = absurd (cc)
 
       skip : {A : Type 0} (t : Bool) (y z : A) → t ≡ false → (if t then y else z) ≡ z
       skip true y z e = absurd (cc)
@@ -232,37 +232,37 @@ module _ (pairs : List Pair) where
       moved : (text expected : List ℕ) → bytes_eq text expected ≡ true → Nothing (found expected) → Nothing (found text)
       moved text expected e h = subst (λ (t : List ℕ). Nothing (found t)) (sym (spelled text expected e)) h
 
-      by_word : (text : List ℕ) (r d m v o l : Bool) → bytes_eq text (codes "resource") ≡ r → bytes_eq text (codes "data") ≡ d → bytes_eq text (codes "module") ≡ m → bytes_eq text (codes "variable") ≡ v
+      by_type : (text : List ℕ) (r d m v o l : Bool) → bytes_eq text (codes "resource") ≡ r → bytes_eq text (codes "data") ≡ d → bytes_eq text (codes "module") ≡ m → bytes_eq text (codes "variable") ≡ v
           → bytes_eq text (codes "output") ≡ o → bytes_eq text (codes "locals") ≡ l
-          → is_complete (if r then word.Resource else (if d then word.Resource else (if m then word.Module else (if v then word.Variable else (if o then word.Output else (if l then word.Locals else word.Other)))))) seen_as x ≡ true
+          → is_complete (if r then block_type.Resource else (if d then block_type.Resource else (if m then block_type.Module else (if v then block_type.Variable else (if o then block_type.Output else (if l then block_type.Locals else block_type.Other)))))) assumed x ≡ true
           → Nothing (found text)
-      by_word text true d m v o l er ed em ev eo el h = moved text (codes "resource") er (labelled (codes "resource") _ refl (resource seen_as refl h kind.Resource) refl (none_missing (codes "resource") _ refl refl))
-      by_word text false true m v o l er ed em ev eo el h = moved text (codes "data") ed (labelled (codes "data") _ refl (resource seen_as refl h kind.Data) refl (none_missing (codes "data") _ refl refl))
-      by_word text false false true v o l er ed em ev eo el h = moved text (codes "module") em (labelled (codes "module") _ refl (named_module seen_as refl h kind.Module) refl (none_missing (codes "module") _ refl refl))
-      by_word text false false false true o l er ed em ev eo el h =
-          let known = variable seen_as refl h in
+      by_type text true d m v o l er ed em ev eo el h = moved text (codes "resource") er (labelled (codes "resource") _ refl (resource assumed refl h kind.Resource) refl (none_missing (codes "resource") _ refl refl))
+      by_type text false true m v o l er ed em ev eo el h = moved text (codes "data") ed (labelled (codes "data") _ refl (resource assumed refl h kind.Data) refl (none_missing (codes "data") _ refl refl))
+      by_type text false false true v o l er ed em ev eo el h = moved text (codes "module") em (labelled (codes "module") _ refl (named_module assumed refl h kind.Module) refl (none_missing (codes "module") _ refl refl))
+      by_type text false false false true o l er ed em ev eo el h =
+          let known = variable assumed refl h in
           moved text (codes "variable") ev (labelled (codes "variable") _ refl (known.0 kind.Variable) refl (none_incomplete (codes "variable") _ (λ w. known.1) known.2))
-      by_word text false false false false true l er ed em ev eo el h =
-          let known = output seen_as refl h in
+      by_type text false false false false true l er ed em ev eo el h =
+          let known = output assumed refl h in
           moved text (codes "output") eo (labelled (codes "output") _ refl (known.0 kind.Output) refl (none_incomplete (codes "output") _ (λ w. let f : false ≡ true = w in absurd (cc)) known.1))
-      by_word text false false false false false true er ed em ev eo el h =
-          moved text (codes "locals") el (append (choose (has_rule rules NamingConvention) (append none (record { is = locals seen_as refl h })) none) (none_missing (codes "locals") _ refl refl))
-      by_word text false false false false false false er ed em ev eo el h =
+      by_type text false false false false false true er ed em ev eo el h =
+          moved text (codes "locals") el (append (choose (has_rule rules NamingConvention) (append none (record { is = locals assumed refl h })) none) (none_missing (codes "locals") _ refl refl))
+      by_type text false false false false false false er ed em ev eo el h =
           labelled text None (skip (bytes_eq text (codes "resource")) _ _ er ∙ (skip (bytes_eq text (codes "data")) _ _ ed ∙ (skip (bytes_eq text (codes "variable")) _ _ ev ∙ (skip (bytes_eq text (codes "output")) _ _ eo ∙ skip (bytes_eq text (codes "module")) _ _ em)))) none el (none_missing text _ ev eo)
 
-      block_nothing : (text : List ℕ) → is_complete (word_of text) seen_as x ≡ true → Nothing (found text)
-      block_nothing text h = by_word text (bytes_eq text (codes "resource")) (bytes_eq text (codes "data")) (bytes_eq text (codes "module")) (bytes_eq text (codes "variable")) (bytes_eq text (codes "output")) (bytes_eq text (codes "locals")) refl refl refl refl refl refl h
+      block_nothing : (text : List ℕ) → is_complete (block_type_of text) assumed x ≡ true → Nothing (found text)
+      block_nothing text h = by_type text (bytes_eq text (codes "resource")) (bytes_eq text (codes "data")) (bytes_eq text (codes "module")) (bytes_eq text (codes "variable")) (bytes_eq text (codes "output")) (bytes_eq text (codes "locals")) refl refl refl refl refl refl h
 
   abbrev the_block : ℕ → ℕ → List Label → Content → Block
   the_block i j ls c = roll-Block (record { first = i; past = j; block_type = i; labels = ls; content = c })
 
-  pub blocks : (seen_as : Word) (i j : ℕ) (n : Count) (ls : List Label) (x : Lines) (c : Content) → LabelsOf seen_as n ls → ContentOf pairs seen_as x c → MemberOf pairs seen_as (block pairs seen_as i n x) (node.block i j ls c)
+  pub blocks : (assumed : BlockType) (i j : ℕ) (n : Count) (ls : List Label) (x : BodyContent) (c : Content) → LabelsOf assumed n ls → ContentOf pairs assumed x c → MemberOf pairs assumed (block pairs assumed i n x) (node.block i j ls c)
   unfolding node.block
-  blocks seen_as i j n ls x c f g = λ w.
+  blocks assumed i j n ls x c f g = λ w.
       let b = the_block i j ls c in
-      let inside = g (left x.quiet (is_quiet_count n) w) in
-      let names = (f (right x.quiet (is_quiet_count n) w)).1 in (
+      let inside = g (left x.clean (is_clean_count n) w) in
+      let names = (f (right x.clean (is_clean_count n) w)).1 in (
         member_free pairs (node.block i j ls c) (rw (open_block b) inside.0),
-        rw (open_block b) (none_seen pairs seen_as),
-        λ complete rules. rw (open_block b) (block_nothing rules b seen_as x names inside.1 (token_text pairs i) complete).is,
+        rw (open_block b) (none_summarized pairs assumed),
+        λ complete rules. rw (open_block b) (block_nothing rules b assumed x names inside.1 (token_text pairs i) complete).is,
       )

@@ -1,4 +1,4 @@
--- What is seen of attributes and of bodies.
+-- Summaries of attributes and of bodies.
 use Rattle.std.proofs.Common.{◌≡◌, ℕ, not, ◌&&◌, ◌||◌, Bool, true, false, List, [], ◌∷◌, ◌++◌, map, Option, Some, None, codes, refl, ap₂, ◌∙◌}
 use Rattle.std.proofs.lemmas.Grind.{flat_map-append}
 use Rattle.std.proofs.lemmas.List.Folds.{list_any-append}
@@ -15,16 +15,16 @@ use Rattle.hcl_grammar.specs.declared.tree.Member.TheVariants as member_kind
 use Rattle.hcl_grammar_laws.proofs.Opens.{open_attribute, open_lines, open_line}
 use Rattle.hcl_parse.specs.Alike.{InSome}
 use Rattle.hcl_token.specs.Tokens.{Pair}
-use Rattle.tf_glance.proofs.Expressions.{left, right, ExprOf, quiet_expr, quiet_description}
+use Rattle.tf_glance.proofs.Expressions.{left, right, ExprOf, clean_expr, clean_description}
 use Rattle.tf_glance.proofs.Free.{IsFree, free, AreFree, none, more, one}
 use Rattle.tf_glance.proofs.Nothing as empty
-use Rattle.tf_glance.specs.Glance.{attribute, declaration, one_line}
-use Rattle.tf_glance.specs.Seen as seen
-use Rattle.tf_glance.specs.Seen.{is_quiet, is_quiet_description}
-use Rattle.tf_glance.specs.declared.seen.Lines.{Lines}
-use Rattle.tf_glance.specs.declared.seen.Value.{Value}
-use Rattle.tf_glance.specs.declared.word.Word.{Word}
-use Rattle.tf_glance.specs.declared.word.Word.TheVariants as word
+use Rattle.tf_glance.specs.SummaryMakers.{attribute, declaration, one_line}
+use Rattle.tf_glance.specs.Summary as summary
+use Rattle.tf_glance.specs.Summary.{is_clean, is_clean_description}
+use Rattle.tf_glance.specs.declared.summary.BodyContent.{BodyContent}
+use Rattle.tf_glance.specs.declared.summary.Value.{Value}
+use Rattle.tf_glance.specs.declared.block_type.BlockType.{BlockType}
+use Rattle.tf_glance.specs.declared.block_type.BlockType.TheVariants as block_type
 use Rattle.tf_rules.specs.Attributes.{member_attributes, layer_attributes, is_attribute, is_empty_string, has_attribute, has_empty_attribute}
 use Rattle.tf_rules.specs.Preorder.{expr, member, member_children, content_children}
 use Rattle.tf_rules.specs.Rules.{top_level_member_findings}
@@ -54,100 +54,100 @@ not_empty true s q h w = rw (h w) refl
 
 -- ---- attributes
 
-abbrev pub is_declaration : Word → Bool
-is_declaration word.Variable = true
-is_declaration word.Output = true
+abbrev pub is_declaration : BlockType → Bool
+is_declaration block_type.Variable = true
+is_declaration block_type.Output = true
 is_declaration _ = false
 
-abbrev pub is_locals : Word → Bool
-is_locals word.Locals = true
+abbrev pub is_locals : BlockType → Bool
+is_locals block_type.Locals = true
 is_locals _ = false
 
 -- attributes among which there is one `type` and one `description`, if so it is said; in a block that
--- is seen as one with this word, no empty description, or only names in snake_case
-pub record AreSeen (pairs : List Pair) (seen_as : Word) (typed described : Bool) (all : List Attribute) : Type 0 where
+-- is assumed to be of this type, no empty description, or only names in snake_case
+pub record AreSummarized (pairs : List Pair) (assumed : BlockType) (typed described : Bool) (all : List Attribute) : Type 0 where
   pub has_type : typed ≡ true → has_attribute pairs (codes "type") all ≡ true
   pub has_description : described ≡ true → has_attribute pairs (codes "description") all ≡ true
-  pub none_empty : is_declaration seen_as ≡ true → has_empty_attribute pairs (codes "description") all ≡ false
-  pub named : is_locals seen_as ≡ true → flat_map (local_findings pairs) all ≡ []
+  pub none_empty : is_declaration assumed ≡ true → has_empty_attribute pairs (codes "description") all ≡ false
+  pub named : is_locals assumed ≡ true → flat_map (local_findings pairs) all ≡ []
 
 module _ (pairs : List Pair) where
-  pub none_seen : (seen_as : Word) → AreSeen pairs seen_as false false []
-  none_seen seen_as = record { has_type = λ h. absurd (cc); has_description = λ h. absurd (cc); none_empty = λ h. refl; named = λ h. refl }
+  pub none_summarized : (assumed : BlockType) → AreSummarized pairs assumed false false []
+  none_summarized assumed = record { has_type = λ h. absurd (cc); has_description = λ h. absurd (cc); none_empty = λ h. refl; named = λ h. refl }
 
-  joined_seen : (seen_as : Word) (t d u e : Bool) (xs ys : List Attribute) → AreSeen pairs seen_as t d xs → AreSeen pairs seen_as u e ys → AreSeen pairs seen_as (t || u) (d || e) (xs ++ ys)
-  joined_seen seen_as t d u e xs ys h g = record {
+  joined_summarized : (assumed : BlockType) (t d u e : Bool) (xs ys : List Attribute) → AreSummarized pairs assumed t d xs → AreSummarized pairs assumed u e ys → AreSummarized pairs assumed (t || u) (d || e) (xs ++ ys)
+  joined_summarized assumed t d u e xs ys h g = record {
     has_type = λ w. list_any-append (is_attribute pairs (codes "type") false) xs ys ∙ one_of_two t u _ _ h.has_type g.has_type w;
     has_description = λ w. list_any-append (is_attribute pairs (codes "description") false) xs ys ∙ one_of_two d e _ _ h.has_description g.has_description w;
     none_empty = λ w. list_any-append (is_attribute pairs (codes "description") true) xs ys ∙ neither _ _ (h.none_empty w) (g.none_empty w);
     named = λ w. flat_map-append (local_findings pairs) xs ys ∙ ap₂ (λ (fs gs : List Finding). fs ++ gs) (h.named w) (g.named w);
   }
 
-  plain_seen : (seen_as : Word) (all : List Attribute) → is_declaration seen_as ≡ false → is_locals seen_as ≡ false → AreSeen pairs seen_as false false all
-  plain_seen seen_as all h g = record { has_type = λ w. absurd (cc); has_description = λ w. absurd (cc); none_empty = λ w. absurd (cc); named = λ w. absurd (cc) }
+  plain_summarized : (assumed : BlockType) (all : List Attribute) → is_declaration assumed ≡ false → is_locals assumed ≡ false → AreSummarized pairs assumed false false all
+  plain_summarized assumed all h g = record { has_type = λ w. absurd (cc); has_description = λ w. absurd (cc); none_empty = λ w. absurd (cc); named = λ w. absurd (cc) }
 
   local_named : (i : ℕ) (a : Attribute) → a.name ≡ i → is_snake_case (token_text pairs i) ≡ true → flat_map (local_findings pairs) (a ∷ []) ≡ []
   local_named i a e h = rw (e, h) refl
 
-  module _ (seen_as : Word) where
-    abbrev pub AttributeOf : Lines → Attribute → Type 0
-    AttributeOf x a = x.quiet ≡ true → IsFree pairs (expr AttributeValue a.value) × AreSeen pairs seen_as x.typed x.described (a ∷ [])
+  module _ (assumed : BlockType) where
+    abbrev pub AttributeOf : BodyContent → Attribute → Type 0
+    AttributeOf x a = x.clean ≡ true → IsFree pairs (expr AttributeValue a.value) × AreSummarized pairs assumed x.typed x.described (a ∷ [])
 
-  declared : (seen_as : Word) → is_locals seen_as ≡ false → (i j : ℕ) (q : Value) (e : Expr) → ExprOf pairs q e
-      → AttributeOf seen_as (declaration (bytes_eq (token_text pairs i) (codes "type")) (bytes_eq (token_text pairs i) (codes "description")) q) (node.attribute i j e)
+  declared : (assumed : BlockType) → is_locals assumed ≡ false → (i j : ℕ) (q : Value) (e : Expr) → ExprOf pairs q e
+      → AttributeOf assumed (declaration (bytes_eq (token_text pairs i) (codes "type")) (bytes_eq (token_text pairs i) (codes "description")) q) (node.attribute i j e)
   unfolding node.attribute
-  declared seen_as l i j q e h = λ w. (
-    quiet_expr pairs q e h (left (is_quiet q) _ w) AttributeValue,
+  declared assumed l i j q e h = λ w. (
+    clean_expr pairs q e h (left (is_clean q) _ w) AttributeValue,
     record {
       has_type = λ t. alone (bytes_eq (token_text pairs i) (codes "type")) t;
       has_description = λ t. alone (bytes_eq (token_text pairs i) (codes "description")) t;
-      none_empty = λ t. not_empty (bytes_eq (token_text pairs i) (codes "description")) (is_empty_string e) (is_quiet_description q) (quiet_description pairs q e h) (right (is_quiet q) _ w);
+      none_empty = λ t. not_empty (bytes_eq (token_text pairs i) (codes "description")) (is_empty_string e) (is_clean_description q) (clean_description pairs q e h) (right (is_clean q) _ w);
       named = λ t. absurd (cc);
     },
   )
 
-  plain : (seen_as : Word) → is_declaration seen_as ≡ false → is_locals seen_as ≡ false → (i j : ℕ) (q : Value) (e : Expr) → ExprOf pairs q e → AttributeOf seen_as (record { quiet = is_quiet q; complete = true; typed = false; described = false }) (node.attribute i j e)
+  plain : (assumed : BlockType) → is_declaration assumed ≡ false → is_locals assumed ≡ false → (i j : ℕ) (q : Value) (e : Expr) → ExprOf pairs q e → AttributeOf assumed (record { clean = is_clean q; complete = true; typed = false; described = false }) (node.attribute i j e)
   unfolding node.attribute
-  plain seen_as d l i j q e h = λ w. (quiet_expr pairs q e h w AttributeValue, plain_seen seen_as _ d l)
+  plain assumed d l i j q e h = λ w. (clean_expr pairs q e h w AttributeValue, plain_summarized assumed _ d l)
 
-  local : (i j : ℕ) (q : Value) (e : Expr) → ExprOf pairs q e → AttributeOf word.Locals (attribute pairs word.Locals i q) (node.attribute i j e)
+  local : (i j : ℕ) (q : Value) (e : Expr) → ExprOf pairs q e → AttributeOf block_type.Locals (attribute pairs block_type.Locals i q) (node.attribute i j e)
   unfolding node.attribute
   local i j q e h = λ w. (
-    quiet_expr pairs q e h (left (is_quiet q) _ w) AttributeValue,
-    record { has_type = λ t. absurd (cc); has_description = λ t. absurd (cc); none_empty = λ t. absurd (cc); named = λ t. local_named i (node.attribute i j e) refl (right (is_quiet q) _ w) },
+    clean_expr pairs q e h (left (is_clean q) _ w) AttributeValue,
+    record { has_type = λ t. absurd (cc); has_description = λ t. absurd (cc); none_empty = λ t. absurd (cc); named = λ t. local_named i (node.attribute i j e) refl (right (is_clean q) _ w) },
   )
 
-  pub attributes : (seen_as : Word) (i j : ℕ) (q : Value) (e : Expr) → ExprOf pairs q e → AttributeOf seen_as (attribute pairs seen_as i q) (node.attribute i j e)
-  attributes word.Other i j q e h = plain word.Other refl refl i j q e h
-  attributes word.Resource i j q e h = plain word.Resource refl refl i j q e h
-  attributes word.Module i j q e h = plain word.Module refl refl i j q e h
-  attributes word.Variable i j q e h = declared word.Variable refl i j q e h
-  attributes word.Output i j q e h = declared word.Output refl i j q e h
-  attributes word.Locals i j q e h = local i j q e h
+  pub attributes : (assumed : BlockType) (i j : ℕ) (q : Value) (e : Expr) → ExprOf pairs q e → AttributeOf assumed (attribute pairs assumed i q) (node.attribute i j e)
+  attributes block_type.Other i j q e h = plain block_type.Other refl refl i j q e h
+  attributes block_type.Resource i j q e h = plain block_type.Resource refl refl i j q e h
+  attributes block_type.Module i j q e h = plain block_type.Module refl refl i j q e h
+  attributes block_type.Variable i j q e h = declared block_type.Variable refl i j q e h
+  attributes block_type.Output i j q e h = declared block_type.Output refl i j q e h
+  attributes block_type.Locals i j q e h = local i j q e h
 
   -- ---- members
 
   pub member_free : (m : Member) → AreFree pairs (member_children (out-Member m)) → IsFree pairs (member m)
   member_free m h = free _ (λ rules. empty.none) h
 
-  module _ (seen_as : Word) where
-    abbrev pub MemberOf : Lines → Member → Type 0
-    MemberOf x m = x.quiet ≡ true → IsFree pairs (member m) × AreSeen pairs seen_as x.typed x.described (member_attributes m) × (x.complete ≡ true → (rules : RuleSet) → top_level_member_findings rules pairs m ≡ [])
+  module _ (assumed : BlockType) where
+    abbrev pub MemberOf : BodyContent → Member → Type 0
+    MemberOf x m = x.clean ≡ true → IsFree pairs (member m) × AreSummarized pairs assumed x.typed x.described (member_attributes m) × (x.complete ≡ true → (rules : RuleSet) → top_level_member_findings rules pairs m ≡ [])
 
-    abbrev pub MembersOf : Lines → List Member → Type 0
-    MembersOf x ms = x.quiet ≡ true → AreFree pairs (map member ms) × AreSeen pairs seen_as x.typed x.described (flat_map member_attributes ms)
+    abbrev pub MembersOf : BodyContent → List Member → Type 0
+    MembersOf x ms = x.clean ≡ true → AreFree pairs (map member ms) × AreSummarized pairs assumed x.typed x.described (flat_map member_attributes ms)
 
-    abbrev pub BodyOf : Lines → Body → Type 0
+    abbrev pub BodyOf : BodyContent → Body → Type 0
     BodyOf x b = MembersOf x b.members
 
-    abbrev pub ContentOf : Lines → Content → Type 0
-    ContentOf x c = x.quiet ≡ true → AreFree pairs (content_children (out-Content c)) × AreSeen pairs seen_as x.typed x.described (layer_attributes (out-Content c))
+    abbrev pub ContentOf : BodyContent → Content → Type 0
+    ContentOf x c = x.clean ≡ true → AreFree pairs (content_children (out-Content c)) × AreSummarized pairs assumed x.typed x.described (layer_attributes (out-Content c))
 
-    pub attribute_member : (x : Lines) (a : Attribute) → AttributeOf seen_as x a → MemberOf x (member_kind.Attribute a)
+    pub attribute_member : (x : BodyContent) (a : Attribute) → AttributeOf assumed x a → MemberOf x (member_kind.Attribute a)
     attribute_member x a h = λ w. (member_free (member_kind.Attribute a) (rw (open_attribute a) (one _ (h w).0)), rw (open_attribute a) (h w).1, λ c rules. rw (open_attribute a) refl)
 
-    pub no_members : MembersOf seen.no_lines []
-    no_members = λ w. (none, none_seen seen_as)
+    pub no_members : MembersOf summary.no_content []
+    no_members = λ w. (none, none_summarized assumed)
 
     members_free : (ms : List Member) (m : Member) → AreFree pairs (map member ms) → IsFree pairs (member m) → AreFree pairs (map member (ms ++ m ∷ []))
     members_free [] m h f = one _ f
@@ -160,21 +160,21 @@ module _ (pairs : List Pair) where
         at_end [] = refl
         at_end (a ∷ xs) = ap₂ (λ (b : Attribute) (bs : List Attribute). b ∷ bs) refl (at_end xs)
 
-    pub members : (x : Lines) (ms : List Member) (y : Lines) (m : Member) → MembersOf x ms → MemberOf y m → MembersOf (seen.joined x y) (ms ++ m ∷ [])
+    pub members : (x : BodyContent) (ms : List Member) (y : BodyContent) (m : Member) → MembersOf x ms → MemberOf y m → MembersOf (summary.joined x y) (ms ++ m ∷ [])
     members x ms y m h g = λ w.
-        let before = h (left x.quiet y.quiet w) in
-        let last = g (right x.quiet y.quiet w) in
-        (members_free ms m before.0 last.0, rw (attributes_more ms m) (joined_seen seen_as x.typed x.described y.typed y.described (flat_map member_attributes ms) (member_attributes m) before.1 last.1))
+        let before = h (left x.clean y.clean w) in
+        let last = g (right x.clean y.clean w) in
+        (members_free ms m before.0 last.0, rw (attributes_more ms m) (joined_summarized assumed x.typed x.described y.typed y.described (flat_map member_attributes ms) (member_attributes m) before.1 last.1))
 
-    pub body : (i j : ℕ) (x : Lines) (ms : List Member) → MembersOf x ms → BodyOf x (node.body i j ms)
+    pub body : (i j : ℕ) (x : BodyContent) (ms : List Member) → MembersOf x ms → BodyOf x (node.body i j ms)
     unfolding node.body
     body i j x ms h = h
 
-    pub block_body : (x : Lines) (b : Body) → BodyOf x b → ContentOf x (content.Body b)
+    pub block_body : (x : BodyContent) (b : Body) → BodyOf x b → ContentOf x (content.Body b)
     block_body x b h = λ w. (rw (open_lines b) (h w).0, rw (open_lines b) (h w).1)
 
-    pub line_body : (o : Option Lines) (a : Option Attribute) → InSome (AttributeOf seen_as) o a → ContentOf (one_line o) (content.OneLine a)
-    line_body None None h = λ w. (rw (open_line None) none, rw (open_line None) (none_seen seen_as))
+    pub line_body : (o : Option BodyContent) (a : Option Attribute) → InSome (AttributeOf assumed) o a → ContentOf (one_line o) (content.OneLine a)
+    line_body None None h = λ w. (rw (open_line None) none, rw (open_line None) (none_summarized assumed))
     line_body (Some x) (Some a) h = λ w. (rw (open_line (Some a)) (one _ (h w).0), rw (open_line (Some a)) (h w).1)
     line_body None (Some a) h = absurd h
     line_body (Some x) None h = absurd h

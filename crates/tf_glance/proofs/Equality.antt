@@ -12,12 +12,12 @@ use Rattle.hcl_grammar.specs.Pure.NodeMakers.{operator_level, chain_end, split_l
 use Rattle.hcl_token.specs.Tokens.{Pair}
 use Rattle.tf_glance.proofs.Expressions.{Listed, listed_more, FreeExpr, NotList, NotText, ExprOf, expr_free, not_list, not_text}
 use Rattle.tf_glance.proofs.Free.{AreFree, none, more}
-use Rattle.tf_glance.specs.Seen as seen
-use Rattle.tf_glance.specs.Seen.{is_quiet_operand, add_one}
-use Rattle.tf_glance.specs.declared.seen.Count.{Count}
-use Rattle.tf_glance.specs.declared.seen.Count.TheVariants as count
-use Rattle.tf_glance.specs.declared.seen.Value.{Value}
-use Rattle.tf_glance.specs.declared.seen.Value.TheVariants as value
+use Rattle.tf_glance.specs.Summary as summary
+use Rattle.tf_glance.specs.Summary.{is_clean_operand, add_one}
+use Rattle.tf_glance.specs.declared.summary.Count.{Count}
+use Rattle.tf_glance.specs.declared.summary.Count.TheVariants as count
+use Rattle.tf_glance.specs.declared.summary.Value.{Value}
+use Rattle.tf_glance.specs.declared.summary.Value.TheVariants as value
 use Rattle.tf_rules.specs.Preorder.{expr}
 use Rattle.tf_rules.specs.Rules.Equality.{chain_findings, is_equality, is_empty_list}
 use Rattle.tf_rules.specs.declared.finding.Finding.{Finding}
@@ -41,8 +41,8 @@ module _ (pairs : List Pair) where
   abbrev pub OperationsOf : Count → List Operation → Type 0
   OperationsOf = Listed AreOperands
 
-  operand : (q : Value) (e : Expr) → ExprOf pairs q e → is_quiet_operand q ≡ true → IsOperand e
-  operand value.Loud e h w = absurd (cc)
+  operand : (q : Value) (e : Expr) → ExprOf pairs q e → is_clean_operand q ≡ true → IsOperand e
+  operand value.Suspect e h w = absurd (cc)
   operand value.Plain e h w = (h.0, h.1)
   operand value.EmptyList e h w = absurd (cc)
   operand value.EmptyText e h w = (h.0, h.1)
@@ -52,8 +52,8 @@ module _ (pairs : List Pair) where
   operands_more [] op e h f = (f, tt)
   operands_more (x ∷ xs) op e h f = (h.0, operands_more xs op e h.1 f)
 
-  pub operations : (n : Count) (ls : List Operation) (op : BinaryOperator) (q : Value) (e : Expr) → OperationsOf n ls → ExprOf pairs q e → OperationsOf (add_one n (is_quiet_operand q)) (ls ++ node.operation op e ∷ [])
-  operations n ls op q e h g = listed_more AreOperands n (is_quiet_operand q) ls (node.operation op e) h (λ c f w. operands_more ls op e f (operand q e g w))
+  pub operations : (n : Count) (ls : List Operation) (op : BinaryOperator) (q : Value) (e : Expr) → OperationsOf n ls → ExprOf pairs q e → OperationsOf (add_one n (is_clean_operand q)) (ls ++ node.operation op e ∷ [])
+  operations n ls op q e h g = listed_more AreOperands n (is_clean_operand q) ls (node.operation op e) h (λ c f w. operands_more ls op e f (operand q e g w))
 
   -- ---- operators of one level
 
@@ -110,14 +110,14 @@ module _ (pairs : List Pair) where
   grouped_text zero head ls h = h
   grouped_text (suc n) head ls h = binary_text head.first (chain_end head.past ls) (group n head (split_level n (group n) ls).0) (split_level n (group n) ls).1 (grouped_text n head (split_level n (group n) ls).0 h)
 
-  with_operators : (q : Value) (e : Expr) (ls : List Operation) → ExprOf pairs q e → AreOperands ls → ExprOf pairs (seen.first_operand q) (group levels e ls)
-  with_operators value.Loud e ls h g = tt
+  with_operators : (q : Value) (e : Expr) (ls : List Operation) → ExprOf pairs q e → AreOperands ls → ExprOf pairs (summary.first_operand q) (group levels e ls)
+  with_operators value.Suspect e ls h g = tt
   with_operators value.Plain e ls h g = let x = grouped levels e ls (h.0, h.1) g in (x.0, x.1, grouped_text levels e ls h.2)
   with_operators value.EmptyList e ls h g = tt
   with_operators value.EmptyText e ls h g = grouped levels e ls (h.0, h.1) g
 
-  pub chain : (q : Value) (e : Expr) (n : Count) (ls : List Operation) → ExprOf pairs q e → OperationsOf n ls → ExprOf pairs (seen.chain q n) (group levels e ls)
-  chain q e count.Loud ls h g = tt
+  pub chain : (q : Value) (e : Expr) (n : Count) (ls : List Operation) → ExprOf pairs q e → OperationsOf n ls → ExprOf pairs (summary.chain q n) (group levels e ls)
+  chain q e count.Suspect ls h g = tt
   chain q e count.Zero [] h g = subst (ExprOf pairs q) (sym (no_operator e)) h
   chain q e count.Zero (l ∷ ls) h g = absurd ((g refl).0)
   chain q e count.One ls h g = with_operators q e ls h (g refl).1

@@ -1,4 +1,4 @@
--- What is seen of expressions, terms and tails.
+-- Summaries of expressions, terms and tails.
 use Rattle.std.proofs.Common.{◌≡◌, ℕ, ◌&&◌, Bool, true, false, if◌then◌else◌, List, [], ◌∷◌, ◌++◌, map, Option, Some, None, refl, ap}
 use Rattle.std.specs.List.{flat_map}
 use Rattle.hcl_grammar.specs.Nodes as node
@@ -19,12 +19,12 @@ use Rattle.hcl_token.specs.Tokens.{Pair}
 use Rattle.tf_glance.proofs.Free.{IsFree, free, AreFree, none, more, one}
 use Rattle.tf_glance.proofs.Nothing as empty
 use Rattle.tf_glance.proofs.Nothing.{Nothing, choose, append}
-use Rattle.tf_glance.specs.Seen as seen
-use Rattle.tf_glance.specs.Seen.{is_quiet, is_quiet_option, is_quiet_description, is_quiet_count, plain_if, add_one, next_count}
-use Rattle.tf_glance.specs.declared.seen.Count.{Count}
-use Rattle.tf_glance.specs.declared.seen.Count.TheVariants as count
-use Rattle.tf_glance.specs.declared.seen.Value.{Value}
-use Rattle.tf_glance.specs.declared.seen.Value.TheVariants as value
+use Rattle.tf_glance.specs.Summary as summary
+use Rattle.tf_glance.specs.Summary.{is_clean, is_clean_option, is_clean_description, is_clean_count, plain_if, add_one, next_count}
+use Rattle.tf_glance.specs.declared.summary.Count.{Count}
+use Rattle.tf_glance.specs.declared.summary.Count.TheVariants as count
+use Rattle.tf_glance.specs.declared.summary.Value.{Value}
+use Rattle.tf_glance.specs.declared.summary.Value.TheVariants as value
 use Rattle.tf_rules.specs.Attributes.{is_empty_string, is_empty_string_kind, is_empty_string_primary}
 use Rattle.tf_rules.specs.Preorder.{expr, term, tail, nodes_of_tails, splat_after, expr_kind_children, primary_children, tail_children, filter_children, elem_children}
 use Rattle.tf_rules.specs.RuleSets.{has_rule}
@@ -49,7 +49,7 @@ right false b h = absurd (cc)
 -- ---- how many there are
 
 abbrev pub Counts : {A : Type 0} → Count → List A → Type 0
-Counts count.Loud xs = ⊥
+Counts count.Suspect xs = ⊥
 Counts count.Zero [] = Unit {0}
 Counts count.Zero (x ∷ xs) = ⊥
 Counts count.One (x ∷ []) = Unit {0}
@@ -60,7 +60,7 @@ Counts count.Many (x ∷ y ∷ z ∷ xs) = Unit {0}
 Counts count.Many _ = ⊥
 
 counts_more : {A : Type 0} (n : Count) (xs : List A) (x : A) → Counts n xs → Counts (next_count n) (xs ++ x ∷ [])
-counts_more count.Loud xs x h = absurd h
+counts_more count.Suspect xs x h = absurd h
 counts_more count.Zero [] x h = tt
 counts_more count.Zero (a ∷ xs) x h = absurd h
 counts_more count.One [] x h = absurd h
@@ -77,10 +77,10 @@ counts_more count.Many (a ∷ b ∷ c ∷ xs) x h = tt
 
 -- a list of which this is known, if no rule finds anything in it
 abbrev pub Listed : {A : Type 0} → (List A → Type 0) → Count → List A → Type 0
-Listed P n xs = is_quiet_count n ≡ true → Counts n xs × P xs
+Listed P n xs = is_clean_count n ≡ true → Counts n xs × P xs
 
-one_more : (n : Count) (b : Bool) → is_quiet_count (add_one n b) ≡ true → (is_quiet_count n ≡ true) × (b ≡ true)
-one_more count.Loud true h = absurd (cc)
+one_more : (n : Count) (b : Bool) → is_clean_count (add_one n b) ≡ true → (is_clean_count n ≡ true) × (b ≡ true)
+one_more count.Suspect true h = absurd (cc)
 one_more count.Zero true h = (refl, refl)
 one_more count.One true h = (refl, refl)
 one_more count.Two true h = (refl, refl)
@@ -119,22 +119,22 @@ module _ (pairs : List Pair) where
   NotText e = is_empty_string e ≡ false
 
   abbrev pub ExprOf : Value → Expr → Type 0
-  ExprOf value.Loud e = Unit {0}
+  ExprOf value.Suspect e = Unit {0}
   ExprOf value.Plain e = FreeExpr e × NotList e × NotText e
   ExprOf value.EmptyList e = FreeExpr e × NotText e
   ExprOf value.EmptyText e = FreeExpr e × NotList e
 
-  pub quiet_expr : (q : Value) (e : Expr) → ExprOf q e → is_quiet q ≡ true → FreeExpr e
-  quiet_expr value.Loud e h w = absurd (cc)
-  quiet_expr value.Plain e h w = h.0
-  quiet_expr value.EmptyList e h w = h.0
-  quiet_expr value.EmptyText e h w = h.0
+  pub clean_expr : (q : Value) (e : Expr) → ExprOf q e → is_clean q ≡ true → FreeExpr e
+  clean_expr value.Suspect e h w = absurd (cc)
+  clean_expr value.Plain e h w = h.0
+  clean_expr value.EmptyList e h w = h.0
+  clean_expr value.EmptyText e h w = h.0
 
-  pub quiet_description : (q : Value) (e : Expr) → ExprOf q e → is_quiet_description q ≡ true → NotText e
-  quiet_description value.Loud e h w = absurd (cc)
-  quiet_description value.Plain e h w = h.2
-  quiet_description value.EmptyList e h w = h.1
-  quiet_description value.EmptyText e h w = absurd (cc)
+  pub clean_description : (q : Value) (e : Expr) → ExprOf q e → is_clean_description q ≡ true → NotText e
+  clean_description value.Suspect e h w = absurd (cc)
+  clean_description value.Plain e h w = h.2
+  clean_description value.EmptyList e h w = h.1
+  clean_description value.EmptyText e h w = absurd (cc)
 
   plain_expr : (b : Bool) (e : Expr) → (b ≡ true → FreeExpr e × NotList e × NotText e) → ExprOf (plain_if b) e
   plain_expr true e h = h refl
@@ -166,7 +166,7 @@ module _ (pairs : List Pair) where
   NotTextTerm t = is_empty_string_primary (out-Primary t.kind) ≡ false
 
   abbrev pub TermOf : Value → Term → Type 0
-  TermOf value.Loud t = Unit {0}
+  TermOf value.Suspect t = Unit {0}
   TermOf value.Plain t = FreeTerm t × NotListTerm t × NotTextTerm t
   TermOf value.EmptyList t = FreeTerm t × NotTextTerm t
   TermOf value.EmptyText t = FreeTerm t × NotListTerm t
@@ -216,9 +216,9 @@ module _ (pairs : List Pair) where
   postfix_not_text i j t [] f = not_text i j (form.Term t) (rw (open_plain t) f)
   postfix_not_text i j t (x ∷ xs) f = not_text i j (form.Postfix t (x ∷ xs)) (rw (open_tailed t (x ∷ xs)) refl)
 
-  pub postfix : (i j : ℕ) (q : Value) (t : Term) (b : Bool) (ts : List Tail) → TermOf q t → TailsOf b ts → ExprOf (if b then q else value.Loud) (node.postfix i j t ts)
+  pub postfix : (i j : ℕ) (q : Value) (t : Term) (b : Bool) (ts : List Tail) → TermOf q t → TailsOf b ts → ExprOf (if b then q else value.Suspect) (node.postfix i j t ts)
   postfix i j q t false ts h g = tt
-  postfix i j value.Loud t true ts h g = tt
+  postfix i j value.Suspect t true ts h g = tt
   postfix i j value.Plain t true ts h g = (postfix_free i j t ts h.0 (g refl), postfix_not_list i j t ts h.1, postfix_not_text i j t ts h.2)
   postfix i j value.EmptyList t true ts h g = (postfix_free i j t ts h.0 (g refl), postfix_not_text i j t ts h.1)
   postfix i j value.EmptyText t true ts h g = (postfix_free i j t ts h.0 (g refl), postfix_not_list i j t ts h.1)
@@ -235,8 +235,8 @@ module _ (pairs : List Pair) where
   exprs_more [] e role h f = one _ f
   exprs_more (x ∷ xs) e role (more _ _ g a) f = more _ _ g (exprs_more xs e role a f)
 
-  pub exprs : (n : Count) (es : List Expr) (q : Value) (e : Expr) → ExprsOf n es → ExprOf q e → ExprsOf (add_one n (is_quiet q)) (es ++ e ∷ [])
-  exprs n es q e h g = listed_more FreeExprs n (is_quiet q) es e h (λ c f w role. exprs_more es e role (f role) (quiet_expr q e g w role))
+  pub exprs : (n : Count) (es : List Expr) (q : Value) (e : Expr) → ExprsOf n es → ExprOf q e → ExprsOf (add_one n (is_clean q)) (es ++ e ∷ [])
+  exprs n es q e h g = listed_more FreeExprs n (is_clean q) es e h (λ c f w role. exprs_more es e role (f role) (clean_expr q e g w role))
 
   tuple_free : (i j : ℕ) (es : List Expr) → FreeExprs es → FreeTerm (node.term i j (shape.Tuple es))
   tuple_free i j es f role = term_free role i j (shape.Tuple es) (rw (open_tuple es) refl) (rw (open_tuple es) refl) (rw (open_tuple es) (f Element))
@@ -247,8 +247,8 @@ module _ (pairs : List Pair) where
   tuple_not_text : (i j : ℕ) (es : List Expr) → NotTextTerm (node.term i j (shape.Tuple es))
   tuple_not_text i j es = not_text_term i j (shape.Tuple es) (rw (open_tuple es) refl)
 
-  pub tuple : (i j : ℕ) (n : Count) (es : List Expr) → ExprsOf n es → TermOf (seen.tuple n) (node.term i j (shape.Tuple es))
-  tuple i j count.Loud es h = tt
+  pub tuple : (i j : ℕ) (n : Count) (es : List Expr) → ExprsOf n es → TermOf (summary.tuple n) (node.term i j (shape.Tuple es))
+  tuple i j count.Suspect es h = tt
   tuple i j count.Zero es h = (tuple_free i j es (h refl).1, tuple_not_text i j es)
   tuple i j count.One (e ∷ es) h = (tuple_free i j (e ∷ es) (h refl).1, tuple_not_list i j e es, tuple_not_text i j (e ∷ es))
   tuple i j count.Two (e ∷ es) h = (tuple_free i j (e ∷ es) (h refl).1, tuple_not_list i j e es, tuple_not_text i j (e ∷ es))
@@ -267,35 +267,35 @@ module _ (pairs : List Pair) where
   elements_more [] key e h f g = more _ _ f (one _ g)
   elements_more (x ∷ xs) key e (more _ _ a (more _ _ b rest)) f g = more _ _ a (more _ _ b (elements_more xs key e rest f g))
 
-  pub elements : (b : Bool) (xs : List Elem) (k : Value) (key : Expr) (q : Value) (e : Expr) → ElementsOf b xs → ExprOf k key → ExprOf q e → ElementsOf (b && (is_quiet k && is_quiet q)) (xs ++ node.elem key e ∷ [])
+  pub elements : (b : Bool) (xs : List Elem) (k : Value) (key : Expr) (q : Value) (e : Expr) → ElementsOf b xs → ExprOf k key → ExprOf q e → ElementsOf (b && (is_clean k && is_clean q)) (xs ++ node.elem key e ∷ [])
   elements b xs k key q e h f g = λ w.
       let two = right b _ w in
-      elements_more xs key e (h (left b _ w)) (quiet_expr k key f (left (is_quiet k) _ two) ObjectKey) (quiet_expr q e g (right (is_quiet k) _ two) ObjectValue)
+      elements_more xs key e (h (left b _ w)) (clean_expr k key f (left (is_clean k) _ two) ObjectKey) (clean_expr q e g (right (is_clean k) _ two) ObjectValue)
 
   -- ---- for
 
   abbrev pub IntroOf : Bool → Intro → Type 0
   IntroOf b x = b ≡ true → IsFree pairs (expr Elsewhere x.collection)
 
-  pub intro : (i j n : ℕ) (o : Option ℕ) (q : Value) (e : Expr) → ExprOf q e → IntroOf (is_quiet q) (node.intro i j n o e)
+  pub intro : (i j n : ℕ) (o : Option ℕ) (q : Value) (e : Expr) → ExprOf q e → IntroOf (is_clean q) (node.intro i j n o e)
   unfolding node.intro
-  intro i j n o q e h = λ w. quiet_expr q e h w Elsewhere
+  intro i j n o q e h = λ w. clean_expr q e h w Elsewhere
 
-  filter_free : (o : Option Value) (c : Option Expr) → InSome ExprOf o c → is_quiet_option o ≡ true → AreFree pairs (filter_children c)
+  filter_free : (o : Option Value) (c : Option Expr) → InSome ExprOf o c → is_clean_option o ≡ true → AreFree pairs (filter_children c)
   filter_free None None h w = none
-  filter_free (Some q) (Some e) h w = one _ (quiet_expr q e h w Elsewhere)
+  filter_free (Some q) (Some e) h w = one _ (clean_expr q e h w Elsewhere)
   filter_free None (Some e) h w = absurd h
   filter_free (Some q) None h w = absurd h
 
   pub for_tuple : (i j : ℕ) (b : Bool) (x : Intro) (q : Value) (e : Expr) (o : Option Value) (c : Option Expr) → IntroOf b x → ExprOf q e → InSome ExprOf o c
-      → TermOf (plain_if (b && (is_quiet q && is_quiet_option o))) (node.term i j (node.for_tuple x e c))
+      → TermOf (plain_if (b && (is_clean q && is_clean_option o))) (node.term i j (node.for_tuple x e c))
   unfolding node.for_tuple
-  for_tuple i j b x q e o c f g h = made_term (b && (is_quiet q && is_quiet_option o)) i j (node.for_tuple x e c) _ (open_for_tuple _) refl refl (λ w. (refl, refl, rw (for_tuple_intro x e c, for_tuple_value x e c, for_tuple_filter x e c) (more _ _ (f (left b _ w)) (more _ _ (quiet_expr q e g (left (is_quiet q) _ (right b _ w)) Elsewhere) (filter_free o c h (right (is_quiet q) _ (right b _ w)))))))
+  for_tuple i j b x q e o c f g h = made_term (b && (is_clean q && is_clean_option o)) i j (node.for_tuple x e c) _ (open_for_tuple _) refl refl (λ w. (refl, refl, rw (for_tuple_intro x e c, for_tuple_value x e c, for_tuple_filter x e c) (more _ _ (f (left b _ w)) (more _ _ (clean_expr q e g (left (is_clean q) _ (right b _ w)) Elsewhere) (filter_free o c h (right (is_clean q) _ (right b _ w)))))))
 
   pub for_object : (i j : ℕ) (b : Bool) (x : Intro) (k : Value) (key : Expr) (q : Value) (e : Expr) (grouped : Bool) (o : Option Value) (c : Option Expr) → IntroOf b x → ExprOf k key → ExprOf q e → InSome ExprOf o c
-      → TermOf (plain_if (b && (is_quiet k && (is_quiet q && is_quiet_option o)))) (node.term i j (node.for_object x key e grouped c))
+      → TermOf (plain_if (b && (is_clean k && (is_clean q && is_clean_option o)))) (node.term i j (node.for_object x key e grouped c))
   unfolding node.for_object
-  for_object i j b x k key q e grouped o c f g h d = made_term (b && (is_quiet k && (is_quiet q && is_quiet_option o))) i j (node.for_object x key e grouped c) _ (open_for_object _) refl refl (λ w.
+  for_object i j b x k key q e grouped o c f g h d = made_term (b && (is_clean k && (is_clean q && is_clean_option o))) i j (node.for_object x key e grouped c) _ (open_for_object _) refl refl (λ w.
       let rest = right b _ w in
-      let two = right (is_quiet k) _ rest in
-      (refl, refl, rw (for_object_intro x key e grouped c, for_object_key x key e grouped c, for_object_value x key e grouped c, for_object_filter x key e grouped c) (more _ _ (f (left b _ w)) (more _ _ (quiet_expr k key g (left (is_quiet k) _ rest) Elsewhere) (more _ _ (quiet_expr q e h (left (is_quiet q) _ two) Elsewhere) (filter_free o c d (right (is_quiet q) _ two)))))))
+      let two = right (is_clean k) _ rest in
+      (refl, refl, rw (for_object_intro x key e grouped c, for_object_key x key e grouped c, for_object_value x key e grouped c, for_object_filter x key e grouped c) (more _ _ (f (left b _ w)) (more _ _ (clean_expr k key g (left (is_clean k) _ rest) Elsewhere) (more _ _ (clean_expr q e h (left (is_clean q) _ two) Elsewhere) (filter_free o c d (right (is_clean q) _ two)))))))

@@ -7,4 +7,4 @@ pub mod Templates
 pub mod Bodies
 pub mod Blocks
 pub mod Respects
-pub mod QuietMember
+pub mod CleanMember

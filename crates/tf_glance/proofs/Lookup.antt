@@ -8,9 +8,9 @@ use Rattle.hcl_grammar.specs.declared.tree.ExprKind.TheViews.{the_lemmas}
 use Rattle.hcl_grammar_laws.proofs.Opens.{open_call, call_names, call_arguments}
 use Rattle.hcl_token.specs.Tokens.{Pair}
 use Rattle.tf_glance.proofs.Expressions.{left, right, Counts, ExprsOf, TermOf, made_term}
-use Rattle.tf_glance.specs.Seen.{is_quiet_count, is_two, plain_if}
-use Rattle.tf_glance.specs.declared.seen.Count.{Count}
-use Rattle.tf_glance.specs.declared.seen.Count.TheVariants as count
+use Rattle.tf_glance.specs.Summary.{is_clean_count, is_two, plain_if}
+use Rattle.tf_glance.specs.declared.summary.Count.{Count}
+use Rattle.tf_glance.specs.declared.summary.Count.TheVariants as count
 use Rattle.tf_rules.specs.Arguments.{two_arguments}
 use Rattle.tf_rules.specs.Rules.Lookup.{is_lookup, pair_findings}
 use Rattle.tf_rules.specs.declared.role.Role.TheVariants.{Argument}
@@ -19,7 +19,7 @@ call_expands : (a : List ℕ) (b : List Expr) (c : Bool) → (out-Call (roll-Cal
 call_expands a b c = search (rules, the_lemmas)
 
 not_two : (n : Count) (es : List Expr) → Counts n es → is_two n ≡ false → two_arguments es ≡ None
-not_two count.Loud es h t = absurd h
+not_two count.Suspect es h t = absurd h
 not_two count.Zero [] h t = refl
 not_two count.Zero (a ∷ es) h t = absurd h
 not_two count.One [] h t = absurd h
@@ -57,11 +57,11 @@ module _ (pairs : List Pair) where
   names b (x ∷ y ∷ ns) n h = (λ w. w, refl)
 
   pub call : (i j : ℕ) (b : Bool) (ns : List ℕ) (n : Count) (es : List Expr) (more : Bool) → NamesOf b ns → ExprsOf pairs n es
-      → TermOf pairs (plain_if (is_quiet_count n && not (b && (is_two n && not more)))) (node.term i j (node.call ns es more))
+      → TermOf pairs (plain_if (is_clean_count n && not (b && (is_two n && not more)))) (node.term i j (node.call ns es more))
   unfolding node.call
-  call i j b ns n es more f g = made_term pairs (is_quiet_count n && not (b && (is_two n && not more))) i j (node.call ns es more) _ (open_call _) refl refl (λ w.
-      let known = g (left (is_quiet_count n) _ w) in (
+  call i j b ns n es more f g = made_term pairs (is_clean_count n && not (b && (is_two n && not more))) i j (node.call ns es more) _ (open_call _) refl refl (λ w.
+      let known = g (left (is_clean_count n) _ w) in (
         refl,
-        rw (call_expands ns es more, call_names ns es more, call_arguments ns es more) (none_by pairs i j more (is_lookup pairs ns) b (is_two n) es (right (is_quiet_count n) _ w) f.0 (not_two n es known.0)),
+        rw (call_expands ns es more, call_names ns es more, call_arguments ns es more) (none_by pairs i j more (is_lookup pairs ns) b (is_two n) es (right (is_clean_count n) _ w) f.0 (not_two n es known.0)),
         rw (call_arguments ns es more) (known.1 Argument),
       ))

@@ -1,5 +1,5 @@
--- What is seen of a node says of it what it says: whatever the makers of `glance` make of what is
--- seen of some nodes, is seen of the node that is made of them.
+-- What the makers of `summaries` make of summaries of nodes is the summary of the node that is made
+-- of them.
 use Rattle.std.proofs.Common.{ℕ, ◌&&◌, true, false, List, refl}
 use Rattle.hcl_grammar.specs.Nodes as node
 use Rattle.hcl_grammar.specs.declared.tree.Expr.{Expr}
@@ -13,19 +13,19 @@ use Rattle.hcl_token.specs.Tokens.{Pair}
 use Rattle.tf_glance.proofs.Blocks.{LabelOf, LabelsOf, label, no_labels, labels, blocks}
 use Rattle.tf_glance.proofs.Bodies.{AttributeOf, MemberOf, MembersOf, BodyOf, ContentOf, attributes, attribute_member, no_members, members, body, block_body, line_body}
 use Rattle.tf_glance.proofs.Equality.{OperationsOf, operations, chain}
-use Rattle.tf_glance.proofs.Expressions.{left, right, ExprOf, TermOf, TailOf, TailsOf, ExprsOf, ElementsOf, IntroOf, quiet_expr, made_expr, made_term, tail_free, tails_more, postfix, exprs, tuple, elements, intro, for_tuple, for_object}
+use Rattle.tf_glance.proofs.Expressions.{left, right, ExprOf, TermOf, TailOf, TailsOf, ExprsOf, ElementsOf, IntroOf, clean_expr, made_expr, made_term, tail_free, tails_more, postfix, exprs, tuple, elements, intro, for_tuple, for_object}
 use Rattle.tf_glance.proofs.Free.{none, more, one}
 use Rattle.tf_glance.proofs.Lookup.{NamesOf, first_name, names, call}
 use Rattle.tf_glance.proofs.Templates.{PartOf, PartsOf, TemplateOf, parts, template, literal, interpolation, if_directive, for_directive, quoted, heredoc}
-use Rattle.tf_glance.specs.Glance.{glance_types, glance}
-use Rattle.tf_glance.specs.Seen.{is_quiet}
-use Rattle.tf_glance.specs.declared.seen.Value.{Value}
-use Rattle.tf_glance.specs.declared.word.Word.{Word}
+use Rattle.tf_glance.specs.SummaryMakers.{summary_types, summaries}
+use Rattle.tf_glance.specs.Summary.{is_clean}
+use Rattle.tf_glance.specs.declared.summary.Value.{Value}
+use Rattle.tf_glance.specs.declared.block_type.BlockType.{BlockType}
 use Rattle.tf_rules.specs.declared.role.Role.TheVariants.{Parentheses, Index, Elsewhere}
 
-module _ (pairs : List Pair) (seen_as : Word) where
-  abbrev pub seen_of : Relations glance_types node_types
-  seen_of = record {
+module _ (pairs : List Pair) (assumed : BlockType) where
+  abbrev pub summarizes : Relations summary_types node_types
+  summarizes = record {
     Expr = ExprOf pairs;
     Exprs = ExprsOf pairs;
     Operations = OperationsOf pairs;
@@ -38,33 +38,33 @@ module _ (pairs : List Pair) (seen_as : Word) where
     Template = TemplateOf pairs;
     Part = PartOf pairs;
     Parts = PartsOf pairs;
-    Attribute = AttributeOf pairs seen_as;
+    Attribute = AttributeOf pairs assumed;
     Label = LabelOf pairs;
-    Labels = LabelsOf pairs seen_as;
-    Content = ContentOf pairs seen_as;
-    Member = MemberOf pairs seen_as;
-    Members = MembersOf pairs seen_as;
-    Body = BodyOf pairs seen_as;
-    Tree = λ x t. BodyOf pairs seen_as x t.body;
+    Labels = LabelsOf pairs assumed;
+    Content = ContentOf pairs assumed;
+    Member = MemberOf pairs assumed;
+    Members = MembersOf pairs assumed;
+    Body = BodyOf pairs assumed;
+    Tree = λ x t. BodyOf pairs assumed x t.body;
   }
 
   conditional : (i j : ℕ) (c : Value) (d : Expr) (x : Value) (y : Expr) (v : Value) (w : Expr) → ExprOf pairs c d → ExprOf pairs x y → ExprOf pairs v w
-      → ExprOf pairs ((glance pairs seen_as).conditional i j c x v) (node.expr i j (form.Conditional d y w))
-  conditional i j c d x y v w e f g = made_expr pairs (is_quiet c && (is_quiet x && is_quiet v)) i j (form.Conditional d y w) _ (open_conditional d y w) refl refl
-      (λ q role. let two = right (is_quiet c) _ q in
-      (refl, more _ _ (quiet_expr pairs c d e (left (is_quiet c) _ q) Elsewhere) (more _ _ (quiet_expr pairs x y f (left (is_quiet x) _ two) Elsewhere) (one _ (quiet_expr pairs v w g (right (is_quiet x) _ two) Elsewhere)))))
+      → ExprOf pairs ((summaries pairs assumed).conditional i j c x v) (node.expr i j (form.Conditional d y w))
+  conditional i j c d x y v w e f g = made_expr pairs (is_clean c && (is_clean x && is_clean v)) i j (form.Conditional d y w) _ (open_conditional d y w) refl refl
+      (λ q role. let two = right (is_clean c) _ q in
+      (refl, more _ _ (clean_expr pairs c d e (left (is_clean c) _ q) Elsewhere) (more _ _ (clean_expr pairs x y f (left (is_clean x) _ two) Elsewhere) (one _ (clean_expr pairs v w g (right (is_clean x) _ two) Elsewhere)))))
 
   legacy : (n : ℕ) → TailOf pairs false (variant.LegacyIndex n)
   legacy n q = absurd (cc)
 
-  pub respects : Respects (glance pairs seen_as) nodes seen_of
+  pub respects : Respects (summaries pairs assumed) nodes summarizes
   unfolding node.tree
   respects = record {
     conditional = λ i j c d e x y f v w g. conditional i j c d x y v w e f g;
     chain = λ q e h n ls g. chain pairs q e n ls h g;
     no_operations = λ w. (tt, tt);
     add_operation = λ n ls h op q e g. operations pairs n ls op q e h g;
-    unary = λ i j op q e h. made_expr pairs (is_quiet q) i j (form.Unary op e) _ (open_prefixed op e) refl refl (λ w role. (refl, one _ (quiet_expr pairs q e h w Elsewhere)));
+    unary = λ i j op q e h. made_expr pairs (is_clean q) i j (form.Unary op e) _ (open_prefixed op e) refl refl (λ w role. (refl, one _ (clean_expr pairs q e h w Elsewhere)));
     postfix = λ i j q t h b ts g. postfix pairs i j q t b ts h g;
     no_tails = λ w splat. none;
     add_tail = λ b ts h c t g w splat. tails_more pairs ts t splat (h (left b c w) splat) (λ s. g (right b c w) s);
@@ -72,7 +72,7 @@ module _ (pairs : List Pair) (seen_as : Word) where
     legacy_index = legacy;
     attribute_splat = λ w splat. tail_free pairs splat variant.AttributeSplat (rw open_attribute_splat refl) (rw open_attribute_splat none);
     full_splat = λ w splat. tail_free pairs splat variant.FullSplat (rw open_full_splat refl) (rw open_full_splat none);
-    index = λ q e h w splat. tail_free pairs splat (variant.Index e) (rw (open_index e) refl) (rw (open_index e) (one _ (quiet_expr pairs q e h w Index)));
+    index = λ q e h w splat. tail_free pairs splat (variant.Index e) (rw (open_index e) refl) (rw (open_index e) (one _ (clean_expr pairs q e h w Index)));
     number = λ i j. made_term pairs true i j shape.Number _ open_number refl refl (λ w. (refl, refl, none));
     identifier = λ i j. made_term pairs true i j shape.Identifier _ open_identifier refl refl (λ w. (refl, refl, none));
     call = λ i j b ns h n es g grouped. call pairs i j b ns n es grouped h g;
@@ -89,7 +89,7 @@ module _ (pairs : List Pair) (seen_as : Word) where
     for_object = λ i j b x f k key g q e h grouped o c d. for_object pairs i j b x k key q e grouped o c f g h d;
     quoted = λ i j q t h. quoted pairs i j q t h;
     heredoc = λ i j q t h. heredoc pairs i j q t h;
-    parens = λ i j q e h. made_term pairs (is_quiet q) i j (shape.Parens e) _ (open_parens e) refl refl (λ w. (refl, refl, one _ (quiet_expr pairs q e h w Parentheses)));
+    parens = λ i j q e h. made_term pairs (is_clean q) i j (shape.Parens e) _ (open_parens e) refl refl (λ w. (refl, refl, one _ (clean_expr pairs q e h w Parentheses)));
     template = λ i j q ps h. template pairs i j q ps h;
     no_parts = λ w. (refl, none);
     add_part = λ q ps h p x g. parts pairs q ps p x h g;
@@ -97,16 +97,16 @@ module _ (pairs : List Pair) (seen_as : Word) where
     interpolation = λ q e h. interpolation pairs q e h;
     if_directive = λ i j q e f p t g o s h. if_directive pairs i j q e p t o s f g h;
     for_directive = λ i j b x f p t g. for_directive pairs i j b x p t f g;
-    attribute = λ i j q e h. attributes pairs seen_as i j q e h;
+    attribute = λ i j q e h. attributes pairs assumed i j q e h;
     label = λ i j o. label pairs i j o;
-    no_labels = no_labels pairs seen_as;
-    add_label = λ n ls h o l g. labels pairs seen_as n ls o l h g;
-    one_line = λ o a h. line_body pairs seen_as o a h;
-    block_body = λ x b h. block_body pairs seen_as x b h;
-    attribute_member = λ x a h. attribute_member pairs seen_as x a h;
-    block = λ i j n ls h x c g. blocks pairs seen_as i j n ls x c h g;
-    no_members = no_members pairs seen_as;
-    add_member = λ x ms h y m g. members pairs seen_as x ms y m h g;
-    body = λ i j x ms h. body pairs seen_as i j x ms h;
+    no_labels = no_labels pairs assumed;
+    add_label = λ n ls h o l g. labels pairs assumed n ls o l h g;
+    one_line = λ o a h. line_body pairs assumed o a h;
+    block_body = λ x b h. block_body pairs assumed x b h;
+    attribute_member = λ x a h. attribute_member pairs assumed x a h;
+    block = λ i j n ls h x c g. blocks pairs assumed i j n ls x c h g;
+    no_members = no_members pairs assumed;
+    add_member = λ x ms h y m g. members pairs assumed x ms y m h g;
+    body = λ i j x ms h. body pairs assumed i j x ms h;
     tree = λ n x b h. h;
   }

@@ -1,3 +1,3 @@
-pub mod Seen
-pub mod Glance
-pub mod QuietMember
+pub mod Summary
+pub mod SummaryMakers
+pub mod CleanMember

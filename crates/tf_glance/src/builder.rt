@@ -1,113 +1,19 @@
-//! A builder that makes what is seen of each node: whether a rule may find something in it.
+//! The builder of summaries, with a method for each node.
 
-ghost use Rattle.std.specs.Prelude.{◌≡◌, true, codes, IfOk, IfErr};
-ghost use Rattle.std.specs.Str.{bytes_eq};
-ghost use Rattle.tf_glance.specs.Glance as spec;
-ghost use Rattle.tf_glance.specs.Glance.{glance};
+ghost use Rattle.std.specs.Prelude.{◌≡◌, true, IfOk, IfErr};
+ghost use Rattle.tf_glance.specs.SummaryMakers.{summaries};
 
-use crate::seen::{
-    Count, Lines, Piece, Pieces, Value, add_one, chain, directive, interpolation, is_quiet_option,
-    is_quiet_template_option, joined, no_lines, plain_if, quoted, tuple,
+use crate::members::Summaries;
+use crate::summary::{
+    BodyContent, Count, Piece, Pieces, Value, add_one, chain, directive, interpolation,
+    is_clean_option, is_clean_template_option, joined, no_content, plain_if, quoted, tuple,
 };
-use crate::word::{Word, word_of};
 use hcl_grammar::tree::{BinaryOperator, UnaryOperator};
 use hcl_parse::Builder;
-use hcl_scan::Scanned;
 use std::alloc::{AllocError, Global};
-use tf_rules::{is_snake_case, is_spelled, name_text, token_text};
+use tf_rules::{is_spelled, token_text};
 
-/// Makes what is seen of a member of a text, as one that begins with a word. It takes no memory;
-/// `AllocError` says that a rule may find something, so that no more is read.
-#[derive(Clone, Copy)]
-pub struct Glance<'s, 't> {
-    pub scanned: &'s Scanned<'t>,
-    pub word: Word,
-}
-
-/// Returns a line of which this is seen.
-///
-/// # Errors
-///
-/// If a rule may find something in it: no more has to be seen.
-#[inline(always)]
-fn line_if(quiet: bool, typed: bool, described: bool) -> Result<Lines, AllocError>
-    ensures { IfOk result (λ s. s ≡ spec.line quiet typed described) }
-{
-    if quiet {
-        Ok(Lines {
-            quiet: true,
-            complete: true,
-            typed,
-            described,
-        })
-    } else {
-        Err(AllocError)
-    }
-}
-
-/// Returns what is seen of an attribute of a declaration.
-///
-/// # Errors
-///
-/// If a rule may find something in it: no more has to be seen.
-fn declaration(name: &[u8], value: Value) -> Result<Lines, AllocError>
-    ensures { IfOk result
-        (λ s. s ≡ spec.declaration (bytes_eq name.now (codes "type"))
-        (bytes_eq name.now (codes "description")) value) }
-{
-    let described = is_spelled(name, b"description");
-    let quiet = value.is_quiet() && (!described || value.is_quiet_description());
-    line_if(quiet, is_spelled(name, b"type"), described)
-}
-
-impl<'s, 't> Glance<'s, 't> {
-    /// Returns what is seen of an attribute.
-    ///
-    /// # Errors
-    ///
-    /// If a rule may find something in it: no more has to be seen.
-    #[inline(always)]
-    fn attribute_line(&self, name: u32, value: Value) -> Result<Lines, AllocError>
-        ensures { IfOk result
-            (λ s. s ≡ spec.attribute self.now.scanned.now.pairs self.now.word name value) }
-    {
-        match self.word {
-            Word::Locals => line_if(
-                value.is_quiet() && is_snake_case(token_text(self.scanned, name)),
-                false,
-                false,
-            ),
-            Word::Variable => declaration(token_text(self.scanned, name), value),
-            Word::Output => declaration(token_text(self.scanned, name), value),
-            _ => line_if(value.is_quiet(), false, false),
-        }
-    }
-
-    /// Returns whether no rule finds anything at the next label.
-    #[inline(always)]
-    fn is_quiet_label(&self, labels: Count, name: Option<u32>) -> bool
-        ensures { result ≡ spec.is_quiet_label self.now.scanned.now.pairs self.now.word labels name }
-    {
-        !self.word.names_after(labels) || is_snake_case(name_text(self.scanned, name))
-    }
-
-    /// Returns what is seen of a block.
-    #[inline(always)]
-    fn block_line(&self, first: u32, labels: Count, content: Lines) -> Lines
-        ensures { result
-            ≡ spec.block self.now.scanned.now.pairs self.now.word first labels content }
-    {
-        let word = word_of(token_text(self.scanned, first));
-        Lines {
-            quiet: content.quiet && labels.is_quiet(),
-            complete: word.is_complete(self.word, content),
-            typed: false,
-            described: false,
-        }
-    }
-}
-
-impl<'s, 't> Builder for Glance<'s, 't> {
+impl<'s, 't> Builder for Summaries<'s, 't> {
     type Expr = Value;
 
     type Exprs = Count;
@@ -132,23 +38,23 @@ impl<'s, 't> Builder for Glance<'s, 't> {
 
     type Parts = Pieces;
 
-    type Attribute = Lines;
+    type Attribute = BodyContent;
 
     type Label = Option<u32>;
 
     type Labels = Count;
 
-    type Content = Lines;
+    type Content = BodyContent;
 
-    type Member = Lines;
+    type Member = BodyContent;
 
-    type Members = Lines;
+    type Members = BodyContent;
 
-    type Body = Lines;
+    type Body = BodyContent;
 
-    type Tree = Lines;
+    type Tree = BodyContent;
 
-    ghost make = { λ g. glance g.scanned.now.pairs g.word };
+    ghost make = { λ g. summaries g.scanned.now.pairs g.block_type };
 
     ghost may_run_out = { true };
 
@@ -162,7 +68,7 @@ impl<'s, 't> Builder for Glance<'s, 't> {
         then_branch: Self::Expr,
         else_branch: Self::Expr,
     ) -> Result<Self::Expr, AllocError> {
-        plain_if(condition.is_quiet() && then_branch.is_quiet() && else_branch.is_quiet())
+        plain_if(condition.is_clean() && then_branch.is_clean() && else_branch.is_clean())
     }
 
     #[inline(always)]
@@ -187,7 +93,7 @@ impl<'s, 't> Builder for Glance<'s, 't> {
         _operator: BinaryOperator,
         operand: Self::Expr,
     ) -> Result<(), AllocError> {
-        *operations = add_one(*operations, operand.is_quiet_operand())?;
+        *operations = add_one(*operations, operand.is_clean_operand())?;
         Ok(())
     }
 
@@ -200,7 +106,7 @@ impl<'s, 't> Builder for Glance<'s, 't> {
         _operator: UnaryOperator,
         operand: Self::Expr,
     ) -> Result<Self::Expr, AllocError> {
-        plain_if(operand.is_quiet())
+        plain_if(operand.is_clean())
     }
 
     #[inline(always)]
@@ -255,7 +161,7 @@ impl<'s, 't> Builder for Glance<'s, 't> {
 
     #[inline(always)]
     fn index(&self, _alloc: Global, key: Self::Expr) -> Result<Self::Tail, AllocError> {
-        Ok(key.is_quiet())
+        Ok(key.is_clean())
     }
 
     #[inline(always)]
@@ -278,7 +184,7 @@ impl<'s, 't> Builder for Glance<'s, 't> {
         arguments: Self::Exprs,
         expand_final: bool,
     ) -> Result<Self::Term, AllocError> {
-        plain_if(arguments.is_quiet() && !(names && arguments.is_two() && !expand_final))
+        plain_if(arguments.is_clean() && !(names && arguments.is_two() && !expand_final))
     }
 
     #[inline(always)]
@@ -299,7 +205,7 @@ impl<'s, 't> Builder for Glance<'s, 't> {
 
     #[inline(always)]
     fn add_expr(&self, exprs: &mut Self::Exprs, expr: Self::Expr) -> Result<(), AllocError> {
-        *exprs = add_one(*exprs, expr.is_quiet())?;
+        *exprs = add_one(*exprs, expr.is_clean())?;
         Ok(())
     }
 
@@ -337,7 +243,7 @@ impl<'s, 't> Builder for Glance<'s, 't> {
         key: Self::Expr,
         value: Self::Expr,
     ) -> Result<(), AllocError> {
-        *elements = *elements && key.is_quiet() && value.is_quiet();
+        *elements = *elements && key.is_clean() && value.is_clean();
         Ok(())
     }
 
@@ -350,7 +256,7 @@ impl<'s, 't> Builder for Glance<'s, 't> {
         _second_name: Option<u32>,
         collection: Self::Expr,
     ) -> Self::Intro {
-        collection.is_quiet()
+        collection.is_clean()
     }
 
     #[inline(always)]
@@ -364,11 +270,11 @@ impl<'s, 't> Builder for Glance<'s, 't> {
         condition: Option<Self::Expr>,
     ) -> Result<Self::Term, AllocError>
         ensures made { IfOk result
-            (λ s. s ≡ (glance self.now.scanned.now.pairs self.now.word).for_tuple first past intro
+            (λ s. s ≡ (summaries self.now.scanned.now.pairs self.now.block_type).for_tuple first past intro
             value condition) }
         ensures memory { IfErr result (λ _. true ≡ true) }
     {
-        plain_if(intro && value.is_quiet() && is_quiet_option(condition))
+        plain_if(intro && value.is_clean() && is_clean_option(condition))
     }
 
     #[inline(always)]
@@ -384,11 +290,11 @@ impl<'s, 't> Builder for Glance<'s, 't> {
         condition: Option<Self::Expr>,
     ) -> Result<Self::Term, AllocError>
         ensures made { IfOk result
-            (λ s. s ≡ (glance self.now.scanned.now.pairs self.now.word).for_object first past intro
+            (λ s. s ≡ (summaries self.now.scanned.now.pairs self.now.block_type).for_object first past intro
             key value grouped condition) }
         ensures memory { IfErr result (λ _. true ≡ true) }
     {
-        plain_if(intro && key.is_quiet() && value.is_quiet() && is_quiet_option(condition))
+        plain_if(intro && key.is_clean() && value.is_clean() && is_clean_option(condition))
     }
 
     #[inline(always)]
@@ -410,7 +316,7 @@ impl<'s, 't> Builder for Glance<'s, 't> {
         _past: u32,
         template: Self::Template,
     ) -> Result<Self::Term, AllocError> {
-        plain_if(template.is_quiet())
+        plain_if(template.is_clean())
     }
 
     #[inline(always)]
@@ -421,7 +327,7 @@ impl<'s, 't> Builder for Glance<'s, 't> {
         _past: u32,
         expr: Self::Expr,
     ) -> Result<Self::Term, AllocError> {
-        plain_if(expr.is_quiet())
+        plain_if(expr.is_clean())
     }
 
     #[inline(always)]
@@ -447,7 +353,7 @@ impl<'s, 't> Builder for Glance<'s, 't> {
 
     #[inline(always)]
     fn interpolation(&self, _alloc: Global, expr: Self::Expr) -> Result<Self::Part, AllocError> {
-        interpolation(expr.is_quiet())
+        interpolation(expr.is_clean())
     }
 
     #[inline(always)]
@@ -461,12 +367,12 @@ impl<'s, 't> Builder for Glance<'s, 't> {
         else_branch: Option<Self::Template>,
     ) -> Result<Self::Part, AllocError>
         ensures made { IfOk result
-            (λ s. s ≡ (glance self.now.scanned.now.pairs self.now.word).if_directive first past
+            (λ s. s ≡ (summaries self.now.scanned.now.pairs self.now.block_type).if_directive first past
             condition then_branch else_branch) }
         ensures memory { IfErr result (λ _. true ≡ true) }
     {
         directive(
-            condition.is_quiet() && then_branch.is_quiet() && is_quiet_template_option(else_branch),
+            condition.is_clean() && then_branch.is_clean() && is_clean_template_option(else_branch),
         )
     }
 
@@ -479,7 +385,7 @@ impl<'s, 't> Builder for Glance<'s, 't> {
         intro: Self::Intro,
         body: Self::Template,
     ) -> Result<Self::Part, AllocError> {
-        directive(intro && body.is_quiet())
+        directive(intro && body.is_clean())
     }
 
     #[inline(always)]
@@ -490,7 +396,7 @@ impl<'s, 't> Builder for Glance<'s, 't> {
         _past: u32,
         value: Self::Expr,
     ) -> Result<Self::Attribute, AllocError> {
-        self.attribute_line(first, value)
+        self.attribute_content(first, value)
     }
 
     #[inline(always)]
@@ -505,7 +411,7 @@ impl<'s, 't> Builder for Glance<'s, 't> {
 
     #[inline(always)]
     fn add_label(&self, labels: &mut Self::Labels, label: Self::Label) -> Result<(), AllocError> {
-        *labels = add_one(*labels, self.is_quiet_label(*labels, label))?;
+        *labels = add_one(*labels, self.is_clean_label(*labels, label))?;
         Ok(())
     }
 
@@ -516,12 +422,12 @@ impl<'s, 't> Builder for Glance<'s, 't> {
         attribute: Option<Self::Attribute>,
     ) -> Result<Self::Content, AllocError>
         ensures made { IfOk result
-            (λ s. s ≡ (glance self.now.scanned.now.pairs self.now.word).one_line attribute) }
+            (λ s. s ≡ (summaries self.now.scanned.now.pairs self.now.block_type).one_line attribute) }
         ensures memory { IfErr result (λ _. true ≡ true) }
     {
         match attribute {
-            Some(lines) => Ok(lines),
-            None => Ok(no_lines()),
+            Some(content) => Ok(content),
+            None => Ok(no_content()),
         }
     }
 
@@ -543,12 +449,12 @@ impl<'s, 't> Builder for Glance<'s, 't> {
         labels: Self::Labels,
         content: Self::Content,
     ) -> Self::Member {
-        self.block_line(first, labels, content)
+        self.block_content(first, labels, content)
     }
 
     #[inline(always)]
     fn no_members(&self, _alloc: Global) -> Self::Members {
-        no_lines()
+        no_content()
     }
 
     #[inline(always)]

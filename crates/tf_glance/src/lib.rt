@@ -1,9 +1,11 @@
-//! A glance at one attribute or block: whether a rule may find something in it, with no tree made.
+//! A glance at one attribute or block: whether it is clean, that is, no rule finds anything in it,
+//! with no tree made.
 #![tactic(auto)]
 
+mod block_type;
 mod builder;
-mod seen;
+mod members;
 mod skipping;
-mod word;
+mod summary;
 
-pub use skipping::skip_quiet_member;
+pub use skipping::skip_clean_member;

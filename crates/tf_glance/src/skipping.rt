@@ -1,11 +1,11 @@
-//! A member in which no rule can find anything, skipped with no tree of it made.
+//! A clean member, skipped with no tree of it made.
 
 ghost use Rattle.std.specs.Prelude.{◌≡◌, ◌≢◌, true, false, Ok, IfOk, IfErr};
 ghost use Rattle.hcl_grammar.specs.declared.fault.TokenFault.TheVariants.{Memory};
-ghost use Rattle.tf_glance.specs.QuietMember.{IsQuietMember, IsMemberFault};
+ghost use Rattle.tf_glance.specs.CleanMember.{IsCleanMember, IsMemberFault};
 
-use crate::builder::Glance;
-use crate::word::{Word, word_of};
+use crate::block_type::{BlockType, block_type_of};
+use crate::members::Summaries;
 use hcl_grammar::fault::TokenFault;
 use hcl_reader::Reader;
 use hcl_scan::Scanned;
@@ -13,39 +13,38 @@ use hcl_token::Kind;
 use std::alloc::Global;
 use tf_rules::token_text;
 
-/// Returns the word that a block begins with at this token, if it is no attribute. A wrong one costs
+/// Returns the type of the block that begins at this token, if it is no attribute. A wrong one costs
 /// time alone.
-fn seen_word(scanned: &Scanned<'_>, n: u32) -> Word {
+fn assumed_type(scanned: &Scanned<'_>, n: u32) -> BlockType {
     let next = n as usize + 1;
     if next < scanned.len() && matches!(scanned.kind(next), Kind::Equal) {
-        return Word::Other;
+        return BlockType::Other;
     }
-    word_of(token_text(scanned, n))
+    block_type_of(token_text(scanned, n))
 }
 
-/// Reads the member that comes next, and returns whether there is one in which no rule can find
-/// anything.
+/// Reads the next member, and returns whether there is one that is clean.
 ///
 /// # Errors
 ///
-/// That of the parser at the member; `Memory` if a rule may find something.
+/// That of the parser at the member; `Memory` if the member is suspect.
 #[inline(always)]
-fn is_quiet_member(alloc: Global, scanned: &Scanned<'_>, at: &mut u32) -> Result<bool, TokenFault>
-    ensures quiet { result ≡ Ok true → IsQuietMember scanned.now.pairs at.old at.new }
+fn is_clean_member(alloc: Global, scanned: &Scanned<'_>, at: &mut u32) -> Result<bool, TokenFault>
+    ensures clean { result ≡ Ok true → IsCleanMember scanned.now.pairs at.old at.new }
     ensures fault { IfErr result (λ e. e ≢ Memory → IsMemberFault scanned.now.pairs at.old e) }
 {
-    let glance = Glance {
+    let summaries = Summaries {
         scanned,
-        word: seen_word(scanned, *at),
+        block_type: assumed_type(scanned, *at),
     };
-    match hcl_parse::member::<Glance<'_, '_>>(&glance, &Reader::new(alloc, scanned), at) {
-        Ok(Some(lines)) => Ok(lines.is_without_findings()),
+    match hcl_parse::member::<Summaries<'_, '_>>(&summaries, &Reader::new(alloc, scanned), at) {
+        Ok(Some(content)) => Ok(content.is_without_findings()),
         Ok(None) => Ok(false),
         Err(fault) => Err(fault),
     }
 }
 
-/// Returns the error, but for `Memory`, which says that a rule may find something.
+/// Returns the error, but for `Memory`, which says that the member is suspect.
 fn given_up(fault: TokenFault) -> Result<bool, TokenFault>
     ensures answer { IfOk result (λ b. b ≡ false) }
     ensures fault { IfErr result (λ e. (e ≡ fault) × (e ≢ Memory)) }
@@ -57,23 +56,22 @@ fn given_up(fault: TokenFault) -> Result<bool, TokenFault>
     }
 }
 
-/// Passes over the member that comes next, if no rule can find anything in it, and returns whether
-/// it did; else the place stays.
+/// Skips the next member if it is clean, and returns whether it did; else the place stays.
 ///
 /// # Errors
 ///
-/// That of the parser at the member, if it has one, and no rule may find anything before it.
-pub fn skip_quiet_member(
+/// That of the parser at the member, if it has one, and nothing before it is suspect.
+pub fn skip_clean_member(
     alloc: Global,
     scanned: &Scanned<'_>,
     at: &mut u32,
 ) -> Result<bool, TokenFault>
-    ensures passed { result ≡ Ok true → IsQuietMember scanned.now.pairs at.old at.new }
+    ensures passed { result ≡ Ok true → IsCleanMember scanned.now.pairs at.old at.new }
     ensures stays { result ≡ Ok false → at.new ≡ at.old }
     ensures fault { IfErr result (λ e. IsMemberFault scanned.now.pairs at.old e) }
 {
     let mut past = *at;
-    match is_quiet_member(alloc, scanned, &mut past) {
+    match is_clean_member(alloc, scanned, &mut past) {
         Ok(true) => {
             *at = past;
             Ok(true)

@@ -1,5 +1,5 @@
 mod MemberAnswers
-mod QuietMemberLemmas
+mod CleanMemberLemmas
 mod TokenLemmas
 mod BodyLemmas
 mod FileLemmas

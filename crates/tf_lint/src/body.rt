@@ -96,7 +96,7 @@ fn add_member(
     }
 }
 
-/// After this number of members in a row in which something was found, it is likely in the next one.
+/// After this number of members in a row with findings, one is likely in the next.
 const LIKELY: u32 = 2;
 
 /// Returns how many members in a row have findings, with one more after this number of them.

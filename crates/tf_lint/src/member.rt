@@ -10,7 +10,7 @@ ghost use Rattle.hcl_grammar.specs.declared.bounds.TheConstants.{MAX_NESTING};
 ghost use Rattle.hcl_scan.specs.Follows.{tokens_of};
 ghost use Rattle.tf_rules.specs.Preorder as node;
 ghost use Rattle.tf_findings.specs.TreeFindings.{AreTreeFindings};
-ghost use Rattle.tf_glance.specs.QuietMember.{IsQuietMember, IsMemberFault};
+ghost use Rattle.tf_glance.specs.CleanMember.{IsCleanMember, IsMemberFault};
 ghost use Rattle.tf_reuse.specs.SameTokens.{SameTokens};
 ghost use Rattle.tf_lint.specs.Inner.BodyFindings.{IsNextMember};
 ghost use Rattle.tf_lint.specs.LintedMembers.{IsLintedMember, AreLintedMembers};
@@ -26,7 +26,7 @@ use hcl_scan::Scanned;
 use hcl_tree::MAX_NESTING;
 use hcl_tree::reading::{Reader, member};
 use std::alloc::{AllocError, Global};
-use tf_glance::skip_quiet_member;
+use tf_glance::skip_clean_member;
 use tf_reuse::renumber_findings;
 use tf_rules::{Finding, RuleSet};
 use tf_rules_laws::laws::unchanged_members_keep_findings;
@@ -93,9 +93,8 @@ fn lint_member(
     })
 }
 
-/// Returns a member without findings that was skipped from token `from` up to token `past`
-/// (exclusive).
-fn quiet_member(alloc: Global, from: u32, past: u32) -> LintedMember
+/// Returns a clean member that was skipped from token `from` up to token `past` (exclusive).
+fn clean_member(alloc: Global, from: u32, past: u32) -> LintedMember
     ensures from { result.from ≡ from }
     ensures past { result.past ≡ past }
     ensures nodes { result.node_findings.items ≡ [] }
@@ -109,27 +108,27 @@ fn quiet_member(alloc: Global, from: u32, past: u32) -> LintedMember
     }
 }
 
-/// Skips the next member if a glance sees nothing for a rule to find in it, and returns whether it
-/// did; else the place stays. Where something is likely to be found no glance is taken.
+/// Skips the next member if it is clean, and returns whether it did; else the place stays. Where a
+/// finding is likely the member is not looked at.
 fn skip_unlikely_member(
     alloc: Global,
     scanned: &Scanned<'_>,
     is_likely: bool,
     at: &mut u32,
 ) -> Result<bool, TokenFault>
-    ensures passed { result ≡ Ok true → IsQuietMember scanned.now.pairs at.old at.new }
+    ensures passed { result ≡ Ok true → IsCleanMember scanned.now.pairs at.old at.new }
     ensures stays { result ≡ Ok false → at.new ≡ at.old }
     ensures fault { IfErr result (λ e. IsMemberFault scanned.now.pairs at.old e) }
 {
     if is_likely {
         return Ok(false);
     }
-    skip_quiet_member(alloc, scanned, at)
+    skip_clean_member(alloc, scanned, at)
 }
 
 /// Reads the next member from token `at` on and returns it with its findings, or `None` if there is
-/// none. Moves `at` to the end of what was read. No tree is made of a member in which a glance sees
-/// nothing for a rule to find.
+/// none. Moves `at` to the end of what was read. No tree is made of a clean member, unless a finding
+/// was likely.
 fn lint_next_member(
     alloc: Global,
     scanned: &Scanned<'_>,
@@ -145,7 +144,7 @@ fn lint_next_member(
 {
     let from = *at;
     if skip_unlikely_member(alloc, scanned, is_likely, at)? {
-        return Ok(Some(quiet_member(alloc, from, *at)));
+        return Ok(Some(clean_member(alloc, from, *at)));
     }
     let Some(x) = member(&Reader::new(alloc, scanned), at)? else {
         return Ok(None);
@@ -240,8 +239,7 @@ fn reuse_member_at(
 }
 
 /// Returns the next member, if there is one: that of the old text with this index, if its tokens
-/// are here, else as it is read. For speed alone it is said whether a rule is likely to find
-/// something in it.
+/// are here, else as it is read. For speed alone it is given whether a finding is likely in it.
 ///
 /// # Errors
 ///

@@ -5,7 +5,7 @@ use Rattle.hcl_grammar.specs.Pure.NodeMakers.{nodes}
 use Rattle.hcl_grammar.specs.declared.bounds.TheConstants.{MAX_NESTING}
 use Rattle.hcl_scan.specs.Follows.{tokens_of}
 use Rattle.tf_lint.proofs.MemberAnswers.{member_derives}
-use Rattle.tf_lint.proofs.QuietMemberLemmas.{quiet_next}
+use Rattle.tf_lint.proofs.CleanMemberLemmas.{clean_next}
 use Rattle.tf_lint.proofs.member.lint_next_member.Goals as goal
 
 pub returns-clause-next : goal.returns-clause-next
@@ -29,5 +29,5 @@ returns-clause-next c =
 pub returns-then-branch-clause-next : goal.returns-then-branch-clause-next
 returns-then-branch-clause-next c =
     let passed : c.skip_unlikely_member.result ≡ Ok true = first_of (search rules, cc) in
-    let made = c.quiet_member.ensures in
-    quiet_next c.args.rules c.args.scanned.now.pairs c.args.at.now c.skip_unlikely_member.new.at c.quiet_member.result (c.skip_unlikely_member.ensures.passed passed) made.from made.past made.nodes made.blocks
+    let made = c.clean_member.ensures in
+    clean_next c.args.rules c.args.scanned.now.pairs c.args.at.now c.skip_unlikely_member.new.at c.clean_member.result (c.skip_unlikely_member.ensures.passed passed) made.from made.past made.nodes made.blocks

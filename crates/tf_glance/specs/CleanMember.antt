@@ -1,4 +1,4 @@
--- An attribute or a block in which no rule finds anything.
+-- A clean member: an attribute or a block in which no rule finds anything.
 use Rattle.std.specs.Prelude.{◌≡◌, ℕ, List, [], ◌∷◌, Some, Ok, Err}
 use Rattle.hcl_grammar.specs.Pure.BodyParser.{deeper_members, member_of}
 use Rattle.hcl_grammar.specs.Pure.NodeMakers.{nodes}
@@ -13,7 +13,7 @@ use Rattle.tf_rules.specs.Rules.{top_level_member_findings}
 use Rattle.tf_rules.specs.declared.rule_set.RuleSet.{RuleSet}
 
 -- the parser reads a member between these places, and nothing is found at its nodes or at itself
-pub record IsQuietMember (pairs : List Pair) (from past : ℕ) : Type 0 where
+pub record IsCleanMember (pairs : List Pair) (from past : ℕ) : Type 0 where
   pub member : Member
   pub answer : member_of nodes (tokens_of pairs) MAX_NESTING (deeper_members nodes (tokens_of pairs) MAX_NESTING) from
       ≡ Ok (Some member, past)

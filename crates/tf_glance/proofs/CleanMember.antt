@@ -1,4 +1,4 @@
--- What the parser that makes what is seen says of the member that the other one makes.
+-- What the parser that makes summaries says of the member that the one with nodes makes.
 use Rattle.std.proofs.Common.{◌≡◌, ◌≢◌, ℕ, true, false, List, Option, Some, None, Result, Ok, Err, refl, ap, subst}
 use Rattle.hcl_grammar.specs.Pure.BodyParser as g
 use Rattle.hcl_grammar.specs.Pure.NodeMakers.{nodes}
@@ -15,12 +15,12 @@ use Rattle.hcl_token.specs.Tokens.{Pair}
 use Rattle.tf_glance.proofs.Bodies.{MemberOf}
 use Rattle.tf_glance.proofs.Expressions.{left, right}
 use Rattle.tf_glance.proofs.Free.{one, tree_findings}
-use Rattle.tf_glance.proofs.Respects.{seen_of, respects}
-use Rattle.tf_glance.specs.Glance.{glance}
-use Rattle.tf_glance.specs.QuietMember.{IsQuietMember, IsMemberFault}
-use Rattle.tf_glance.specs.Seen.{is_without_findings}
-use Rattle.tf_glance.specs.declared.seen.Lines.{Lines}
-use Rattle.tf_glance.specs.declared.word.Word.{Word}
+use Rattle.tf_glance.proofs.Respects.{summarizes, respects}
+use Rattle.tf_glance.specs.SummaryMakers.{summaries}
+use Rattle.tf_glance.specs.CleanMember.{IsCleanMember, IsMemberFault}
+use Rattle.tf_glance.specs.Summary.{is_without_findings}
+use Rattle.tf_glance.specs.declared.summary.BodyContent.{BodyContent}
+use Rattle.tf_glance.specs.declared.block_type.BlockType.{BlockType}
 use Rattle.tf_rules.specs.Preorder.{member}
 
 own : (e : TokenFault) → e ≢ Memory → IsOwn true e
@@ -50,33 +50,33 @@ module _ {A B : Type 0} (R : A → B → Type 0) where
   failed (read h) f e = absurd (cc)
   failed (fault {e = d} other) f e = let same : d ≡ f = cc in ap (λ (d : TokenFault). Err d) same
 
-module _ (pairs : List Pair) (seen_as : Word) (from : ℕ) where
-  -- what is read with what is seen
-  abbrev glanced : ReaderState → Outcome (Option Lines)
-  glanced t = g.member_of (glance pairs seen_as) t.tokens t.depth (g.deeper_members (glance pairs seen_as) t.tokens t.depth) from
+module _ (pairs : List Pair) (assumed : BlockType) (from : ℕ) where
+  -- what the parser that makes summaries reads
+  abbrev summarized : ReaderState → Outcome (Option BodyContent)
+  summarized t = g.member_of (summaries pairs assumed) t.tokens t.depth (g.deeper_members (summaries pairs assumed) t.tokens t.depth) from
 
   -- as a text is read from its start on
   abbrev whole : ReaderState
   whole = record { tokens = tokens_of pairs; skip_newlines = false; depth = MAX_NESTING }
 
-  alike : Alike (InSome (MemberOf pairs seen_as)) (glanced whole) (g.member_of nodes (tokens_of pairs) MAX_NESTING (g.deeper_members nodes (tokens_of pairs) MAX_NESTING) from)
-  alike = fold.member (glance pairs seen_as) nodes (seen_of pairs seen_as) (respects pairs seen_as) (tokens_of pairs) MAX_NESTING from
+  alike : Alike (InSome (MemberOf pairs assumed)) (summarized whole) (g.member_of nodes (tokens_of pairs) MAX_NESTING (g.deeper_members nodes (tokens_of pairs) MAX_NESTING) from)
+  alike = fold.member (summaries pairs assumed) nodes (summarizes pairs assumed) (respects pairs assumed) (tokens_of pairs) MAX_NESTING from
 
-  yields : (t : ReaderState) → t ≡ whole → (r q : Result (Option Lines) TokenFault) (past : ℕ) → r ≡ q → Yields true (glanced t) r past → Yields true (glanced whole) q past
-  yields t e r q past is h = subst (λ (t : ReaderState). Yields true (glanced t) q past) e (subst (λ (r : Result (Option Lines) TokenFault). Yields true (glanced t) r past) is h)
+  yields : (t : ReaderState) → t ≡ whole → (r q : Result (Option BodyContent) TokenFault) (past : ℕ) → r ≡ q → Yields true (summarized t) r past → Yields true (summarized whole) q past
+  yields t e r q past is h = subst (λ (t : ReaderState). Yields true (summarized t) q past) e (subst (λ (r : Result (Option BodyContent) TokenFault). Yields true (summarized t) r past) is h)
 
-  pub quiet : (t : ReaderState) → t ≡ whole → (r : Result (Option Lines) TokenFault) (x : Lines) (past : ℕ) → r ≡ Ok (Some x) → Yields true (glanced t) r past → is_without_findings x ≡ true → IsQuietMember pairs from past
-  quiet t e r x past is h w =
-      let s = passed (MemberOf pairs seen_as) alike x past (yields t e r (Ok (Some x)) past is h) in
-      let known = s.related (left x.quiet x.complete w) in
+  pub clean : (t : ReaderState) → t ≡ whole → (r : Result (Option BodyContent) TokenFault) (x : BodyContent) (past : ℕ) → r ≡ Ok (Some x) → Yields true (summarized t) r past → is_without_findings x ≡ true → IsCleanMember pairs from past
+  clean t e r x past is h w =
+      let s = passed (MemberOf pairs assumed) alike x past (yields t e r (Ok (Some x)) past is h) in
+      let known = s.related (left x.clean x.complete w) in
       record {
         member = s.value;
         answer = s.answer;
         at_nodes = λ rules. tree_findings rules (one (member s.value) known.0);
-        at_block = known.2 (right x.quiet x.complete w);
+        at_block = known.2 (right x.clean x.complete w);
       }
 
-  pub failing : (t : ReaderState) → t ≡ whole → (r : Result (Option Lines) TokenFault) (f : TokenFault) (past : ℕ) → r ≡ Err f → Yields true (glanced t) r past → f ≢ Memory → IsMemberFault pairs from f
+  pub failing : (t : ReaderState) → t ≡ whole → (r : Result (Option BodyContent) TokenFault) (f : TokenFault) (past : ℕ) → r ≡ Err f → Yields true (summarized t) r past → f ≢ Memory → IsMemberFault pairs from f
   failing t e r f past is h other =
-      let err : Yields true (glanced whole) (Err f) past = yields t e r (Err f) past is h in
-      failed (MemberOf pairs seen_as) alike f (err (own f other))
+      let err : Yields true (summarized whole) (Err f) past = yields t e r (Err f) past is h in
+      failed (MemberOf pairs assumed) alike f (err (own f other))

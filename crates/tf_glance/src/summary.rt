@@ -1,16 +1,16 @@
-//! What is seen of the nodes of a text: of each, whether a rule may find something in it, and what
-//! the rules on the nodes around it need.
+//! Summaries of nodes: of each, whether it is clean or suspect, and what the rules on the nodes
+//! around it need. A node is clean if no rule finds anything in it, suspect if one may.
 
 ghost use Rattle.std.specs.Prelude.{◌≡◌, IfOk};
-ghost use Rattle.tf_glance.specs.Seen as spec;
+ghost use Rattle.tf_glance.specs.Summary as spec;
 
 use std::alloc::AllocError;
 
-/// An expression, or a term.
+/// The summary of an expression, or of a term.
 #[derive(Clone, Copy)]
 pub enum Value {
     /// A rule may find something in it.
-    Loud,
+    Suspect,
     /// Neither `[]` nor `""`.
     Plain,
     /// It may be `[]`.
@@ -23,7 +23,7 @@ pub enum Value {
 #[derive(Clone, Copy)]
 pub enum Count {
     /// A rule may find something in one.
-    Loud,
+    Suspect,
     Zero,
     One,
     Two,
@@ -31,21 +31,21 @@ pub enum Count {
     Many,
 }
 
-/// A part of a template.
+/// The summary of a part of a template.
 #[derive(Clone, Copy)]
 pub enum Piece {
     /// A rule may find something in it.
-    Loud,
+    Suspect,
     /// It is no interpolation.
     Other,
     Interpolation,
 }
 
-/// The parts of a template.
+/// The summary of the parts of a template.
 #[derive(Clone, Copy)]
 pub enum Pieces {
     /// A rule may find something in one.
-    Loud,
+    Suspect,
     Empty,
     /// One interpolation, and nothing else.
     Sole,
@@ -53,11 +53,11 @@ pub enum Pieces {
     Mixed,
 }
 
-/// Some attributes and blocks.
+/// The summary of some attributes and blocks.
 #[derive(Clone, Copy)]
-pub struct Lines {
+pub struct BodyContent {
     /// No rule on nodes finds anything in them.
-    pub quiet: bool,
+    pub clean: bool,
     /// It is an attribute, or a block at which no rule on blocks finds anything.
     pub complete: bool,
     /// There is an attribute `type`, if such are looked for.
@@ -69,33 +69,33 @@ pub struct Lines {
 impl Value {
     /// Whether no rule finds anything in it.
     #[inline(always)]
-    pub fn is_quiet(self) -> bool
-        ensures { result ≡ spec.is_quiet self }
+    pub fn is_clean(self) -> bool
+        ensures { result ≡ spec.is_clean self }
     {
         match self {
-            Value::Loud => false,
+            Value::Suspect => false,
             _ => true,
         }
     }
 
     /// Whether no rule finds anything in it as an operand of an operator.
     #[inline(always)]
-    pub fn is_quiet_operand(self) -> bool
-        ensures { result ≡ spec.is_quiet_operand self }
+    pub fn is_clean_operand(self) -> bool
+        ensures { result ≡ spec.is_clean_operand self }
     {
         match self {
-            Value::Loud | Value::EmptyList => false,
+            Value::Suspect | Value::EmptyList => false,
             _ => true,
         }
     }
 
     /// Whether no rule finds anything in it as a description.
     #[inline(always)]
-    pub fn is_quiet_description(self) -> bool
-        ensures { result ≡ spec.is_quiet_description self }
+    pub fn is_clean_description(self) -> bool
+        ensures { result ≡ spec.is_clean_description self }
     {
         match self {
-            Value::Loud | Value::EmptyText => false,
+            Value::Suspect | Value::EmptyText => false,
             _ => true,
         }
     }
@@ -103,12 +103,12 @@ impl Value {
 
 /// Whether no rule finds anything in an expression, if there is one.
 #[inline(always)]
-pub fn is_quiet_option(value: Option<Value>) -> bool
-    ensures { result ≡ spec.is_quiet_option value }
+pub fn is_clean_option(value: Option<Value>) -> bool
+    ensures { result ≡ spec.is_clean_option value }
 {
     match value {
         None => true,
-        Some(value) => value.is_quiet(),
+        Some(value) => value.is_clean(),
     }
 }
 
@@ -116,12 +116,12 @@ pub fn is_quiet_option(value: Option<Value>) -> bool
 ///
 /// # Errors
 ///
-/// If a rule may find something in it: no more has to be seen.
+/// If it is suspect: no more has to be read.
 #[inline(always)]
-pub fn plain_if(is_quiet: bool) -> Result<Value, AllocError>
-    ensures { IfOk result (λ s. s ≡ spec.plain_if is_quiet) }
+pub fn plain_if(is_clean: bool) -> Result<Value, AllocError>
+    ensures { IfOk result (λ s. s ≡ spec.plain_if is_clean) }
 {
-    if is_quiet {
+    if is_clean {
         Ok(Value::Plain)
     } else {
         Err(AllocError)
@@ -131,11 +131,11 @@ pub fn plain_if(is_quiet: bool) -> Result<Value, AllocError>
 impl Count {
     /// Whether no rule finds anything in them.
     #[inline(always)]
-    pub fn is_quiet(self) -> bool
-        ensures { result ≡ spec.is_quiet_count self }
+    pub fn is_clean(self) -> bool
+        ensures { result ≡ spec.is_clean_count self }
     {
         match self {
-            Count::Loud => false,
+            Count::Suspect => false,
             _ => true,
         }
     }
@@ -157,7 +157,7 @@ impl Count {
         ensures { result ≡ spec.next_count self }
     {
         match self {
-            Count::Loud => Count::Loud,
+            Count::Suspect => Count::Suspect,
             Count::Zero => Count::One,
             Count::One => Count::Two,
             Count::Two => Count::Many,
@@ -170,12 +170,12 @@ impl Count {
 ///
 /// # Errors
 ///
-/// If a rule may find something in it: no more has to be seen.
+/// If it is suspect: no more has to be read.
 #[inline(always)]
-pub fn add_one(count: Count, is_quiet: bool) -> Result<Count, AllocError>
-    ensures { IfOk result (λ s. s ≡ spec.add_one count is_quiet) }
+pub fn add_one(count: Count, is_clean: bool) -> Result<Count, AllocError>
+    ensures { IfOk result (λ s. s ≡ spec.add_one count is_clean) }
 {
-    if is_quiet {
+    if is_clean {
         Ok(count.next())
     } else {
         Err(AllocError)
@@ -186,13 +186,13 @@ pub fn add_one(count: Count, is_quiet: bool) -> Result<Count, AllocError>
 ///
 /// # Errors
 ///
-/// If a rule may find something in it: no more has to be seen.
+/// If it is suspect: no more has to be read.
 #[inline(always)]
 fn first_operand(value: Value) -> Result<Value, AllocError>
     ensures { IfOk result (λ s. s ≡ spec.first_operand value) }
 {
     match value {
-        Value::Loud => Err(AllocError),
+        Value::Suspect => Err(AllocError),
         Value::Plain => Ok(Value::Plain),
         Value::EmptyList => Err(AllocError),
         Value::EmptyText => Ok(Value::EmptyText),
@@ -203,13 +203,13 @@ fn first_operand(value: Value) -> Result<Value, AllocError>
 ///
 /// # Errors
 ///
-/// If a rule may find something in it: no more has to be seen.
+/// If it is suspect: no more has to be read.
 #[inline(always)]
 pub fn chain(head: Value, operations: Count) -> Result<Value, AllocError>
     ensures { IfOk result (λ s. s ≡ spec.chain head operations) }
 {
     match operations {
-        Count::Loud => Err(AllocError),
+        Count::Suspect => Err(AllocError),
         Count::Zero => Ok(head),
         _ => first_operand(head),
     }
@@ -221,7 +221,7 @@ pub fn tuple(elements: Count) -> Value
     ensures { result ≡ spec.tuple elements }
 {
     match elements {
-        Count::Loud => Value::Loud,
+        Count::Suspect => Value::Suspect,
         Count::Zero => Value::EmptyList,
         _ => Value::Plain,
     }
@@ -230,11 +230,11 @@ pub fn tuple(elements: Count) -> Value
 impl Pieces {
     /// Whether no rule finds anything in them.
     #[inline(always)]
-    pub fn is_quiet(self) -> bool
-        ensures { result ≡ spec.is_quiet_pieces self }
+    pub fn is_clean(self) -> bool
+        ensures { result ≡ spec.is_clean_pieces self }
     {
         match self {
-            Pieces::Loud => false,
+            Pieces::Suspect => false,
             _ => true,
         }
     }
@@ -245,14 +245,14 @@ impl Pieces {
         ensures { result ≡ spec.add_piece self piece }
     {
         match self {
-            Pieces::Loud => Pieces::Loud,
+            Pieces::Suspect => Pieces::Suspect,
             Pieces::Empty => match piece {
-                Piece::Loud => Pieces::Loud,
+                Piece::Suspect => Pieces::Suspect,
                 Piece::Other => Pieces::Mixed,
                 Piece::Interpolation => Pieces::Sole,
             },
             _ => match piece {
-                Piece::Loud => Pieces::Loud,
+                Piece::Suspect => Pieces::Suspect,
                 _ => Pieces::Mixed,
             },
         }
@@ -261,12 +261,12 @@ impl Pieces {
 
 /// Whether no rule finds anything in a template, if there is one.
 #[inline(always)]
-pub fn is_quiet_template_option(template: Option<Pieces>) -> bool
-    ensures { result ≡ spec.is_quiet_pieces_option template }
+pub fn is_clean_template_option(template: Option<Pieces>) -> bool
+    ensures { result ≡ spec.is_clean_pieces_option template }
 {
     match template {
         None => true,
-        Some(template) => template.is_quiet(),
+        Some(template) => template.is_clean(),
     }
 }
 
@@ -274,13 +274,13 @@ pub fn is_quiet_template_option(template: Option<Pieces>) -> bool
 ///
 /// # Errors
 ///
-/// If a rule may find something in it: no more has to be seen.
+/// If it is suspect: no more has to be read.
 #[inline(always)]
 pub fn quoted(template: Pieces) -> Result<Value, AllocError>
     ensures { IfOk result (λ s. s ≡ spec.quoted template) }
 {
     match template {
-        Pieces::Loud | Pieces::Sole => Err(AllocError),
+        Pieces::Suspect | Pieces::Sole => Err(AllocError),
         Pieces::Empty => Ok(Value::EmptyText),
         Pieces::Mixed => Ok(Value::Plain),
     }
@@ -290,12 +290,12 @@ pub fn quoted(template: Pieces) -> Result<Value, AllocError>
 ///
 /// # Errors
 ///
-/// If a rule may find something in it: no more has to be seen.
+/// If it is suspect: no more has to be read.
 #[inline(always)]
-pub fn interpolation(is_quiet: bool) -> Result<Piece, AllocError>
-    ensures { IfOk result (λ s. s ≡ spec.interpolation is_quiet) }
+pub fn interpolation(is_clean: bool) -> Result<Piece, AllocError>
+    ensures { IfOk result (λ s. s ≡ spec.interpolation is_clean) }
 {
-    if is_quiet {
+    if is_clean {
         Ok(Piece::Interpolation)
     } else {
         Err(AllocError)
@@ -306,35 +306,35 @@ pub fn interpolation(is_quiet: bool) -> Result<Piece, AllocError>
 ///
 /// # Errors
 ///
-/// If a rule may find something in it: no more has to be seen.
+/// If it is suspect: no more has to be read.
 #[inline(always)]
-pub fn directive(is_quiet: bool) -> Result<Piece, AllocError>
-    ensures { IfOk result (λ s. s ≡ spec.directive is_quiet) }
+pub fn directive(is_clean: bool) -> Result<Piece, AllocError>
+    ensures { IfOk result (λ s. s ≡ spec.directive is_clean) }
 {
-    if is_quiet {
+    if is_clean {
         Ok(Piece::Other)
     } else {
         Err(AllocError)
     }
 }
 
-impl Lines {
+impl BodyContent {
     /// Whether no rule finds anything in it, or at it.
     #[inline(always)]
     pub fn is_without_findings(self) -> bool
         ensures { result ≡ spec.is_without_findings self }
     {
-        self.quiet && self.complete
+        self.clean && self.complete
     }
 }
 
 /// Returns no attributes and blocks.
 #[inline(always)]
-pub fn no_lines() -> Lines
-    ensures { result ≡ spec.no_lines }
+pub fn no_content() -> BodyContent
+    ensures { result ≡ spec.no_content }
 {
-    Lines {
-        quiet: true,
+    BodyContent {
+        clean: true,
         complete: true,
         typed: false,
         described: false,
@@ -345,17 +345,17 @@ pub fn no_lines() -> Lines
 ///
 /// # Errors
 ///
-/// If a rule may find something in them: no more has to be seen.
+/// If they are suspect: no more has to be read.
 #[inline(always)]
-pub fn joined(lines: Lines, more: Lines) -> Result<Lines, AllocError>
-    ensures { IfOk result (λ s. s ≡ spec.joined lines more) }
+pub fn joined(content: BodyContent, more: BodyContent) -> Result<BodyContent, AllocError>
+    ensures { IfOk result (λ s. s ≡ spec.joined content more) }
 {
-    if lines.quiet && more.quiet {
-        Ok(Lines {
-            quiet: true,
+    if content.clean && more.clean {
+        Ok(BodyContent {
+            clean: true,
             complete: true,
-            typed: lines.typed || more.typed,
-            described: lines.described || more.described,
+            typed: content.typed || more.typed,
+            described: content.described || more.described,
         })
     } else {
         Err(AllocError)
