@@ -17,7 +17,7 @@ use Rattle.tf_fix.specs.declared.parsed.Parsed.{Parsed}
 use Rattle.tf_rules.specs.SingleRule.{only}
 use Rattle.tf_fix.specs.ParsedTexts.{IsParseOf}
 use Rattle.tf_fix.specs.OneStep.{step_text_of}
-use Rattle.tf_lint.specs.Steps.{IsRemainingCount, Steps, prepend_step, StepBreaks, RunSteps, fix_order, IsSquashOfAll, Rewrite, Fixes, Breaks, FixIsUnique}
+use Rattle.tf_lint.specs.Steps.{IsRemainingCount, Steps, prepend_step, StepBreaks, RunSteps, fix_order, IsSquashOfAll, Rewrite, FixesText, Fixes, Breaks, FixIsUnique}
 use Rattle.tf_lint.specs.Inner.FirstChange.{FoundThen, StepThen, RunsInOrder}
 use Rattle.tf_lint.proofs.DoesNotParse.{TokensAreUnique, parses_of, same_scanned}
 use Rattle.tf_lint.proofs.RunsInOrder.{from_steps}
@@ -113,16 +113,26 @@ module _ (unique_tokens : TokensAreUnique) (one_parse : OneParse) (one_found : F
   same_left : (rules : RuleSet) (p : Parsed) (m n : ℕ) → IsRemainingCount rules p m → IsRemainingCount rules p n → m ≡ n
   same_left rules p m n v w = v.2 ∙ ap (λ (fs : List Finding). length fs) (one_found rules p.scanned.pairs p.tree.body.members v.0 w.0 v.1 w.1) ∙ sym w.2
 
-  unchanged_rewrite : (rules : RuleSet) (text : List ℕ) (a b : Rewrite) → Fixes rules text a → Fixes rules text b → a ≡ b
-  unchanged_rewrite rules text a b p q =
+  same_all_steps : (rules : RuleSet) (text : List ℕ) (a b : Rewrite) (p : FixesText rules text a) (q : FixesText rules text b) → p.steps ≡ q.steps
+  same_all_steps rules text a b p q =
       let e : ◌≡◌ {A = Result Steps FixFault} (Ok p.steps) (Ok q.steps) = same_runs rules text p.parsed q.parsed (Ok p.steps) (Ok q.steps) p.reads q.reads p.runs q.runs in
-      let steps : p.steps ≡ q.steps = cc in
+      cc
+
+  same_text_made : (rules : RuleSet) (text : List ℕ) (a b : Rewrite) → FixesText rules text a → FixesText rules text b → (a.text ≡ b.text) × (a.fixed ≡ b.fixed) × (a.left ≡ b.left)
+  same_text_made rules text a b p q =
+      let steps = same_all_steps rules text a b p q in
       let texts : a.text ≡ b.text = p.text_is ∙ ap (λ (s : Steps). s.text) steps ∙ sym q.text_is in
-      let lists : IsSquashOfAll (length text) p.steps.lists b.edits = subst (λ (s : Steps). IsSquashOfAll (length text) s.lists b.edits) (sym steps) q.edits_are in
-      let edits : a.edits ≡ b.edits = one_list (length text) p.steps.lists a.edits b.edits p.edits_are lists in
       let fixed : a.fixed ≡ b.fixed = p.fixed_is ∙ ap (λ (s : Steps). s.fixed) steps ∙ sym q.fixed_is in
       let read = same_read a.text q.new_parsed p.new_parsed (subst (λ (t : List ℕ). IsParseOf t q.new_parsed) (sym texts) q.new_reads) p.new_reads in
       let left : a.left ≡ b.left = same_left rules p.new_parsed a.left b.left p.left_is (subst (λ (c : Parsed). IsRemainingCount rules c b.left) read q.left_is) in
+      (texts, fixed, left)
+
+  same_made : (rules : RuleSet) (text : List ℕ) (a b : Rewrite) → Fixes rules text a → Fixes rules text b → a ≡ b
+  same_made rules text a b p q =
+      let lists_of : Steps → Type 0 = λ s. IsSquashOfAll (length text) s.lists b.edits in
+      let lists : lists_of p.fixes_text.steps = subst lists_of (sym (same_all_steps rules text a b p.fixes_text q.fixes_text)) q.edits_are in
+      let edits : a.edits ≡ b.edits = one_list (length text) p.fixes_text.steps.lists a.edits b.edits p.edits_are lists in
+      let (texts, fixed, left) = same_text_made rules text a b p.fixes_text q.fixes_text in
       one_made a b texts edits fixed left
 
   same_fault : (rules : RuleSet) (text : List ℕ) (f g : FixFault) → Breaks rules text f → Breaks rules text g → f ≡ g
@@ -130,10 +140,10 @@ module _ (unique_tokens : TokensAreUnique) (one_parse : OneParse) (one_found : F
       let e : ◌≡◌ {A = Result Steps FixFault} (Err f) (Err g) = same_runs rules text v.0 w.0 (Err f) (Err g) v.1 w.1 v.2 w.2 in
       cc
 
-  made_or_broken : (rules : RuleSet) (text : List ℕ) (made : Rewrite) (f : FixFault) → Fixes rules text made → Breaks rules text f → ⊥
+  made_or_broken : (rules : RuleSet) (text : List ℕ) (made : Rewrite) (f : FixFault) → FixesText rules text made → Breaks rules text f → ⊥
   made_or_broken rules text made f p w =
       let e : Ok p.steps ≡ Err f = same_runs rules text p.parsed w.0 (Ok p.steps) (Err f) p.reads w.1 p.runs w.2 in
       cc
 
   pub one_fix : (rules : RuleSet) (text : List ℕ) → FixIsUnique rules text
-  one_fix rules text = record { made = unchanged_rewrite rules text; broken = same_fault rules text; exclusive = made_or_broken rules text }
+  one_fix rules text = record { made = same_made rules text; made_text = same_text_made rules text; broken = same_fault rules text; exclusive = made_or_broken rules text }

@@ -21,7 +21,7 @@ use Rattle.tf_lint.specs.declared.steps.FirstChange.TheVariants.{NoChange, Chang
 use Rattle.tf_fix.specs.ParsedTexts.{IsParseOf}
 use Rattle.tf_lint.specs.ParseFaults.{DoesNotParse, IsUtf8WithinLimit, IsReadFault}
 use Rattle.tf_fix.specs.OneStep.{RulesFind, step_text_of}
-use Rattle.tf_lint.specs.Steps.{texts_differ, Steps, RunSteps, Rewrite, Fixes, Refuses}
+use Rattle.tf_lint.specs.Steps.{texts_differ, Steps, RunSteps, Rewrite, FixesText, Fixes, Refuses}
 use Rattle.tf_lint.specs.Inner.FirstChange.{FoundThen, StepThen, RunsInOrder, has_step, RunFixable, IsChange, IsStep, IsFirstChange, FixesFrom, RefusesFrom}
 use Rattle.tf_lint.proofs.RunsInOrder.{to_steps}
 
@@ -188,36 +188,37 @@ pub none_changed : (rules : RuleSet) (text : List ℕ) (p : Parsed) (fixed : ℕ
     → Fixes rules text (record { text = text; edits = record { old_len = length text; entries = [] }; fixed = fixed; left = length found })
 none_changed rules text p fixed found reads finds (n, number, runs) =
     let steps : Steps = record { text = p.scanned.text; lists = []; fixed = n } in
-    record {
+    let made : Rewrite = record { text = text; edits = record { old_len = length text; entries = [] }; fixed = fixed; left = length found } in
+    let of_text : FixesText rules text made = record {
       parsed = p;
       reads = reads;
       steps = steps;
       runs = run_is rules all_rules p (Ok steps) runs;
       text_is = sym reads.0;
-      edits_are = refl;
       fixed_is = omega (arith, number);
       new_parsed = p;
       new_reads = reads;
       left_is = (found, finds, refl);
-    }
+    } in
+    record { fixes_text = of_text; edits_are = refl }
 
 pub all_fixed : (rules : RuleSet) (text : List ℕ) (p : Parsed) (fixed : ℕ) (change : NewText) (by : Rule) (rest : Bor (List Rule)) (made : Rewrite)
     → IsParseOf text p → IsFirstChange rules all_rules p 0 (Changed fixed change by rest) → FixesFrom rules rest.now change.text.items change.edits fixed made → Fixes rules text made
 all_fixed rules text p fixed change by rest made reads (n, number, few, shorter, turns, on, off, unread_after) f =
     let more = f.fixed_is in
     let steps : Steps = record { text = f.steps.text; lists = change.edits ∷ f.steps.lists; fixed = n + f.steps.fixed } in
-    record {
+    let of_text : FixesText rules text made = record {
       parsed = p;
       reads = reads;
       steps = steps;
       runs = run_is rules all_rules p (Ok steps) (on f.parsed f.steps f.reads f.runs);
       text_is = f.text_is;
-      edits_are = f.edits_are;
       fixed_is = omega (arith, number, more);
       new_parsed = f.new_parsed;
       new_reads = f.new_reads;
       left_is = f.left_is;
-    }
+    } in
+    record { fixes_text = of_text; edits_are = f.edits_are }
 
 -- a text that is read was looked into
 memory_at : (text : List ℕ) (p : Parsed) (fault : FixFault) → IsParseOf text p → fault ≡ Memory → IsReadFault text fault

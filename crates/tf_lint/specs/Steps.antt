@@ -108,18 +108,22 @@ pub record Rewrite : Type 0 where
   pub fixed : ℕ
   pub left : ℕ
 
--- what a fix by these rules makes of a text that parses
-pub record Fixes (rules : RuleSet) (text : List ℕ) (made : Rewrite) : Type 0 where
+-- what a fix by these rules makes of a text that parses, whatever its edits are
+pub record FixesText (rules : RuleSet) (text : List ℕ) (made : Rewrite) : Type 0 where
   pub parsed : Parsed
   pub reads : IsParseOf text parsed
   pub steps : Steps
   pub runs : RunSteps rules fix_order parsed (Ok steps)
   pub text_is : made.text ≡ steps.text
-  pub edits_are : IsSquashOfAll (length text) steps.lists made.edits
   pub fixed_is : made.fixed ≡ steps.fixed
   pub new_parsed : Parsed
   pub new_reads : IsParseOf made.text new_parsed
   pub left_is : IsRemainingCount rules new_parsed made.left
+
+-- that, and its edits are those of all steps as one list
+pub record Fixes (rules : RuleSet) (text : List ℕ) (made : Rewrite) : Type 0 where
+  pub fixes_text : FixesText rules text made
+  pub edits_are : IsSquashOfAll (length text) fixes_text.steps.lists made.edits
 
 -- a step of the fix can't be done
 abbrev pub Breaks : RuleSet → List ℕ → FixFault → Type 0
@@ -133,5 +137,7 @@ Refuses rules text fault = IsReadFault text fault ⊎ Breaks rules text fault
 -- never both. That it has one of them is not said.
 pub record FixIsUnique (rules : RuleSet) (text : List ℕ) : Type 0 where
   pub made : (a b : Rewrite) → Fixes rules text a → Fixes rules text b → a ≡ b
+  pub made_text : (a b : Rewrite) → FixesText rules text a → FixesText rules text b
+      → (a.text ≡ b.text) × (a.fixed ≡ b.fixed) × (a.left ≡ b.left)
   pub broken : (f g : FixFault) → Breaks rules text f → Breaks rules text g → f ≡ g
-  pub exclusive : (a : Rewrite) (f : FixFault) → Fixes rules text a → Breaks rules text f → ⊥
+  pub exclusive : (a : Rewrite) (f : FixFault) → FixesText rules text a → Breaks rules text f → ⊥

@@ -124,9 +124,9 @@ module _ (unique_tokens : TokensAreUnique) (no_tokens_with_fault : NoTokensWithF
   pub same_fixes : (rules : RuleSet) (text : List ℕ) (a b : Result Rewrite Fault) → FixRewrites rules text a → FixRewrites rules text b → AreSameUpToParseFault a b
   same_fixes rules text (Ok a) (Ok b) p q = inl (ap (λ (x : Rewrite). Ok x) ((one_fix rules text).made a b p q))
   same_fixes rules text (Ok a) (Err f) p q =
-      absurd (not_why text f (Broken rules text f) (does_parse text p.parsed p.reads) (λ w. (one_fix rules text).exclusive a w.0 p w.2) (why_fix rules text f q))
+      absurd (not_why text f (Broken rules text f) (does_parse text p.fixes_text.parsed p.fixes_text.reads) (λ w. (one_fix rules text).exclusive a w.0 p.fixes_text w.2) (why_fix rules text f q))
   same_fixes rules text (Err f) (Ok b) p q =
-      absurd (not_why text f (Broken rules text f) (does_parse text q.parsed q.reads) (λ w. (one_fix rules text).exclusive b w.0 q w.2) (why_fix rules text f p))
+      absurd (not_why text f (Broken rules text f) (does_parse text q.fixes_text.parsed q.fixes_text.reads) (λ w. (one_fix rules text).exclusive b w.0 q.fixes_text w.2) (why_fix rules text f p))
   same_fixes rules text (Err f) (Err g) p q =
       same_why text f g (Broken rules text f) (Broken rules text g) (λ w. does_parse text w.2.0 w.2.1) (λ w. does_parse text w.2.0 w.2.1) (same_broken rules text f g) (why_fix rules text f p) (why_fix rules text g q)
 

@@ -69,7 +69,7 @@ put_in command made t js d u ks short p changed =
 pub put : (command : Command) (t : List ℕ) (js : List JournalEntry) (d : Done) (u : List ℕ) (ks : List JournalEntry) → AddsOneRecord command
     → DoesStep command (with_records t js) d (with_records u ks) → d.changed ≡ true → Put command t js u ks
 put Fmt t js d u ks other p changed = put_in Fmt p.0 t js d u ks p.1.short p.2 changed
-put (Fix rules) t js d u ks other p changed = put_in (Fix rules) p.0 t js d u ks (subst (λ (x : List ℕ). length x ≤ MAX_TEXT) p.1.new_reads.0 p.1.new_reads.1.short) p.2 changed
+put (Fix rules) t js d u ks other p changed = put_in (Fix rules) p.0 t js d u ks (subst (λ (x : List ℕ). length x ≤ MAX_TEXT) p.1.fixes_text.new_reads.0 p.1.fixes_text.new_reads.1.short) p.2 changed
 put Revert t js d u ks other p changed = absurd other
 put (Take n) t js d u ks other p changed = absurd other
 
