@@ -1,5 +1,5 @@
 -- What the code ensures of each builder, by the pure parser that makes nodes.
-use Rattle.std.proofs.Common.{◌≡◌, ◌≢◌, ℕ, Result, Ok, Err, refl, ap, subst, ◌∙◌}
+use Rattle.std.proofs.Common.{◌≡◌, ◌≢◌, ℕ, true, false, Result, Ok, Err, refl, ap, subst, ◌∙◌}
 use Rattle.hcl_grammar.specs.declared.fault.TokenFault.{TokenFault}
 use Rattle.hcl_grammar.specs.declared.fault.TokenFault.TheVariants.{Syntax, TooDeep, Memory}
 use Rattle.hcl_grammar.specs.Pure.Reading.{Outcome, Reads}
@@ -21,11 +21,7 @@ pub reads : {A : Type 0} (o : Outcome A) (r : Result A TokenFault) (new : ℕ) �
 reads o (Ok x) new h = h
 reads o (Err f) new h = λ other. h (own f other)
 
--- what is read, and where it ends, if anything is
-abbrev value_of : {A : Type 0} → A → Outcome A → A
-value_of x (Ok y) = y.0
-value_of x (Err e) = x
-
+-- where what is read ends, if anything is
 abbrev end_of : {A : Type 0} → ℕ → Outcome A → ℕ
 end_of i (Ok y) = y.1
 end_of i (Err e) = i
