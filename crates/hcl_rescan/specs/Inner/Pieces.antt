@@ -2,7 +2,7 @@
 use Rattle.std.specs.Prelude.{◌≡◌, ℕ, ◌+◌, ◌<◌, ◌≤◌, List, slice_get, Some}
 use Rattle.hcl_scan.specs.declared.fault.ScanFault.{ScanFault}
 use Rattle.hcl_scan.specs.declared.fault.ScanFault.TheVariants.{Memory}
-use Rattle.hcl_rescan.specs.declared.incremental.RescanFault.{RescanFault}
+use Rattle.hcl_rescan.specs.declared.fault.RescanFault.{RescanFault}
 use Rattle.hcl_rescan.specs.declared.incremental.ReplacedRange.{ReplacedRange}
 
 -- the replaced pieces from number `from` on, up to number `to`, end before this byte of the old text
