@@ -1,7 +1,7 @@
 //! What is scanned anew: the lines in which something changed, as texts of their own.
 
 ghost use Rattle.std.specs.Prelude.{◌≡◌, ◌<◌, ◌≤◌, ◌+◌, ◌-◌, ◌∷◌, true, false, Some, [], length};
-ghost use Rattle.std.specs.Prelude.{slice_get, IfOk, IfErr};
+ghost use Rattle.std.specs.Prelude.{slice_get, IfOk, IfErr, OnOk};
 ghost use Rattle.hcl_token.specs.Tokens.{Pair};
 ghost use Rattle.hcl_scan.specs.Tokenization.{IsTokenization, MAX_TEXT};
 ghost use Rattle.hcl_scan.specs.declared.fault.ScanFault.{ScanFault};
@@ -13,11 +13,12 @@ ghost use Rattle.hcl_rescan.specs.Inner.WholeLines.{AreSelfContained, EndsWithLi
 use crate::fault::RescanFault;
 use crate::line_starts::{LineStart, is_line_end};
 use crate::moved::push_relocated;
+use crate::rescanned::Rescanned;
 use crate::stretches::slice;
 use hcl_scan::{Kind, ScanFault, Scanned, Span, scan_in};
 use std::alloc::Global;
 
-/// Adds the tokens of `len` bytes from byte `at` on, and returns the buffer that they took.
+/// Adds the tokens of the next `len` bytes, and returns the buffer that they took.
 ///
 /// # Errors
 ///
@@ -25,15 +26,17 @@ use std::alloc::Global;
 pub(crate) fn scan_lines(
     alloc: Global,
     text: &[u8],
-    tokens: &mut Vec<Span>,
-    at: usize,
+    rescanned: &mut Rescanned,
     len: usize,
     scratch: Vec<Span>,
 ) -> Result<Vec<Span>, RescanFault>
-    requires rescanned { IsRescannedTo text.now tokens.old.items at }
+    requires rescanned { IsRescannedTo text.now rescanned.old.tokens.items rescanned.old.at }
     requires short { length text.now ≤ MAX_TEXT }
-    ensures { IfOk result (λ scratch. IsRescannedTo text.now tokens.new.items (at + len)) }
+    ensures rescanned { OnOk result
+        (IsRescannedTo text.now rescanned.new.tokens.items rescanned.new.at) }
+    ensures end { OnOk result (rescanned.new.at ≡ rescanned.old.at + len) }
 {
+    let at = rescanned.at;
     if len > text.len() - at {
         return Err(RescanFault::Mismatch);
     }
@@ -42,12 +45,13 @@ pub(crate) fn scan_lines(
         return Err(RescanFault::Mismatch);
     }
     push_relocated(
-        tokens,
+        &mut rescanned.tokens,
         at,
         &lines,
         LineStart { index: 0, at: 0 },
         lines.len(),
     )?;
+    rescanned.at = at + len;
     Ok(lines.into_buffer())
 }
 

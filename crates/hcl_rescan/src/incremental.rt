@@ -16,7 +16,8 @@ ghost use Rattle.hcl_rescan.specs.Inner.WholeLines.{IsLineStart, IsRescanned};
 use crate::anew::{has_mark, scan_lines};
 use crate::fault::RescanFault;
 use crate::line_starts::{LineStart, next_line_start};
-use crate::reuse::{Progress, reuse_rest, reuse_unchanged};
+use crate::rescanned::Rescanned;
+use crate::reuse::{reuse_rest, reuse_unchanged};
 use hcl_scan::{MAX_TEXT, ScanFault, Scanned, Span, scan_in};
 use std::alloc::Global;
 
@@ -47,17 +48,20 @@ pub fn rescan<'t>(
     requires { AreApart old.now.pairs }
     ensures { IsScanResult text.now result }
 {
-    let mut tokens = buffer;
     if text.is_empty() {
-        return scan_in(alloc, tokens, text);
+        return scan_in(alloc, buffer, text);
     }
     if text.len() > MAX_TEXT {
-        return scan_in(alloc, tokens, text);
+        return scan_in(alloc, buffer, text);
     }
-    match rescan_tokens(alloc, text, old, replaced, &mut tokens) {
-        Ok(last_gap_at) => { Ok(Scanned::of_tokens(text, tokens, last_gap_at)) }
+    let mut rescanned = Rescanned {
+        tokens: buffer,
+        at: 0,
+    };
+    match rescan_tokens(alloc, text, old, replaced, &mut rescanned) {
+        Ok(last_gap_at) => { Ok(Scanned::of_tokens(text, rescanned.tokens, last_gap_at)) }
         Err(RescanFault::Memory) => Err(memory_fault(text)),
-        Err(RescanFault::Mismatch) => scan_in(alloc, tokens, text),
+        Err(RescanFault::Mismatch) => scan_in(alloc, rescanned.tokens, text),
     }
 }
 
@@ -86,27 +90,26 @@ fn rescan_tokens(
     text: &[u8],
     old: &Scanned<'_>,
     replaced: &[ReplacedRange],
-    tokens: &mut Vec<Span>,
+    rescanned: &mut Rescanned,
 ) -> Result<usize, RescanFault>
     requires apart { AreApart old.now.pairs }
     requires short { length text.now ≤ MAX_TEXT }
-    ensures { IfOk result (λ last_gap_at. IsRescanned text.now tokens.new.items last_gap_at) }
+    ensures { IfOk result
+        (λ last_gap_at. IsRescanned text.now rescanned.new.tokens.items last_gap_at) }
 {
-    tokens.clear();
+    rescanned.tokens.clear();
+    rescanned.at = 0;
     if has_mark(old) {
         return Err(RescanFault::Mismatch);
     }
-    tokens.reserve(text.len() / 8)?;
+    rescanned.tokens.reserve(text.len() / 8)?;
     let mut scratch = Vec::new(alloc);
-    let mut progress = Progress {
-        line_start: LineStart { index: 0, at: 0 },
-        at: 0,
-    };
+    let mut line_start = LineStart { index: 0, at: 0 };
     let mut first = 0;
     while first < replaced.len() {
         let limit = replaced[first].at as usize;
-        progress = reuse_unchanged(text, tokens, old, progress, limit)?;
-        let changed = changed_lines(old, progress.line_start, replaced, first);
+        line_start = reuse_unchanged(text, rescanned, old, line_start, limit)?;
+        let changed = changed_lines(old, line_start, replaced, first);
         let Some(ChangedLines { to, len, count }) = changed else {
             return Err(RescanFault::Mismatch);
         };
@@ -115,14 +118,11 @@ fn rescan_tokens(
             // of the whole text.
             return Err(RescanFault::Mismatch);
         }
-        scratch = scan_lines(alloc, text, tokens, progress.at, len, scratch)?;
-        progress = Progress {
-            line_start: to,
-            at: progress.at + len,
-        };
+        scratch = scan_lines(alloc, text, rescanned, len, scratch)?;
+        line_start = to;
         first = count;
     }
-    reuse_rest(text, tokens, progress.at, old, progress.line_start)
+    reuse_rest(text, rescanned, old, line_start)
 }
 
 /// Lines of the old text in which bytes are replaced: where the next unchanged line begins, how

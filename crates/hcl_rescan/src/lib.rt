@@ -6,6 +6,7 @@ mod fault;
 mod incremental;
 mod line_starts;
 mod moved;
+mod rescanned;
 mod reuse;
 mod sequences;
 mod stretches;

@@ -4,8 +4,8 @@ use Rattle.hcl_rescan.proofs.incremental.rescan_tokens.Given as goal
 
 abbrev pub invariant-loop-first : goal.invariant-loop-first
 invariant-loop-first l = record {
-  line_start : IsLineStart l.old l.progress.line_start.index l.progress.line_start.at;
-  begun : IsRescannedTo l.text l.tokens.items l.progress.at;
+  line_start : IsLineStart l.old l.line_start.index l.line_start.at;
+  begun : IsRescannedTo l.text l.rescanned.tokens.items l.rescanned.at;
 }
 
 abbrev pub decreases-loop-first : goal.decreases-loop-first

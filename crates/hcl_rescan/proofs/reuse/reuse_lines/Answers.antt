@@ -19,7 +19,7 @@ push_relocated-requires-clause-fits c =
     let to = c.args.to in
     let known = range_text c.args.old.now from.index from.at to.index to.at c.text.ensures.tokenization.tokenizes.text_is c.requires.line_start c.requires.end_line_start c.requires.lines.ordered in
     let bytes = c.slice-bytes.ensures ∙ ap (λ (x : List ℕ). slice_range x from.at to.at) c.text.ensures.text in
-    lines_fit c.args.text.now c.slice-bytes.result.now c.args.at c.args.old.now from.index from.at to.index to.at known bytes (c.has_bytes_at.ensures c.if-not-has_bytes_at.false) c.requires.rescanned.within c.requires.short
+    lines_fit c.args.text.now c.slice-bytes.result.now c.args.rescanned.now.at c.args.old.now from.index from.at to.index to.at known bytes (c.has_bytes_at.ensures c.if-not-has_bytes_at.false) c.requires.rescanned.within c.requires.short
 
 pub returns : goal.returns
 returns c =
@@ -27,5 +27,5 @@ returns c =
     let to = c.args.to in
     let known = range_text c.args.old.now from.index from.at to.index to.at c.text.ensures.tokenization.tokenizes.text_is c.requires.line_start c.requires.end_line_start c.requires.lines.ordered in
     let bytes = c.slice-bytes.ensures ∙ ap (λ (x : List ℕ). slice_range x from.at to.at) c.text.ensures.text in
-    taken c.args.text.now c.args.tokens.now.items c.push_relocated.new.tokens.items c.args.at c.args.old.now from.index from.at to.index to.at c.slice-bytes.result.now c.requires.rescanned c.requires.lines known bytes
+    taken c.args.text.now c.args.rescanned.now.tokens.items c.push_relocated.new.tokens.items c.args.rescanned.now.at c.args.old.now from.index from.at to.index to.at c.slice-bytes.result.now c.requires.rescanned c.requires.lines known bytes
     (c.has_bytes_at.ensures c.if-not-has_bytes_at.false) c.in_ok-push_relocated.ensures
