@@ -13,8 +13,8 @@ use Rattle.hcl_token.specs.Tokens.{Pair}
 use Rattle.tf_glance.proofs.Bodies.{is_declaration, is_locals, AreSummarized, none_summarized, member_free, MemberOf, ContentOf}
 use Rattle.tf_glance.proofs.Expressions.{left, right, Counts, Listed, listed_more}
 use Rattle.tf_glance.proofs.Nothing.{Nothing, none, choose, unless, append}
-use Rattle.tf_glance.specs.SummaryMakers.{block_type_of, names_after, is_clean_label, is_complete, block}
-use Rattle.tf_glance.specs.Summary.{is_clean_count, add_one}
+use Rattle.tf_glance.specs.Inner.SummaryMakers.{block_type_of, names_after, is_clean_label, is_complete, block}
+use Rattle.tf_glance.specs.Inner.Summary.{is_clean_count, add_one}
 use Rattle.tf_glance.specs.declared.summary.Count.{Count}
 use Rattle.tf_glance.specs.declared.summary.Count.TheVariants as count
 use Rattle.tf_glance.specs.declared.summary.BodyContent.{BodyContent}

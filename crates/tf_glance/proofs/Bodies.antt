@@ -18,9 +18,9 @@ use Rattle.hcl_token.specs.Tokens.{Pair}
 use Rattle.tf_glance.proofs.Expressions.{left, right, ExprOf, clean_expr, clean_description}
 use Rattle.tf_glance.proofs.Free.{IsFree, free, AreFree, none, more, one}
 use Rattle.tf_glance.proofs.Nothing as empty
-use Rattle.tf_glance.specs.SummaryMakers.{attribute, declaration, one_line}
-use Rattle.tf_glance.specs.Summary as summary
-use Rattle.tf_glance.specs.Summary.{is_clean, is_clean_description}
+use Rattle.tf_glance.specs.Inner.SummaryMakers.{attribute, declaration, one_line}
+use Rattle.tf_glance.specs.Inner.Summary as summary
+use Rattle.tf_glance.specs.Inner.Summary.{is_clean, is_clean_description}
 use Rattle.tf_glance.specs.declared.summary.BodyContent.{BodyContent}
 use Rattle.tf_glance.specs.declared.summary.Value.{Value}
 use Rattle.tf_glance.specs.declared.block_type.BlockType.{BlockType}

@@ -16,9 +16,9 @@ use Rattle.tf_glance.proofs.Bodies.{MemberOf}
 use Rattle.tf_glance.proofs.Expressions.{left, right}
 use Rattle.tf_glance.proofs.Free.{one, tree_findings}
 use Rattle.tf_glance.proofs.Respects.{summarizes, respects}
-use Rattle.tf_glance.specs.SummaryMakers.{summaries}
+use Rattle.tf_glance.specs.Inner.SummaryMakers.{summaries}
 use Rattle.tf_glance.specs.CleanMember.{IsCleanMember, IsMemberFault}
-use Rattle.tf_glance.specs.Summary.{is_without_findings}
+use Rattle.tf_glance.specs.Inner.Summary.{is_without_findings}
 use Rattle.tf_glance.specs.declared.summary.BodyContent.{BodyContent}
 use Rattle.tf_glance.specs.declared.block_type.BlockType.{BlockType}
 use Rattle.tf_rules.specs.Preorder.{member}

@@ -12,8 +12,8 @@ use Rattle.hcl_grammar.specs.Pure.NodeMakers.{operator_level, chain_end, split_l
 use Rattle.hcl_token.specs.Tokens.{Pair}
 use Rattle.tf_glance.proofs.Expressions.{Listed, listed_more, FreeExpr, NotList, NotText, ExprOf, expr_free, not_list, not_text}
 use Rattle.tf_glance.proofs.Free.{AreFree, none, more}
-use Rattle.tf_glance.specs.Summary as summary
-use Rattle.tf_glance.specs.Summary.{is_clean_operand, add_one}
+use Rattle.tf_glance.specs.Inner.Summary as summary
+use Rattle.tf_glance.specs.Inner.Summary.{is_clean_operand, add_one}
 use Rattle.tf_glance.specs.declared.summary.Count.{Count}
 use Rattle.tf_glance.specs.declared.summary.Count.TheVariants as count
 use Rattle.tf_glance.specs.declared.summary.Value.{Value}

@@ -19,8 +19,8 @@ use Rattle.hcl_token.specs.Tokens.{Pair}
 use Rattle.tf_glance.proofs.Free.{IsFree, free, AreFree, none, more, one}
 use Rattle.tf_glance.proofs.Nothing as empty
 use Rattle.tf_glance.proofs.Nothing.{Nothing, choose, append}
-use Rattle.tf_glance.specs.Summary as summary
-use Rattle.tf_glance.specs.Summary.{is_clean, is_clean_option, is_clean_description, is_clean_count, plain_if, add_one, next_count}
+use Rattle.tf_glance.specs.Inner.Summary as summary
+use Rattle.tf_glance.specs.Inner.Summary.{is_clean, is_clean_option, is_clean_description, is_clean_count, plain_if, add_one, next_count}
 use Rattle.tf_glance.specs.declared.summary.Count.{Count}
 use Rattle.tf_glance.specs.declared.summary.Count.TheVariants as count
 use Rattle.tf_glance.specs.declared.summary.Value.{Value}

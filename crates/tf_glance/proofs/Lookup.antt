@@ -8,7 +8,7 @@ use Rattle.hcl_grammar.specs.declared.tree.ExprKind.TheViews.{the_lemmas}
 use Rattle.hcl_grammar_laws.proofs.Opens.{open_call, call_names, call_arguments}
 use Rattle.hcl_token.specs.Tokens.{Pair}
 use Rattle.tf_glance.proofs.Expressions.{left, right, Counts, ExprsOf, TermOf, made_term}
-use Rattle.tf_glance.specs.Summary.{is_clean_count, is_two, plain_if}
+use Rattle.tf_glance.specs.Inner.Summary.{is_clean_count, is_two, plain_if}
 use Rattle.tf_glance.specs.declared.summary.Count.{Count}
 use Rattle.tf_glance.specs.declared.summary.Count.TheVariants as count
 use Rattle.tf_rules.specs.Arguments.{two_arguments}

@@ -17,8 +17,8 @@ use Rattle.tf_glance.proofs.Expressions.{left, right, ExprOf, TermOf, TailOf, Ta
 use Rattle.tf_glance.proofs.Free.{none, more, one}
 use Rattle.tf_glance.proofs.Lookup.{NamesOf, first_name, names, call}
 use Rattle.tf_glance.proofs.Templates.{PartOf, PartsOf, TemplateOf, parts, template, literal, interpolation, if_directive, for_directive, quoted, heredoc}
-use Rattle.tf_glance.specs.SummaryMakers.{summary_types, summaries}
-use Rattle.tf_glance.specs.Summary.{is_clean}
+use Rattle.tf_glance.specs.Inner.SummaryMakers.{summary_types, summaries}
+use Rattle.tf_glance.specs.Inner.Summary.{is_clean}
 use Rattle.tf_glance.specs.declared.summary.Value.{Value}
 use Rattle.tf_glance.specs.declared.block_type.BlockType.{BlockType}
 use Rattle.tf_rules.specs.declared.role.Role.TheVariants.{Parentheses, Index, Elsewhere}

@@ -14,8 +14,8 @@ use Rattle.hcl_token.specs.Tokens.{Pair}
 use Rattle.tf_glance.proofs.Expressions.{left, right, FreeTerm, NotListTerm, TermOf, ExprOf, IntroOf, clean_expr, term_free, not_list_term, not_text_term, made_term}
 use Rattle.tf_glance.proofs.Free.{IsFree, free, AreFree, none, more, one, both}
 use Rattle.tf_glance.proofs.Nothing as empty
-use Rattle.tf_glance.specs.Summary as summary
-use Rattle.tf_glance.specs.Summary.{is_clean, is_clean_pieces, is_clean_pieces_option, plain_if, add_piece}
+use Rattle.tf_glance.specs.Inner.Summary as summary
+use Rattle.tf_glance.specs.Inner.Summary.{is_clean, is_clean_pieces, is_clean_pieces_option, plain_if, add_piece}
 use Rattle.tf_glance.specs.declared.summary.Piece.{Piece}
 use Rattle.tf_glance.specs.declared.summary.Piece.TheVariants as piece
 use Rattle.tf_glance.specs.declared.summary.Pieces.{Pieces}

@@ -1,3 +1,2 @@
-pub mod Summary
-pub mod SummaryMakers
+pub mod Inner
 pub mod CleanMember

@@ -1,7 +1,7 @@
 //! The types of blocks, by what the rules on blocks look at.
 
 ghost use Rattle.std.specs.Prelude.{◌≡◌};
-ghost use Rattle.tf_glance.specs.SummaryMakers as spec;
+ghost use Rattle.tf_glance.specs.Inner.SummaryMakers as spec;
 
 use crate::summary::{BodyContent, Count};
 use tf_rules::is_spelled;

@@ -1,7 +1,7 @@
 //! The builder of summaries, with a method for each node.
 
 ghost use Rattle.std.specs.Prelude.{◌≡◌, true, IfOk, IfErr};
-ghost use Rattle.tf_glance.specs.SummaryMakers.{summaries};
+ghost use Rattle.tf_glance.specs.Inner.SummaryMakers.{summaries};
 
 use crate::members::Summaries;
 use crate::summary::{

@@ -2,7 +2,7 @@
 
 ghost use Rattle.std.specs.Prelude.{◌≡◌, codes, IfOk};
 ghost use Rattle.std.specs.Str.{bytes_eq};
-ghost use Rattle.tf_glance.specs.SummaryMakers as spec;
+ghost use Rattle.tf_glance.specs.Inner.SummaryMakers as spec;
 
 use crate::block_type::{BlockType, block_type_of};
 use crate::summary::{BodyContent, Count, Value};

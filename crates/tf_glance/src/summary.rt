@@ -2,7 +2,7 @@
 //! around it need. A node is clean if no rule finds anything in it, suspect if one may.
 
 ghost use Rattle.std.specs.Prelude.{◌≡◌, IfOk};
-ghost use Rattle.tf_glance.specs.Summary as spec;
+ghost use Rattle.tf_glance.specs.Inner.Summary as spec;
 
 use std::alloc::AllocError;
 

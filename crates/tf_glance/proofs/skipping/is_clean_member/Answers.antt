@@ -1,6 +1,6 @@
 use Rattle.std.proofs.Common.{◌≡◌, true, Some, Ok, rules}
 use Rattle.tf_glance.proofs.CleanMember.{clean, failing}
-use Rattle.tf_glance.specs.Summary.{is_without_findings}
+use Rattle.tf_glance.specs.Inner.Summary.{is_without_findings}
 use Rattle.tf_glance.proofs.skipping.is_clean_member.Goals as goal
 
 pub returns-in-Ok-Some-clause-clean : goal.returns-in-Ok-Some-clause-clean

@@ -5,10 +5,10 @@ use Rattle.std.specs.Prelude.{Option, Some, None, codes, refl}
 use Rattle.std.specs.Str.{bytes_eq}
 use Rattle.hcl_grammar.specs.Pure.Makers.{Types, Makers}
 use Rattle.hcl_token.specs.Tokens.{Pair}
-use Rattle.tf_glance.specs.Summary as summary
-use Rattle.tf_glance.specs.Summary.{is_clean, is_clean_option, plain_if, is_clean_operand}
-use Rattle.tf_glance.specs.Summary.{is_clean_description, is_clean_count, is_two, add_one}
-use Rattle.tf_glance.specs.Summary.{is_clean_pieces, is_clean_pieces_option}
+use Rattle.tf_glance.specs.Inner.Summary as summary
+use Rattle.tf_glance.specs.Inner.Summary.{is_clean, is_clean_option, plain_if, is_clean_operand}
+use Rattle.tf_glance.specs.Inner.Summary.{is_clean_description, is_clean_count, is_two, add_one}
+use Rattle.tf_glance.specs.Inner.Summary.{is_clean_pieces, is_clean_pieces_option}
 use Rattle.tf_glance.specs.declared.summary.Count.{Count}
 use Rattle.tf_glance.specs.declared.summary.Count.TheVariants as count
 use Rattle.tf_glance.specs.declared.summary.BodyContent.{BodyContent}
