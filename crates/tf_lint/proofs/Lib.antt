@@ -8,6 +8,7 @@ mod LineWords
 mod CachedPlace
 mod EditLengths
 pub mod OneFixLemmas
+pub mod FixEdits
 mod RunsInOrder
 pub mod RunLemmas
 pub mod LintLemmas

@@ -125,6 +125,14 @@ pub record Fixes (rules : RuleSet) (text : List ℕ) (made : Rewrite) : Type 0 w
   pub fixes_text : FixesText rules text made
   pub edits_are : IsSquashOfAll (length text) fixes_text.steps.lists made.edits
 
+-- Whatever a fix makes of a text, there is a list of edits by which it does. So nothing is said of
+-- the text by `Fixes` that is not by `FixesText`.
+abbrev pub FixHasEdits : Type 0
+FixHasEdits = (rules : RuleSet) (text : List ℕ) (made : Rewrite) → FixesText rules text made
+    → (edits : EditList)
+    × Fixes rules text
+    (record { text = made.text; edits = edits; fixed = made.fixed; left = made.left })
+
 -- a step of the fix can't be done
 abbrev pub Breaks : RuleSet → List ℕ → FixFault → Type 0
 Breaks rules text fault = (p : Parsed) × IsParseOf text p × RunSteps rules fix_order p (Err fault)

@@ -30,7 +30,7 @@ use Rattle.tf_session.proofs.Contents.{with_same}
 use Rattle.tf_session.proofs.Histories.{acted, stays}
 use Rattle.tf_session.proofs.JournalOne.{TransformLengths}
 use Rattle.tf_session.proofs.Lists.{not_nil, same_last}
-use Rattle.tf_session.proofs.Stacks.{did, last_transforms, undone_or_refused}
+use Rattle.tf_session.proofs.Stacks.{changes, did, last_transforms, undone_or_refused}
 
 -- a journal's text is that of one list of records at most
 abbrev pub Unambiguous : Type 0
@@ -103,13 +103,6 @@ steps_contents command contents (Err fault) old new untaken file steps =
     (steps.0, steps.1 contents untaken file)
 
 -- ---- of a fmt, a fix and a revert less is said of why it is refused
-
-changes : (command : Command) (old new : SessionContents) (d : Done) → IsNotTake command
-    → DoesStep command old d new → ChangesContents command old d new
-changes Fmt old new d untaken h = h
-changes (Fix rules) old new d untaken h = h
-changes Revert old new d untaken h = h
-changes (Take n) old new d untaken h = absurd untaken
 
 refuses_text : (command : Command) (text : List ℕ) (fault : Fault) → RefusesText command text fault
     → (fault ≡ Fault.Memory) ⊎ Rewrites command text (Err fault)
@@ -368,13 +361,6 @@ module _ {State : Type 0} (Step : Command → State → Result Done Fault → St
 
 -- ---- the two machines
 
-does_step : (command : Command) (old new : SessionContents) (d : Done) → IsNotTake command
-    → ChangesContents command old d new → DoesStep command old d new
-does_step Fmt old new d untaken h = h
-does_step (Fix rules) old new d untaken h = h
-does_step Revert old new d untaken h = h
-does_step (Take n) old new d untaken h = absurd untaken
-
 stays_text : (command : Command) (s : Stack) (fault : Fault)
     → ¬ (Rewrites command s.top (Err Fault.Memory))
     → (Rewrites command s.top (Err fault) → StackStep command s (Err fault) s)
@@ -407,7 +393,7 @@ stays_refused (Take n) untaken s js fault why st = absurd untaken
 pub are_stack_run : InvocationsAreStackRun
 are_stack_run text commands results end untaken h =
     are_one_run StackMayAllocate StackStep (λ s. s.top) HasStackRecords ChangesContents RefusesContents IsNotTake
-    (λ command allowed s js d u ks does st. did command allowed s.top s.below js d u ks (does_step command (with_records s.top js) (with_records u ks) d allowed does) st)
+    (λ command allowed s js d u ks does st. did command allowed s.top s.below js d u ks does st)
     stays_refused
     StepsFile steps_contents
     text (initial_stack text) commands results end refl refl untaken h

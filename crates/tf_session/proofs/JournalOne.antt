@@ -2,12 +2,12 @@
 use Rattle.std.proofs.Common.{◌≡◌, ◌∙◌, ℕ, List, [], ◌∷◌, ◌++◌, refl, sym, ap, subst}
 use Rattle.std.proofs.lemmas.List.{map_push}
 use Rattle.edit_record.specs.Lists.Journal.{JournalEntry, edits_of}
-use Rattle.std.specs.List.{AllByRecursion}
-use Rattle.edit_record.specs.Lists.Validity.{IsValidList, LengthsMatch}
+use Rattle.edit_record.specs.Lists.Validity.{LengthsMatch}
 use Rattle.edit_record.specs.Lists.Sequence.{TransformsInOrder}
 use Rattle.edit_record.specs.Lists.Pieces.{EditList, Transforms}
 use Rattle.edit_record.specs.Squashes.Squash.{ComposableListsSquash}
-use Rattle.edit_record.specs.Squashes.SquashLists.{SquashAll, SquashAllIsUnique}
+use Rattle.edit_record.specs.Squashes.SquashLists.{SquashAllIsUnique}
+use Rattle.tf_lint.proofs.FixEdits.{squash_exists}
 use Rattle.tf_session.specs.JournalLaws.{SquashToOne, JournalSquashesToOne}
 use Rattle.tf_session.specs.Machine.{StackEntry, initial_stack}
 use Rattle.tf_session.specs.Records.{IsJournalOfStack}
@@ -48,16 +48,6 @@ TransformLengths = (e : EditList) (t u : List ℕ) → Transforms e t u → Leng
 
 abbrev pub SquashesAreOne : Type 0
 SquashesAreOne = (first : EditList) (others : List EditList) → SquashAllIsUnique first others
-
--- valid lists that turn a text one after another squash to one
-squash_exists : ComposableListsSquash → (first : EditList) (others : List EditList) (text top : List ℕ) → IsValidList first → AllByRecursion IsValidList others
-    → TransformsInOrder Transforms (first ∷ others) text top → (one : EditList) × SquashAll first others one
-squash_exists squashes first [] text top valid rest all = (first, refl)
-squash_exists squashes first (b ∷ bs) text top valid rest all =
-    let (c, valid_c, is) = squashes first b valid rest.0 (text, all.0, all.2.0, all.1, all.2.1) in
-    let whole = (is.equivalent text all.2.0).1 (all.0, all.1, all.2.1) in
-    let (one, squashed) = squash_exists squashes c bs text top valid_c rest.1 (all.2.0, whole, all.2.2) in
-    (one, (c, is, squashed))
 
 pub become_one : TransformLengths → ComposableListsSquash → SquashesAreOne → (text top : List ℕ) (first : EditList) (others : List EditList) → TransformsInOrder Transforms (first ∷ others) text top → SquashToOne text top first others
 become_one lengths squashes squash_as_one text top first others all = record {

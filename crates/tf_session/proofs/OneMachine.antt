@@ -5,7 +5,9 @@ use Rattle.tf_session.specs.declared.command.Command.{Command}
 use Rattle.tf_session.specs.declared.command.Command.TheVariants.{Fmt, Fix, Revert, Take}
 use Rattle.tf_session.specs.declared.command.Done.{Done}
 use Rattle.tf_session.specs.declared.command.Fault.{Fault}
-use Rattle.tf_lint.specs.Steps.{Rewrite, texts_differ}
+use Rattle.tf_lint.specs.Steps.{Rewrite, FixHasEdits, texts_differ}
+use Rattle.tf_rules.specs.declared.rule_set.RuleSet.{RuleSet}
+use Rattle.tf_session.specs.Fixing.{FixRewrites, FixRewritesBy}
 use Rattle.tf_session.specs.Rewrites.{Rewrites}
 use Rattle.tf_lint.specs.ParseFaults.{IsUtf8WithinLimit}
 use Rattle.tf_session.specs.Runs.{is_memory}
@@ -79,25 +81,40 @@ off_up p top (under ∷ rest) n r h g =
     let off : PopsLast p (done true 0 0) q = record { rest = h.0; last = h.1; layers_are = h.2; new_is = refl; done_is = ap (λ (b : Bool). done b 0 0) (sym changed) } in
     (q, subst (λ (x : Result Done Fault). PopsLayer p x q) (sym g.0) off, subst (λ (x : Stack). MatchesStack q x) (sym g.1) h.5)
 
+-- what is made by edits is made
+without_edits : (rules : RuleSet) (text : List ℕ) (answer : Result Rewrite Fault) → FixRewritesBy rules text answer → FixRewrites rules text answer
+without_edits rules text (Ok made) h = h.fixes_text
+without_edits rules text (Err fault) h = h
+
+-- and the other way round, by edits of which the stack knows nothing
+by_edits : FixHasEdits → (rules : RuleSet) (text : List ℕ) (answer : Result Rewrite Fault) (s n : Stack) (r : Result Done Fault) → FixRewrites rules text answer → PushesText (Fix rules) answer s r n
+    → (other : Result Rewrite Fault) × FixRewritesBy rules text other × PushesText (Fix rules) other s r n
+by_edits has rules text (Ok made) s n r fixes pushes =
+    let (edits, by) = has rules text made fixes in
+    let other : Rewrite = record { text = made.text; edits = edits; fixed = made.fixed; left = made.left } in
+    (Ok other, by, pushes)
+by_edits has rules text (Err fault) s n r refuses pushes = (Err fault, refuses, pushes)
+
 act_down : (command : Command) (p q : History) (s : Stack) (r : Result Done Fault) → IsNotTake command → MatchesStack p s → HistoryStep command p r q → (n : Stack) × StackStep command s r n × MatchesStack q n
 act_down Fmt p q s r plain h g =
     let f = text_down Fmt Word.Fmt g.0 p q s r h g.2 in
     (f.0, (g.0, subst (λ (x : List ℕ). Rewrites Fmt x g.0) (shown_top p.first p.layers s.top s.below h) g.1, f.1), f.2)
 act_down (Fix rules) p q s r plain h g =
     let f = text_down (Fix rules) Word.Fix g.0 p q s r h g.2 in
-    (f.0, (g.0, subst (λ (x : List ℕ). Rewrites (Fix rules) x g.0) (shown_top p.first p.layers s.top s.below h) g.1, f.1), f.2)
+    (f.0, (g.0, subst (λ (x : List ℕ). FixRewrites rules x g.0) (shown_top p.first p.layers s.top s.below h) (without_edits rules (top_text p) g.0 g.1), f.1), f.2)
 act_down Revert p q s r plain h g = off_down p q s.top s.below r h g
 act_down (Take n) p q s r plain h g = absurd plain
 
-act_up : (command : Command) (p : History) (s n : Stack) (r : Result Done Fault) → IsNotTake command → MatchesStack p s → StackStep command s r n → (q : History) × HistoryStep command p r q × MatchesStack q n
-act_up Fmt p s n r plain h g =
+act_up : FixHasEdits → (command : Command) (p : History) (s n : Stack) (r : Result Done Fault) → IsNotTake command → MatchesStack p s → StackStep command s r n → (q : History) × HistoryStep command p r q × MatchesStack q n
+act_up has Fmt p s n r plain h g =
     let f = text_up Fmt Word.Fmt g.0 p s n r h g.2 in
     (f.0, (g.0, subst (λ (x : List ℕ). Rewrites Fmt x g.0) (sym (shown_top p.first p.layers s.top s.below h)) g.1, f.1), f.2)
-act_up (Fix rules) p s n r plain h g =
-    let f = text_up (Fix rules) Word.Fix g.0 p s n r h g.2 in
-    (f.0, (g.0, subst (λ (x : List ℕ). Rewrites (Fix rules) x g.0) (sym (shown_top p.first p.layers s.top s.below h)) g.1, f.1), f.2)
-act_up Revert p s n r plain h g = off_up p s.top s.below n r h g
-act_up (Take k) p s n r plain h g = absurd plain
+act_up has (Fix rules) p s n r plain h g =
+    let (answer, by, pushes) = by_edits has rules s.top g.0 s n r g.1 g.2 in
+    let f = text_up (Fix rules) Word.Fix answer p s n r h pushes in
+    (f.0, (answer, subst (λ (x : List ℕ). FixRewritesBy rules x answer) (sym (shown_top p.first p.layers s.top s.below h)) by, f.1), f.2)
+act_up has Revert p s n r plain h g = off_up p s.top s.below n r h g
+act_up has (Take k) p s n r plain h g = absurd plain
 
 some_below : (first : List ℕ) (layers : List Layer) (top : List ℕ) (below : List StackEntry) → LayersMatchStack first layers top below → (layers ≡ [] → ⊥) → below ≡ [] → ⊥
 some_below first layers top [] h f e = f h.0
@@ -126,10 +143,10 @@ down_by : (b : Bool) (command : Command) (p q : History) (s : Stack) (r : Result
 down_by true command p q s r plain h g = (s, (allocation_down command p s plain h g.0, refl), subst (λ (x : History). MatchesStack x s) (sym g.1) h)
 down_by false command p q s r plain h g = act_down command p q s r plain h g
 
-up_by : (b : Bool) (command : Command) (p : History) (s n : Stack) (r : Result Done Fault) → IsNotTake command → MatchesStack p s → MatchBool b (StackMayAllocate command s × (n ≡ s)) (StackStep command s r n)
+up_by : FixHasEdits → (b : Bool) (command : Command) (p : History) (s n : Stack) (r : Result Done Fault) → IsNotTake command → MatchesStack p s → MatchBool b (StackMayAllocate command s × (n ≡ s)) (StackStep command s r n)
     → (q : History) × MatchBool b (HistoryMayAllocate command p × (q ≡ p)) (HistoryStep command p r q) × MatchesStack q n
-up_by true command p s n r plain h g = (p, (allocation_up command p s plain h g.0, refl), subst (λ (x : Stack). MatchesStack p x) (sym g.1) h)
-up_by false command p s n r plain h g = act_up command p s n r plain h g
+up_by has true command p s n r plain h g = (p, (allocation_up command p s plain h g.0, refl), subst (λ (x : Stack). MatchesStack p x) (sym g.1) h)
+up_by has false command p s n r plain h g = act_up has command p s n r plain h g
 
 run_down : (commands : List Command) (replies : List (Result Done Fault)) (p q : History) (s : Stack) → WithoutTake commands → MatchesStack p s → HistoryRun p commands replies q → (n : Stack) × StackRun s commands replies n × MatchesStack q n
 run_down [] [] p q s plain h g = (s, refl, subst (λ (x : History). MatchesStack x s) (sym g) h)
@@ -140,17 +157,17 @@ run_down (c ∷ commands) (r ∷ replies) p q s plain h g =
     let f = run_down commands replies g.0 q d.0 plain.1 d.2 g.2 in
     (f.0, (d.0, d.1, f.1), f.2)
 
-run_up : (commands : List Command) (replies : List (Result Done Fault)) (p : History) (s n : Stack) → WithoutTake commands → MatchesStack p s → StackRun s commands replies n → (q : History) × HistoryRun p commands replies q × MatchesStack q n
-run_up [] [] p s n plain h g = (p, refl, subst (λ (x : Stack). MatchesStack p x) (sym g) h)
-run_up [] (r ∷ replies) p s n plain h g = absurd g
-run_up (c ∷ commands) [] p s n plain h g = absurd g
-run_up (c ∷ commands) (r ∷ replies) p s n plain h g =
-    let d = up_by (is_memory r) c p s g.0 r plain.0 h g.1 in
-    let f = run_up commands replies d.0 g.0 n plain.1 d.2 g.2 in
+run_up : FixHasEdits → (commands : List Command) (replies : List (Result Done Fault)) (p : History) (s n : Stack) → WithoutTake commands → MatchesStack p s → StackRun s commands replies n → (q : History) × HistoryRun p commands replies q × MatchesStack q n
+run_up has [] [] p s n plain h g = (p, refl, subst (λ (x : Stack). MatchesStack p x) (sym g) h)
+run_up has [] (r ∷ replies) p s n plain h g = absurd g
+run_up has (c ∷ commands) [] p s n plain h g = absurd g
+run_up has (c ∷ commands) (r ∷ replies) p s n plain h g =
+    let d = up_by has (is_memory r) c p s g.0 r plain.0 h g.1 in
+    let f = run_up has commands replies d.0 g.0 n plain.1 d.2 g.2 in
     (f.0, (d.0, d.1, f.1), f.2)
 
-pub without_take_one_machine : MachinesAgreeWithoutTake
-without_take_one_machine text commands replies plain = record {
+pub without_take_one_machine : FixHasEdits → MachinesAgreeWithoutTake
+without_take_one_machine has text commands replies plain = record {
   history_to_stack = λ end g. run_down commands replies (initial_history text) end (initial_stack text) plain (refl, refl) g;
-  stack_to_history = λ end g. run_up commands replies (initial_history text) (initial_stack text) end plain (refl, refl) g;
+  stack_to_history = λ end g. run_up has commands replies (initial_history text) (initial_stack text) end plain (refl, refl) g;
 }

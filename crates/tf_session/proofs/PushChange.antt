@@ -16,7 +16,7 @@ use Rattle.tf_session.specs.declared.command.Command.TheVariants.{Fmt, Fix}
 use Rattle.tf_session.specs.declared.command.Done.{Done}
 use Rattle.tf_session.specs.declared.command.Fault.{Fault}
 use Rattle.tf_lint.specs.declared.step.NewText.{NewText}
-use Rattle.tf_lint.specs.Steps.{Rewrite, texts_differ}
+use Rattle.tf_lint.specs.Steps.{Rewrite, Fixes, texts_differ}
 use Rattle.tf_lint.specs.FixResult.{changed_text, changed_edits, fixed_text_or, rewrite_with, FixesTo}
 use Rattle.tf_lint.specs.Remaining.{remaining_count}
 use Rattle.tf_lint.specs.declared.steps.FixedText.{FixedText}
@@ -39,9 +39,14 @@ leads t (Some change) e h = h
 abbrev made_by : List ℕ → Option NewText → ℕ → ℕ → Rewrite
 made_by t change fixed left = record { text = changed_text t change; edits = changed_edits t change; fixed = fixed; left = left }
 
+-- what a command makes of a text, by which edits
+abbrev Makes : Command → List ℕ → Rewrite → Type 0
+Makes (Fix rules) text made = Fixes rules text made
+Makes command text made = Rewrites command text (Ok made)
+
 -- what a command made of a text
 abbrev pub MakesOf : Command → List ℕ → Option NewText → ℕ → ℕ → Type 0
-MakesOf command t change fixed left = Rewrites command t (Ok (made_by t change fixed left))
+MakesOf command t change fixed left = Makes command t (made_by t change fixed left)
 
 abbrev Leads : List ℕ → Option NewText → Type 0
 Leads t change = IfSome change (λ c. Transforms c.edits t c.text.items)
@@ -58,7 +63,7 @@ adds command word has false t js ks change fixed left e turns h = h
 
 -- the command pushes what it made
 abbrev PutsMade : Command → List ℕ → List JournalEntry → Done → List ℕ → List JournalEntry → Type 0
-PutsMade command t js d u ks = (made : Rewrite) × Rewrites command t (Ok made) × ReplacesText command made (with_records t js) d (with_records u ks)
+PutsMade command t js d u ks = (made : Rewrite) × Makes command t made × ReplacesText command made (with_records t js) d (with_records u ks)
 
 push_here : (command : Command) (word : Word) → HasWord command word → (t : List ℕ) (js : List JournalEntry) (change : Option NewText) (fixed left : ℕ) (reply : Result Done Fault) (u : List ℕ) (ks : List JournalEntry)
     → MakesOf command t change fixed left → Leads t change
@@ -110,7 +115,7 @@ formats text new p reads layout short turns =
     let here = subst (λ (x : List ℕ). Transforms (layout_edits p.scanned) x new) reads.0 turns in
     (done (texts_differ text new) 0 0, added_records Word.Fmt (texts_differ text new) (layout_edits p.scanned), (made, makes, (refl, refl, adds_first Fmt Word.Fmt refl (texts_differ text new) text made here)))
 
-pub fix_transforms : (rules : RuleSet) (text : List ℕ) (made : Rewrite) → Rewrites (Fix rules) text (Ok made) → Transforms made.edits text made.text
+pub fix_transforms : (rules : RuleSet) (text : List ℕ) (made : Rewrite) → Fixes rules text made → Transforms made.edits text made.text
     → (records : List JournalEntry) × DoesStep (Fix rules) (without_records text) (done (texts_differ text made.text) made.fixed made.left) (with_records made.text records)
 fix_transforms rules text made makes turns =
     (added_records Word.Fix (texts_differ text made.text) made.edits, (made, makes, (refl, refl, adds_first (Fix rules) Word.Fix refl (texts_differ text made.text) text made turns)))

@@ -7,7 +7,7 @@ use Rattle.hcl_text_laws.specs.declared.fault.ParseFault.TheVariants.{Syntax, To
 use Rattle.hcl_scan.specs.declared.fault.ScanFault.{ScanFault}
 use Rattle.hcl_scan.specs.Tokenization.{IsTokenization, MAX_TEXT}
 use Rattle.hcl_scan.specs.Fault.{IsFault}
-use Rattle.edit_record.specs.Lists.Pieces.{EditList}
+use Rattle.edit_record.specs.Lists.Pieces.{EditList, as_list}
 use Rattle.tf_rules.specs.declared.rule_set.RuleSet.{RuleSet}
 use Rattle.tf_session.specs.declared.command.Command.{Command}
 use Rattle.tf_session.specs.declared.command.Command.TheVariants.{Fmt, Fix, Revert, Take}
@@ -15,9 +15,9 @@ use Rattle.tf_session.specs.declared.command.Done.{Done}
 use Rattle.tf_session.specs.declared.command.Fault.{Fault}
 use Rattle.tf_session.specs.declared.command.Fault.TheVariants.{Scan, Parse, FixBroken, TooLong}
 use Rattle.tf_session.specs.Inner.Faults.{fault_of_fix}
-use Rattle.tf_session.specs.Fixing.{FixRewrites}
+use Rattle.tf_session.specs.Fixing.{FixRewrites, FixRewritesBy}
 use Rattle.tf_lint.specs.declared.fault.FixFault.{FixFault}
-use Rattle.tf_lint.specs.Steps.{Rewrite, Breaks, FixIsUnique}
+use Rattle.tf_lint.specs.Steps.{Rewrite, FixesText, Breaks, FixIsUnique}
 use Rattle.hcl_layout.specs.Gaps.Layout.{layout_edits}
 use Rattle.hcl_layout.specs.Layouts.{IsTooLong}
 use Rattle.hcl_layout.specs.LayoutLaws.{OneLayout}
@@ -36,6 +36,20 @@ one_made a b texts edits fixed left =
     ∙ ap (λ (x : EditList). let r : Rewrite = record { text = b.text; edits = x; fixed = a.fixed; left = a.left } in r) edits
     ∙ ap (λ (x : ℕ). let r : Rewrite = record { text = b.text; edits = b.edits; fixed = x; left = a.left } in r) fixed
     ∙ ap (λ (x : ℕ). let r : Rewrite = record { text = b.text; edits = b.edits; fixed = b.fixed; left = x } in r) left
+
+-- what is made of a text, but for the edits
+abbrev no_edits : Rewrite → Rewrite
+no_edits made = record { text = made.text; edits = as_list 0 []; fixed = made.fixed; left = made.left }
+
+abbrev without_edits : Result Rewrite Fault → Result Rewrite Fault
+without_edits (Ok made) = Ok (no_edits made)
+without_edits (Err fault) = Err fault
+
+-- the stack has no edits
+push_without : (command : Command) (answer : Result Rewrite Fault) (old : Stack) (reply : Result Done Fault) (new : Stack)
+    → PushesText command answer old reply new → PushesText command (without_edits answer) old reply new
+push_without command (Ok made) old reply new p = p
+push_without command (Err fault) old reply new p = p
 
 push_one : (command : Command) (answer : Result Rewrite Fault) (old : Stack) (reply other : Result Done Fault) (new another : Stack)
     → PushesText command answer old reply new → PushesText command answer old other another → (reply ≡ other) × (new ≡ another)
@@ -121,14 +135,29 @@ module _ (unique_tokens : TokensAreUnique) (no_tokens_with_fault : NoTokensWithF
   same_broken : (rules : RuleSet) (text : List ℕ) (f g : Fault) → Broken rules text f → Broken rules text g → f ≡ g
   same_broken rules text f g v w = v.1 ∙ ap fault_of_fix ((one_fix rules text).broken v.0 w.0 v.2 w.2) ∙ sym w.1
 
-  pub same_fixes : (rules : RuleSet) (text : List ℕ) (a b : Result Rewrite Fault) → FixRewrites rules text a → FixRewrites rules text b → AreSameUpToParseFault a b
-  same_fixes rules text (Ok a) (Ok b) p q = inl (ap (λ (x : Rewrite). Ok x) ((one_fix rules text).made a b p q))
-  same_fixes rules text (Ok a) (Err f) p q =
-      absurd (not_why text f (Broken rules text f) (does_parse text p.fixes_text.parsed p.fixes_text.reads) (λ w. (one_fix rules text).exclusive a w.0 p.fixes_text w.2) (why_fix rules text f q))
-  same_fixes rules text (Err f) (Ok b) p q =
-      absurd (not_why text f (Broken rules text f) (does_parse text q.fixes_text.parsed q.fixes_text.reads) (λ w. (one_fix rules text).exclusive b w.0 q.fixes_text w.2) (why_fix rules text f p))
-  same_fixes rules text (Err f) (Err g) p q =
+  made_or_refused : (rules : RuleSet) (text : List ℕ) (made : Rewrite) (f : Fault) → FixesText rules text made → FixRewrites rules text (Err f) → ⊥
+  made_or_refused rules text made f p q =
+      not_why text f (Broken rules text f) (does_parse text p.parsed p.reads) (λ w. (one_fix rules text).exclusive made w.0 p w.2) (why_fix rules text f q)
+
+  same_refusals : (rules : RuleSet) (text : List ℕ) (f g : Fault) → FixRewrites rules text (Err f) → FixRewrites rules text (Err g) → AreSameUpToParseFault {X = Rewrite} (Err f) (Err g)
+  same_refusals rules text f g p q =
       same_why text f g (Broken rules text f) (Broken rules text g) (λ w. does_parse text w.2.0 w.2.1) (λ w. does_parse text w.2.0 w.2.1) (same_broken rules text f g) (why_fix rules text f p) (why_fix rules text g q)
+
+  -- by which edits too
+  pub same_fixes : (rules : RuleSet) (text : List ℕ) (a b : Result Rewrite Fault) → FixRewritesBy rules text a → FixRewritesBy rules text b → AreSameUpToParseFault a b
+  same_fixes rules text (Ok a) (Ok b) p q = inl (ap (λ (x : Rewrite). Ok x) ((one_fix rules text).made a b p q))
+  same_fixes rules text (Ok a) (Err f) p q = absurd (made_or_refused rules text a f p.fixes_text q)
+  same_fixes rules text (Err f) (Ok b) p q = absurd (made_or_refused rules text b f q.fixes_text p)
+  same_fixes rules text (Err f) (Err g) p q = same_refusals rules text f g p q
+
+  -- whatever they are
+  same_fixed_texts : (rules : RuleSet) (text : List ℕ) (a b : Result Rewrite Fault) → FixRewrites rules text a → FixRewrites rules text b → AreSameUpToParseFault (without_edits a) (without_edits b)
+  same_fixed_texts rules text (Ok a) (Ok b) p q =
+      let (texts, fixed, left) = (one_fix rules text).made_text a b p q in
+      inl (ap (λ (x : Rewrite). Ok x) (one_made (no_edits a) (no_edits b) texts refl fixed left))
+  same_fixed_texts rules text (Ok a) (Err f) p q = absurd (made_or_refused rules text a f p q)
+  same_fixed_texts rules text (Err f) (Ok b) p q = absurd (made_or_refused rules text b f q p)
+  same_fixed_texts rules text (Err f) (Err g) p q = same_refusals rules text f g p q
 
   not_long : (text : List ℕ) (made : Rewrite) (f : Fault) → Formats text made → Long text f → ⊥
   not_long text made f p w =
@@ -156,7 +185,8 @@ module _ (unique_tokens : TokensAreUnique) (no_tokens_with_fault : NoTokensWithF
   one_answer Fmt old reply other new another p q =
       push_same (PushesText Fmt) (push_one Fmt) (λ _ _ _ _ h. h) p.0 q.0 old reply other new another (same_layouts old.top p.0 q.0 p.1 q.1) p.2 q.2
   one_answer (Fix rules) old reply other new another p q =
-      push_same (PushesText (Fix rules)) (push_one (Fix rules)) (λ _ _ _ _ h. h) p.0 q.0 old reply other new another (same_fixes rules old.top p.0 q.0 p.1 q.1) p.2 q.2
+      push_same (PushesText (Fix rules)) (push_one (Fix rules)) (λ _ _ _ _ h. h) (without_edits p.0) (without_edits q.0) old reply other new another (same_fixed_texts rules old.top p.0 q.0 p.1 q.1)
+      (push_without (Fix rules) p.0 old reply new p.2) (push_without (Fix rules) q.0 old other another q.2)
   one_answer Revert old reply other new another p q =
       let h = take_same old.top old.below reply other new another p q in
       (inl h.0, h.1)

@@ -16,8 +16,8 @@ use Rattle.tf_lint.specs.Steps.{Rewrite, texts_differ}
 use Rattle.tf_session.specs.Rewrites.{Rewrites, is_memory_fault}
 use Rattle.tf_lint.specs.ParseFaults.{IsUtf8WithinLimit}
 use Rattle.tf_session.specs.Machine.{StackEntry, Stack, done, PushesText, StackStep, StackStepOrMemory, StackRun, IsNotTake, WithoutTake}
-use Rattle.tf_session.specs.Records.{IsJournalOfStack, AddsRecordOf, RevertsLast, DoesStep, RefusesRevert, RefusesStep}
-use Rattle.tf_session.specs.Session.{with_records}
+use Rattle.tf_session.specs.Records.{IsJournalOfStack, AddsRecordOf, RevertsLast, ChangesContents, DoesStep, RefusesRevert, RefusesStep}
+use Rattle.tf_session.specs.Session.{SessionContents, with_records}
 use Rattle.tf_session.proofs.Lists.{not_nil, same_last}
 use Rattle.tf_session.proofs.Runs.{run_more}
 
@@ -53,6 +53,14 @@ push_cases false command made t below js d u ks makes e um dd a st = (
 pub last_transforms : (records : List JournalEntry) (top : List ℕ) (under : StackEntry) (rest : List StackEntry) (st : IsJournalOfStack records top (under ∷ rest)) → record_transforms st.1 under.text top
 last_transforms records top under rest st = subst (λ (x : List ℕ). record_transforms st.1 under.text x) (sym st.5) st.6.transforms
 
+-- a step says of the edits of a fix what they are
+pub changes : (command : Command) (old new : SessionContents) (d : Done) → IsNotTake command
+    → DoesStep command old d new → ChangesContents command old d new
+changes Fmt old new d untaken h = h
+changes (Fix rules) old new d untaken h = (h.0, h.1.fixes_text, h.2)
+changes Revert old new d untaken h = h
+changes (Take n) old new d untaken h = absurd untaken
+
 -- a step of a session, over a stack that its records represent
 abbrev Did : Command → List ℕ → List StackEntry → Done → List ℕ → List JournalEntry → Type 0
 Did command t below d u ks = (n : Stack) × StackStep command (stack t below) (Ok d) n × (u ≡ n.top) × IsJournalOfStack ks n.top n.below
@@ -71,7 +79,7 @@ removed t (under ∷ rest) js d u ks p st =
       subst (λ (x : List JournalEntry). IsJournalOfStack x under.text rest) (sym lasts.0) st.8,
     )
 
-pub did : (command : Command) → IsNotTake command → (t : List ℕ) (below : List StackEntry) (js : List JournalEntry) (d : Done) (u : List ℕ) (ks : List JournalEntry) → DoesStep command (with_records t js) d (with_records u ks) → IsJournalOfStack js t below → Did command t below d u ks
+pub did : (command : Command) → IsNotTake command → (t : List ℕ) (below : List StackEntry) (js : List JournalEntry) (d : Done) (u : List ℕ) (ks : List JournalEntry) → ChangesContents command (with_records t js) d (with_records u ks) → IsJournalOfStack js t below → Did command t below d u ks
 did Fmt _ t below js d u ks p st =
     let made = p.0 in
     let h = push_cases (texts_differ t made.text) Fmt made t below js d u ks p.1 refl p.2.0 p.2.1 p.2.2 st in
@@ -119,7 +127,8 @@ module _ (unique : ChangeResultIsUnique) where
       → IfOk reply (λ d. DoesStep command (with_records t js) d (with_records u ks)) → IfErr reply (RefusesStep command (with_records t js)) → OnErr reply (u ≡ t) → OnErr reply (ks ≡ js)
       → (n : Stack) × StackRun first (cs ++ command ∷ []) (rs ++ reply ∷ []) n × (u ≡ n.top) × IsJournalOfStack ks n.top n.below
   stepped first mid cs rs command (Ok d) t js u ks untaken run top st does _ _ _ =
-      let h = did command untaken mid.top mid.below js d u ks (subst (λ (x : List ℕ). DoesStep command (with_records x js) d (with_records u ks)) top does) st in
+      let here = subst (λ (x : List ℕ). DoesStep command (with_records x js) d (with_records u ks)) top does in
+      let h = did command untaken mid.top mid.below js d u ks (changes command (with_records mid.top js) (with_records u ks) d untaken here) st in
       (h.0, run_more StackStepOrMemory first mid h.0 cs rs command (Ok d) run h.1, h.2, h.3)
   stepped first mid cs rs command (Err e) t js u ks untaken run top st _ why ut kj =
       (mid, run_more StackStepOrMemory first mid mid cs rs command (Err e) run (refused command untaken mid.top mid.below js e (subst (λ (x : List ℕ). RefusesStep command (with_records x js) e) top why) st), ut ∙ top, subst (λ (x : List JournalEntry). IsJournalOfStack x mid.top mid.below) (sym kj) st)

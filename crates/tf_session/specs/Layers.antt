@@ -12,6 +12,7 @@ use Rattle.tf_session.specs.declared.command.Done.{Done}
 use Rattle.tf_session.specs.declared.command.Fault.{Fault}
 use Rattle.tf_session.specs.declared.command.Fault.TheVariants.{NoRecord}
 use Rattle.tf_lint.specs.Steps.{Rewrite, texts_differ}
+use Rattle.tf_session.specs.Fixing.{FixRewritesBy}
 use Rattle.tf_session.specs.Rewrites.{Rewrites}
 use Rattle.tf_lint.specs.ParseFaults.{IsUtf8WithinLimit}
 use Rattle.tf_session.specs.Machine.{done}
@@ -120,7 +121,7 @@ HistoryStep Fmt old reply new =
     (answer : Result Rewrite Fault) × Rewrites Fmt (top_text old) answer
     × PushesLayer Word.Fmt answer old reply new
 HistoryStep (Fix rules) old reply new =
-    (answer : Result Rewrite Fault) × Rewrites (Fix rules) (top_text old) answer
+    (answer : Result Rewrite Fault) × FixRewritesBy rules (top_text old) answer
     × PushesLayer Word.Fix answer old reply new
 HistoryStep Revert old reply new = PopsLayer old reply new
 HistoryStep (Take n) old reply new = TakeStep n old reply new

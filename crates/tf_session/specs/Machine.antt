@@ -1,5 +1,5 @@
 -- The machine: a stack of whole texts. A fmt pushes the layout and a fix the stated replacement, if
--- it differs, and a revert pops the top. There is no record and no place in it.
+-- it differs, and a revert pops the top. There is no record and no place in it, and no edit.
 use Rattle.std.specs.Prelude.{◌≡◌, ◌≢◌, ℕ, Bool, true, List, [], ◌∷◌, Result, Ok, Err, if◌then◌else◌}
 use Rattle.std.specs.List.{AllByRecursion}
 use Rattle.tf_session.specs.declared.command.Command.{Command}

@@ -9,7 +9,7 @@ use Rattle.tf_session.specs.declared.command.Command.TheVariants.{Fmt, Fix, Reve
 use Rattle.tf_session.specs.declared.command.Done.{Done}
 use Rattle.tf_session.specs.declared.command.Fault.{Fault}
 use Rattle.tf_session.specs.declared.command.Fault.TheVariants.{NoRecord, Refused, Memory}
-use Rattle.tf_lint.specs.Steps.{Rewrite, texts_differ}
+use Rattle.tf_lint.specs.Steps.{Rewrite, Fixes, texts_differ}
 use Rattle.tf_session.specs.Rewrites.{Rewrites, RefusesText}
 use Rattle.tf_session.specs.Machine.{StackEntry, done}
 use Rattle.tf_session.specs.RemovingRecord.{RemovesRecord, RefusesTake}
@@ -66,7 +66,7 @@ RevertsLast old d new =
     (r : JournalEntry) × (old.records ≡ new.records ++ r ∷ []) × IsUniqueOld r new.text old.text
     × (d ≡ done (texts_differ new.text old.text) 0 0)
 
--- what a fmt, a fix or a revert that succeeds does
+-- what a fmt, a fix or a revert that succeeds does, whatever the edits of a fix are
 abbrev pub ChangesContents : Command → SessionContents → Done → SessionContents → Type 0
 ChangesContents Fmt old d new =
     (made : Rewrite) × Rewrites Fmt old.text (Ok made) × ReplacesText Fmt made old d new
@@ -76,9 +76,11 @@ ChangesContents (Fix rules) old d new =
 ChangesContents Revert old d new = RevertsLast old d new
 ChangesContents (Take n) old d new = ⊥
 
--- what a command that succeeds does
+-- what a command that succeeds does; the edits of a fix are those of its steps
 abbrev pub DoesStep : Command → SessionContents → Done → SessionContents → Type 0
 DoesStep (Take n) old d new = RemovesRecord n old d new
+DoesStep (Fix rules) old d new =
+    (made : Rewrite) × Fixes rules old.text made × ReplacesText (Fix rules) made old d new
 DoesStep command old d new = ChangesContents command old d new
 
 -- what a command makes of a text that has no record before it, whatever it returns and records

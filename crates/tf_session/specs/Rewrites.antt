@@ -1,4 +1,4 @@
--- What a command makes of a text.
+-- What a command makes of a text. By which edits a fix makes it, `FixRewritesBy` says.
 use Rattle.std.specs.Prelude.{ℕ, Bool, true, false, List, Result, MatchBool, Err}
 use Rattle.hcl_scan.specs.Fault.{IsFault}
 use Rattle.tf_session.specs.declared.command.Command.{Command}

@@ -20,7 +20,7 @@ use edit_record::laws::{
 };
 use hcl_layout::laws::{layout_keeps_tokens, layout_of_layout, one_layout};
 use hcl_scan::laws::{no_tokenization_with_fault, one_fault, one_tokenization};
-use tf_lint::laws::fix_is_unique;
+use tf_lint::laws::{fix_has_edits, fix_is_unique};
 
 /// A command that ran out of memory might as well not be in the list.
 pub fn out_of_memory_changes_nothing()
@@ -77,7 +77,9 @@ pub fn journal_squashes_to_one()
 /// Without take among the commands, the machine that keeps the edits is the machine of whole texts.
 pub fn machines_agree_without_take()
     ensures { MachinesAgreeWithoutTake }
-{}
+{
+    fix_has_edits();
+}
 
 /// What a take leaves is a history again, whose text is the one before it without what the command
 /// did.
