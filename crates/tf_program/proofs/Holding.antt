@@ -6,7 +6,7 @@ use Rattle.tf_cli.specs.declared.options.Action.{Action}
 use Rattle.tf_cli.specs.declared.outcome.RunOutcome.{RunOutcome}
 use Rattle.tf_files.specs.Stores.{Files, Spot}
 use Rattle.tf_program.specs.declared.batch.Batch.{Batch}
-use Rattle.tf_program.specs.declared.batch.Entry.{Entry}
+use Rattle.tf_program.specs.declared.entry.Entry.{Entry}
 use Rattle.tf_program.specs.Inner.Entries.{Advances, MayFinish, PutsIn, KeepsBatch, KeepsNames, IsWaitingIn, IsEntryIn, IsResultIn, AreWaiting, AreApartFrom, IsApartFromAll, IsApartFromName, names_of, file_of, progress}
 use Rattle.tf_program.specs.Printing.{Console}
 use Rattle.tf_program.specs.Work.{file_command}

@@ -9,7 +9,7 @@ use Rattle.tf_session.specs.declared.fault.RunFault.{RunFault}
 use Rattle.tf_files.specs.Stores.{Files, Spot, AreApart, IsSpotOf, HasContents, HasSaved, MayFail, Saves, SavesIn, SavesEach, contents_at, contents_to_save}
 use Rattle.tf_files.specs.declared.cause.Trouble.{Trouble}
 use Rattle.tf_files.specs.declared.store.ChangedFile.{ChangedFile}
-use Rattle.tf_program.specs.declared.batch.Entry.{Entry}
+use Rattle.tf_program.specs.declared.entry.Entry.{Entry}
 use Rattle.tf_program.specs.declared.file_error.FileError.{FileError}
 use Rattle.tf_program.specs.declared.files.Made.{Made}
 use Rattle.tf_program.specs.Inner.Entries.{KeepsName, IsResultIn, IsEntryIn, IsApartFrom, IsApartFromName, IsApartFromAll, AreApartFrom, AreWaiting, IsPlacedApart, ArePlacedApart, TakesResult, WasSaved, file_of, files_of, with_file, IsBorrowed}

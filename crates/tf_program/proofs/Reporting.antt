@@ -15,7 +15,7 @@ use Rattle.tf_program.specs.Printing.{Channel}
 use Rattle.tf_program.specs.Tasks.{Progress, SavesTexts, PrintsLines, IsMet, DoesCommand, DoesFile, DoesEach, with_output, contents_saved}
 use Rattle.tf_program.specs.Work.{file_command}
 use Rattle.tf_program.specs.declared.batch.Batch.{Batch}
-use Rattle.tf_program.specs.declared.batch.Entry.{Entry}
+use Rattle.tf_program.specs.declared.entry.Entry.{Entry}
 use Rattle.tf_program.specs.Inner.Entries.{IsToSave, IsResultIn, IsEntryIn, WasSaved, PrintsMade, AreWaiting, AreApartFrom, KeepsBatch, KeepsName, TakesResult, file_of, files_of, names_of}
 use Rattle.tf_program.proofs.Holding.{does_more}
 use Rattle.tf_program.proofs.Keeping.{keeps_here, keeps_then, was_saved_keeps, all_apart_stay, apart_at, waiting_stay, taken_save}

@@ -3,14 +3,17 @@
 
 mod answer;
 mod batch;
+mod entry;
 mod file_error;
 mod files;
+mod finish;
 mod hint;
 pub mod laws;
 mod location;
 mod printing;
 mod read_only;
 mod record_list;
+mod report;
 mod run;
 mod streams;
 

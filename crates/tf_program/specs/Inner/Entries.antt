@@ -18,7 +18,7 @@ use Rattle.tf_program.specs.Printing.{Channel, Console}
 use Rattle.tf_program.specs.Tasks.{Progress, IsReadError, HasEffectIn, HasNoEffectIn, PrintsLines, DoesEach}
 use Rattle.tf_program.specs.Work.{file_command}
 use Rattle.tf_program.specs.declared.batch.Batch.{Batch}
-use Rattle.tf_program.specs.declared.batch.Entry.{Entry}
+use Rattle.tf_program.specs.declared.entry.Entry.{Entry}
 use Rattle.tf_program.specs.declared.file_error.FileError.{FileError}
 use Rattle.tf_program.specs.declared.files.Made.{Made}
 

@@ -5,7 +5,7 @@ use Rattle.std.proofs.lemmas.Bool.Decides.{nat_tests}
 use Rattle.std.proofs.lemmas.List.{nil_from_length}
 use Rattle.tf_files.specs.declared.cause.Trouble.{Trouble}
 use Rattle.tf_program.specs.Inner.Entries.{AreApartFrom, IsFoundIn}
-use Rattle.tf_program.specs.declared.batch.Entry.{Entry}
+use Rattle.tf_program.specs.declared.entry.Entry.{Entry}
 use Rattle.tf_program.proofs.Keeping.{none_apart, placed_apart}
 use Rattle.tf_program.proofs.batch.Batch.admits.Goals as goal
 

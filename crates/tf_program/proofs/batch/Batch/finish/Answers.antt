@@ -2,7 +2,7 @@
 use Rattle.std.proofs.Common.{◌≡◌, ◌∙◌, List, ap, length, subst, sym, vec_len}
 use Rattle.tf_files.specs.Stores.{SavesEach}
 use Rattle.tf_program.specs.Inner.Entries.{files_of}
-use Rattle.tf_program.specs.declared.batch.Entry.{Entry}
+use Rattle.tf_program.specs.declared.entry.Entry.{Entry}
 use Rattle.tf_program.proofs.Holding.{all_done, all_done_there, waiting_there}
 use Rattle.tf_program.proofs.Keeping.{saves_keep}
 use Rattle.tf_program.proofs.batch.Batch.finish.Goals as goal

@@ -3,7 +3,7 @@ use Rattle.std.proofs.Common.{◌∙◌, ◌++◌, List, [], ap, sym, take}
 use Rattle.tf_files.specs.declared.store.ChangedFile.{ChangedFile}
 use Rattle.tf_program.specs.Inner.Entries.{file_of, files_of, with_file}
 use Rattle.tf_program.proofs.Keeping.{taken_entry, files_more}
-use Rattle.tf_program.proofs.batch.changed_files.Goals as goal
+use Rattle.tf_program.proofs.finish.changed_files.Goals as goal
 
 pub loop-entry-preserved : goal.loop-entry-preserved
 loop-entry-preserved g c =

@@ -3,7 +3,7 @@ use Rattle.std.proofs.Common.{◌≡◌, map, take}
 use Rattle.std.specs.Borrow.{Bor}
 use Rattle.tf_files.specs.declared.store.ChangedFile.{ChangedFile}
 use Rattle.tf_program.specs.Inner.Entries.{files_of}
-use Rattle.tf_program.proofs.batch.changed_files.Given as goal
+use Rattle.tf_program.proofs.finish.changed_files.Given as goal
 
 abbrev pub invariant-loop-entry : goal.invariant-loop-entry
 invariant-loop-entry g l = map (λ (file : Bor (ChangedFile g.row.P.Denot)). file.now) l.files.items ≡ files_of (take l.entry-index l.entries)

@@ -3,7 +3,7 @@ use Rattle.std.proofs.Common.{rules, sym, take}
 use Rattle.std.proofs.lemmas.Bool.{false≢true}
 use Rattle.std.proofs.lemmas.List.{take_all}
 use Rattle.tf_program.proofs.Keeping.{placed_one_more, taken_entry}
-use Rattle.tf_program.proofs.batch.none_may_share.Goals as goal
+use Rattle.tf_program.proofs.entry.none_may_share.Goals as goal
 
 pub loop-entry-preserved : goal.loop-entry-preserved
 loop-entry-preserved g c =
