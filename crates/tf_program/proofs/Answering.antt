@@ -15,10 +15,6 @@ answered action locate name files met text read old new other has same answers =
   λ no. inl (text, has, subst (λ (t : List ℕ). AnswersText action locate name t met old new) same answers),
 )
 
-pub unanswered : (action : Action) (locate : Bool) (name : List ℕ) (files : Option Files) (met : Result FileOutcome FileError) (old new : Console)
-    → is_list action ≡ false → IsNotOpened name files met → KeepsOutputs old new → AnswersFile action locate name files met old new
-unanswered action locate name files met old new other not keeps = (λ on. absurd (false≢true (sym other ∙ on)), λ no. inr (not, keeps))
-
 pub listed : (action : Action) (locate : Bool) (name : List ℕ) (files : Option Files) (met : Result FileOutcome FileError) (old new : Console)
     → is_list action ≡ true → ListsFile name files met old new → AnswersFile action locate name files met old new
 listed action locate name files met old new other lists = (λ on. lists, λ no. absurd (false≢true (sym no ∙ other)))

@@ -164,20 +164,6 @@ all_finished {P} spot a b x z none len left action locate does kept = record {
 
 -- ---- a command that is done on a file changes no file
 
-pub still_here : {P : Type 0} (spot : P → Spot) (batch : Batch P) (console : Console) (old new : Option Files) → new ≡ old → IsWaitingIn spot batch old
-    → MayFinish spot batch (progress batch console old) batch (progress batch console new)
-still_here spot batch console old new same waiting =
-    subst (λ (files : Option Files). MayFinish spot batch (progress batch console old) batch (progress batch console files)) (sym same) (none_done spot batch (progress batch console old) waiting)
-
-pub finished_here : {P : Type 0} (spot : P → Spot) (a b : Batch P) (x : Progress) (console : Console) (old new : Option Files) → new ≡ old → MayFinish spot a x b (progress b console old)
-    → MayFinish spot a x b (progress b console new)
-finished_here spot a b x console old new same step = subst (λ (files : Option Files). MayFinish spot a x b (progress b console files)) (sym same) step
-
-pub entry_of : {P : Type 0} (spot : P → Spot) (action : Action) (locate : Bool) (command : Command) (entry : Entry P) (old new : Option Files) → file_command action entry.name.now ≡ Some command
-    → IsResultIn spot command entry.name.now locate old entry.made → new ≡ old → IsEntryIn spot action locate new entry
-entry_of spot action locate command entry old new does result same =
-    (command, does, subst (λ (files : Option Files). IsResultIn spot command entry.name.now locate files entry.made) (sym same) result)
-
 -- all that a batch had is done
 pub all_done : {P : Type 0} (spot : P → Spot) (a t b : Batch P) (entries : List (Entry P)) (before after : Console) (old new : Option Files) → t.entries.items ≡ [] → vec_len t.entries ≡ 0
     → t.outcome ≡ a.outcome → t.action ≡ a.action → t.locate ≡ a.locate → entries ≡ a.entries.items → length entries ≡ vec_len a.entries → KeepsBatch (length entries) t b

@@ -214,13 +214,6 @@ pub files_more : {P : Type 0} (entries : List (Entry P)) (entry : Entry P) → f
 files_more [] entry = refl
 files_more (first ∷ entries) entry = ap (with_file (file_of first.made)) (files_more entries entry) ∙ with_append (file_of first.made) (files_of entries) (with_file (file_of entry.made) [])
 
--- what is borrowed of an entry's file is added to those that are borrowed
-pub file_pushed : {P : Type 0} (file : Option (ChangedFile P)) (borrowed : Bor (ChangedFile P)) (files : List (Bor (ChangedFile P))) → IsBorrowed file (Some borrowed)
-    → map (λ (f : Bor (ChangedFile P)). f.now) (files ++ borrowed ∷ []) ≡ map (λ (f : Bor (ChangedFile P)). f.now) files ++ with_file file []
-file_pushed None borrowed files is = absurd is
-file_pushed {P} (Some file) borrowed files is =
-    map-append (λ (f : Bor (ChangedFile P)). f.now) files (borrowed ∷ []) ∙ ap (λ (f : ChangedFile P). map (λ (b : Bor (ChangedFile P)). b.now) files ++ f ∷ []) is
-
 pub no_file : {P : Type 0} (file : Option (ChangedFile P)) (files : List (ChangedFile P)) → IsBorrowed file None → files ≡ files ++ with_file file []
 no_file None files is = sym (append-nil files)
 no_file (Some file) files is = absurd is
@@ -229,9 +222,6 @@ no_file (Some file) files is = absurd is
 
 pub none_apart : {P : Type 0} (spot : P → Spot) (files : Option Files) (entries : List (Entry P)) (name : List ℕ) → entries ≡ [] → AreApartFrom spot files entries name
 none_apart {P} spot files entries name none = subst (λ (es : List (Entry P)). AreApartFrom spot files es name) (sym none) tt
-
-pub none_waiting : {P : Type 0} (spot : P → Spot) (action : Action) (locate : Bool) (files : Option Files) (entries : List (Entry P)) → entries ≡ [] → AreWaiting spot action locate files entries
-none_waiting {P} spot action locate files entries none = subst (λ (es : List (Entry P)). AreWaiting spot action locate files es) (sym none) tt
 
 -- ---- one more of a list
 

@@ -12,9 +12,6 @@ use Rattle.tf_session.specs.Streams.{IsWriteFault}
 use Rattle.tf_program.specs.declared.file_error.FileError.{FileError}
 use Rattle.tf_program.specs.Printing.{Channel, between, PrintsAll, FailsToPrint, PrintsPart, Prints, IsLineEnd, IsMessage, IsShortErrorText, error_line}
 
-pub none_printed : (here : Channel) → PrintsAll [] here here
-none_printed here = (Appends-nil here.bytes, refl)
-
 pub both_printed : (first next : List ℕ) (a b c : Channel) → PrintsAll first a b → PrintsAll next b c → PrintsAll (first ++ next) a c
 both_printed first next a b c p q = (Appends-trans a.bytes b.bytes c.bytes first next p.0 q.0, q.1 ∙ p.1)
 
@@ -47,11 +44,6 @@ pub printed : (bytes : List ℕ) (r : Result (Unit {0}) RunFault) (old new : Cha
     → (old.failed ≡ false → (is_ok r ≡ false ↔ new.failed ≡ true)) → (old.failed ≡ true → new.failed ≡ true) → OnOk r (PrintsAll bytes old new)
 printed bytes (Ok done) old new writes fresh after = (writes, kept old.failed new.failed fresh after)
 printed bytes (Err fault) old new writes fresh after = tt
-
-pub not_printed : (bytes : List ℕ) (r : Result (Unit {0}) RunFault) (old new : Channel) → IfErr r (λ fault. IsWriteFault SessionPart.Text fault (between old new) bytes)
-    → (old.failed ≡ false → (is_ok r ≡ false ↔ new.failed ≡ true)) → (old.failed ≡ true → new.failed ≡ true) → IfErr r (λ fault. FailsToPrint bytes fault old new)
-not_printed bytes (Ok done) old new writes fresh after = tt
-not_printed bytes (Err fault) old new writes fresh after = (writes, now_failed old.failed new.failed fresh after)
 
 pub prints_of : (bytes sent : List ℕ) (r : Result (Unit {0}) RunFault) (old new : Channel) → sent ≡ bytes → OnOk r (PrintsAll sent old new)
     → IfErr r (λ fault. FailsToPrint sent fault old new) → Prints bytes old new

@@ -102,21 +102,11 @@ reports_next {P} spot action locate first next taken entry others results rest s
     (reports_more spot action locate first entry others results rest saved start here after new takes reports
     (subst (λ (es : List (Entry P)). ReportsSome spot action locate first es results start here new) left some))
 
--- at the end all are reported, and the files are as all saves have left them
-pub reports_end : {P : Type 0} (spot : P → Spot) (action : Action) (locate : Bool) (first : List (Entry P)) (results : List (Result (Unit {0}) Trouble)) (start : Progress) (here : Option Files → Progress) (new : Option Files)
-    → ReportsSome spot action locate first [] results start here new → DoesEach action locate (names_of first) start (here new)
-reports_end spot action locate first [] start here new some =
-    subst (λ (files : Option Files). DoesEach action locate (names_of first) start (here files)) (sym some.saves) some.does
-reports_end spot action locate first (result ∷ results) start here new some = absurd some.saves
-
 -- The first entries are saved and reported, and the others are still what their commands make.
 pub record FinishesSome {P : Type 0} (spot : P → Spot) (action : Action) (locate : Bool) (all first rest : List (Entry P)) (start here : Progress) : Type 0 where
   pub does : DoesEach action locate (names_of first) start here
   pub waiting : AreWaiting spot action locate here.files rest
   pub kept : (name : List ℕ) → AreApartFrom spot start.files all name → KeepsName name start.files here.files × AreApartFrom spot here.files all name
-
-pub finishes_none : {P : Type 0} (spot : P → Spot) (action : Action) (locate : Bool) (all : List (Entry P)) (start : Progress) → AreWaiting spot action locate start.files all → FinishesSome spot action locate all [] all start start
-finishes_none spot action locate all start waiting = record { does = refl; waiting = waiting; kept = λ name apart. (keeps_here name start.files, apart) }
 
 pub finishes_more : {P : Type 0} (spot : P → Spot) (action : Action) (locate : Bool) (all first : List (Entry P)) (entry : Entry P) (others : List (Entry P)) (i : ℕ) (saved : Result (Unit {0}) Trouble)
     (start here after : Progress) → i < length all → entry ≡ get_or all i entry → WasSaved spot (file_of entry.made) saved here.files after.files

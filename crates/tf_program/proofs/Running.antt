@@ -22,9 +22,6 @@ pub record Ran {P : Type 0} (action : Action) (locate : Bool) (names : List (Bor
   pub acts : batch.action ≡ action
   pub locates : batch.locate ≡ locate
 
-pub ran_none : {P : Type 0} (batch : Batch P) (here : Progress) (action : Action) (locate : Bool) → batch.entries.items ≡ [] → batch.action ≡ action → batch.locate ≡ locate → Ran action locate [] here batch here
-ran_none batch here action locate none is located = record { done = []; parts = sym (ap names_of none); does = refl; acts = is; locates = located }
-
 pub ran_more : {P : Type 0} (action : Action) (locate : Bool) (names put : List (Bor (List ℕ))) (start here after : Progress) (a b : Batch P) → Ran action locate names start a here
     → Advances put a here b after → Ran action locate (names ++ put) start b after
 ran_more action locate names put start here after a b ran step =
