@@ -53,13 +53,15 @@ IsLeftOut leads spot status action name =
     AreApart (leads name) spot ⊎ (file_command action name ≡ None) ⊎ (status ≡ 1)
 
 -- the command that the action does by this name on it; if it returned an error the run had one
-abbrev pub IsCommandBy : (List ℕ → Spot) → Spot → ℕ → Action → List ℕ → Command → Result Done RunFault → Type 0
+abbrev pub IsCommandBy : (List ℕ → Spot) → Spot → ℕ → Action → List ℕ → Command → Result Done RunFault
+    → Type 0
 IsCommandBy leads spot status action name command result =
     (leads name ≡ spot) × (file_command action name ≡ Some command)
     × ((status ≡ 1) ⊎ ((done : Done) × (result ≡ Ok done)))
 
 -- the commands that the action does by these names on it, in their order, and what they returned
-abbrev pub AreCommandsBy : (List ℕ → Spot) → Spot → ℕ → Action → List (Bor (List ℕ)) → List Command → List (Result Done RunFault) → Type 0
+abbrev pub AreCommandsBy : (List ℕ → Spot) → Spot → ℕ → Action → List (Bor (List ℕ)) → List Command
+    → List (Result Done RunFault) → Type 0
 AreCommandsBy leads spot status action [] commands results = (commands ≡ []) × (results ≡ [])
 AreCommandsBy leads spot status action (name ∷ names) commands results =
     (IsLeftOut leads spot status action name.now
@@ -71,14 +73,16 @@ AreCommandsBy leads spot status action (name ∷ names) commands results =
     × (commands ≡ command ∷ others) × (results ≡ result ∷ rest))
 
 -- those of a run: of its task, or none
-abbrev pub AreCommandsOfRun : (List ℕ → Spot) → Spot → ProgramRun → List Command → List (Result Done RunFault) → Type 0
+abbrev pub AreCommandsOfRun : (List ℕ → Spot) → Spot → ProgramRun → List Command
+    → List (Result Done RunFault) → Type 0
 AreCommandsOfRun leads spot run commands results =
     ((task : Task) × IsTaskOfArguments run.args task
     × AreCommandsBy leads spot run.status task.action task.files.items commands results)
     ⊎ ((exit : Exit) × IsArgumentsFault run.args exit × (commands ≡ []) × (results ≡ []))
 
 -- those of all runs, in order
-abbrev pub AreCommandsOf : (List ℕ → Spot) → Spot → List ProgramRun → List Command → List (Result Done RunFault) → Type 0
+abbrev pub AreCommandsOf : (List ℕ → Spot) → Spot → List ProgramRun → List Command
+    → List (Result Done RunFault) → Type 0
 AreCommandsOf leads spot [] commands results = (commands ≡ []) × (results ≡ [])
 AreCommandsOf leads spot (run ∷ runs) commands results =
     (first : List Command) × (others : List Command) × (answers : List (Result Done RunFault))

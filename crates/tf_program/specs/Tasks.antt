@@ -48,14 +48,16 @@ contents_saved saved = record { text = saved.text.items; journal = saved.journal
 
 -- The file of this name and its journal were saved, or not, where a command has made these texts;
 -- else nothing was to be saved.
-abbrev pub SavesTexts : List ℕ → Option SavedTexts → Result (Unit {0}) Trouble → Option Files → Option Files → Type 0
+abbrev pub SavesTexts : List ℕ → Option SavedTexts → Result (Unit {0}) Trouble → Option Files
+    → Option Files → Type 0
 SavesTexts name None result old new = (result ≡ Ok tt) × (new ≡ old)
 SavesTexts name (Some saved) result old new =
     (spot : Spot) × IsSpotOf old name spot
     × Saves spot (contents_saved saved) result old new × IsSaveResult old spot result
 
 -- Once it was saved, these lines were printed, or a call for them failed; if the save failed, none was.
-abbrev pub PrintsLines : List ℕ → FileOutcome → Result (Unit {0}) Trouble → Result FileOutcome FileError → Channel → Channel → Type 0
+abbrev pub PrintsLines : List ℕ → FileOutcome → Result (Unit {0}) Trouble
+    → Result FileOutcome FileError → Channel → Channel → Type 0
 PrintsLines lines outcome (Ok saved) (Ok met) old new = (met ≡ outcome) × PrintsAll lines old new
 PrintsLines lines outcome (Ok saved) (Err error) old new =
     (error.location ≡ None) × FailsToPrint lines error.fault old new
@@ -64,7 +66,8 @@ PrintsLines lines outcome (Err trouble) (Err error) old new =
     (error.fault ≡ trouble.fault) × (error.location ≡ None) × (new ≡ old)
 
 -- the effect of the command on the file of this name was saved, and its lines were printed
-abbrev pub DoesEffect : Command → List ℕ → Result FileOutcome FileError → Progress → Option Files → Channel → Type 0
+abbrev pub DoesEffect : Command → List ℕ → Result FileOutcome FileError → Progress → Option Files
+    → Channel → Type 0
 DoesEffect command name met old files output =
     (effect : Effect) × HasEffectIn command name old.files effect
     × (outcome : FileOutcome) × IsOutcomeOf outcome effect.done.left
@@ -72,7 +75,8 @@ DoesEffect command name met old files output =
     × PrintsLines effect.lines.items outcome saved met old.console.output output
 
 -- the command has no effect on it, or the file was not read
-abbrev pub HasError : Command → List ℕ → Bool → Result FileOutcome FileError → Progress → Option Files → Channel → Type 0
+abbrev pub HasError : Command → List ℕ → Bool → Result FileOutcome FileError → Progress → Option Files
+    → Channel → Type 0
 HasError command name locate (Ok met) old files output = ⊥
 HasError command name locate (Err error) old files output =
     (IsReadError old.files name error ⊎ HasNoEffectIn command name locate old.files error)

@@ -44,7 +44,8 @@ IsMadeOf place effect made =
     × IsToSave place effect.saved made.file
 
 -- what a command made of these contents at this place, or why nothing
-abbrev pub IsResultOf : {P : Type 0} → Command → List ℕ → P → FileContents → Bool → Result (Made P) FileError → Type 0
+abbrev pub IsResultOf : {P : Type 0} → Command → List ℕ → P → FileContents → Bool
+    → Result (Made P) FileError → Type 0
 IsResultOf command name place contents locate (Ok made) =
     (effect : Effect) × HasEffect command name contents.text contents.journal effect
     × IsMadeOf place effect made
@@ -53,7 +54,8 @@ IsResultOf command name place contents locate (Err error) =
     × IsLocatedIn contents.text locate error
 
 -- what it made of the file of this name
-abbrev pub IsResultIn : {P : Type 0} → (P → Spot) → Command → List ℕ → Bool → Option Files → Result (Made P) FileError → Type 0
+abbrev pub IsResultIn : {P : Type 0} → (P → Spot) → Command → List ℕ → Bool → Option Files
+    → Result (Made P) FileError → Type 0
 IsResultIn {P} spot command name locate files (Ok made) =
     (place : P) × IsSpotOf files name (spot place)
     × (effect : Effect) × HasEffectIn command name files effect × IsMadeOf place effect made
@@ -73,7 +75,8 @@ file_of (Ok made) = made.file
 file_of (Err error) = None
 
 -- it was saved with this result; or nothing was to be saved
-abbrev pub WasSaved : {P : Type 0} → (P → Spot) → Option (ChangedFile P) → Result (Unit {0}) Trouble → Option Files → Option Files → Type 0
+abbrev pub WasSaved : {P : Type 0} → (P → Spot) → Option (ChangedFile P) → Result (Unit {0}) Trouble
+    → Option Files → Option Files → Type 0
 WasSaved spot None result old new = (result ≡ Ok tt) × (new ≡ old)
 WasSaved spot (Some file) result old new =
     Saves (spot file.place) (contents_to_save file) result old new
@@ -81,13 +84,15 @@ WasSaved spot (Some file) result old new =
 
 -- The result of the save of one more file is the first of these, if there is one; where nothing was
 -- to be saved, none is taken.
-abbrev pub TakesResult : {P : Type 0} → Option (ChangedFile P) → Result (Unit {0}) Trouble → List (Result (Unit {0}) Trouble) → List (Result (Unit {0}) Trouble) → Type 0
+abbrev pub TakesResult : {P : Type 0} → Option (ChangedFile P) → Result (Unit {0}) Trouble
+    → List (Result (Unit {0}) Trouble) → List (Result (Unit {0}) Trouble) → Type 0
 TakesResult None saved old new = (saved ≡ Ok tt) × (new ≡ old)
 TakesResult (Some file) saved [] new = Unit {0}
 TakesResult (Some file) saved (result ∷ results) new = (saved ≡ result) × (new ≡ results)
 
 -- the lines of what was made, after its save with this result
-abbrev pub PrintsMade : {P : Type 0} → Made P → Result (Unit {0}) Trouble → Result FileOutcome FileError → Channel → Channel → Type 0
+abbrev pub PrintsMade : {P : Type 0} → Made P → Result (Unit {0}) Trouble
+    → Result FileOutcome FileError → Channel → Channel → Type 0
 PrintsMade made saved met old new = PrintsLines made.lines.items made.outcome saved met old new
 
 -- ---- what is held
@@ -104,7 +109,8 @@ IsApartFrom None spot name = Unit {0}
 IsApartFrom (Some files) spot name = AreApart spot (files.spot name)
 
 -- a file that is to be saved is apart from that of this name
-abbrev pub IsApartFromName : {P : Type 0} → (P → Spot) → Option Files → Option (ChangedFile P) → List ℕ → Type 0
+abbrev pub IsApartFromName : {P : Type 0} → (P → Spot) → Option Files → Option (ChangedFile P) → List ℕ
+    → Type 0
 IsApartFromName spot files None name = Unit {0}
 IsApartFromName spot files (Some file) name = IsApartFrom files (spot file.place) name
 
@@ -162,7 +168,8 @@ IsWaitingIn spot batch files = AreWaiting spot batch.action batch.locate files b
 
 -- Names of those that were held, and after them of those that are put in: the first are done, in this
 -- order, and the others are held.
-pub record Advances {P : Type 0} (put : List (Bor (List ℕ))) (old : Batch P) (before : Progress) (new : Batch P) (after : Progress) : Type 0 where
+pub record Advances {P : Type 0} (put : List (Bor (List ℕ))) (old : Batch P) (before : Progress)
+    (new : Batch P) (after : Progress) : Type 0 where
   pub done : List (Bor (List ℕ))
   pub names : names_of old.entries.items ++ put ≡ done ++ names_of new.entries.items
   pub does : DoesEach old.action old.locate done before after
@@ -179,16 +186,20 @@ KeepsName name (Some old) (Some new) =
     × (new.refuses ≡ old.refuses)
 
 -- what is held may be finished, or stays
-pub record MayFinish {P : Type 0} (spot : P → Spot) (old : Batch P) (before : Progress) (new : Batch P) (after : Progress) : Type 0 where
+pub record MayFinish {P : Type 0} (spot : P → Spot) (old : Batch P) (before : Progress)
+    (new : Batch P) (after : Progress) : Type 0 where
   pub reported : ReportsRest 0 old new
   pub waiting : IsWaitingIn spot new after.files
   pub advances : Advances [] old before new after
   -- the file of a name that the entries are apart from stays, and those that are left are, too
-  pub kept : (name : List ℕ) → AreApartFrom spot before.files old.entries.items name → KeepsName name before.files after.files
-  pub apart : (name : List ℕ) → AreApartFrom spot before.files old.entries.items name → AreApartFrom spot after.files new.entries.items name
+  pub kept : (name : List ℕ) → AreApartFrom spot before.files old.entries.items name
+      → KeepsName name before.files after.files
+  pub apart : (name : List ℕ) → AreApartFrom spot before.files old.entries.items name
+      → AreApartFrom spot after.files new.entries.items name
 
 -- the file of one more name is done, or held
-pub record PutsIn {P : Type 0} (spot : P → Spot) (name : Bor (List ℕ)) (old : Batch P) (before : Progress) (new : Batch P) (after : Progress) : Type 0 where
+pub record PutsIn {P : Type 0} (spot : P → Spot) (name : Bor (List ℕ)) (old : Batch P)
+    (before : Progress) (new : Batch P) (after : Progress) : Type 0 where
   pub reported : ReportsRest 1 old new
   pub waiting : IsWaitingIn spot new after.files
   pub advances : Advances (name ∷ []) old before new after
@@ -203,7 +214,8 @@ pub record KeepsBatch {P : Type 0} (count : ℕ) (old new : Batch P) : Type 0 wh
 
 -- the file of each name that all entries are apart from stays
 abbrev pub KeepsNames : {P : Type 0} → (P → Spot) → List (Entry P) → Option Files → Option Files → Type 0
-KeepsNames spot entries old new = (name : List ℕ) → AreApartFrom spot old entries name → KeepsName name old new
+KeepsNames spot entries old new = (name : List ℕ) → AreApartFrom spot old entries name
+    → KeepsName name old new
 
 -- ---- looks at an entry
 
