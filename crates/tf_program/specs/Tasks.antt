@@ -65,7 +65,8 @@ PrintsLines lines outcome (Err trouble) (Ok met) old new = ⊥
 PrintsLines lines outcome (Err trouble) (Err error) old new =
     (error.fault ≡ trouble.fault) × (error.location ≡ None) × (new ≡ old)
 
--- the effect of the command on the file of this name was saved, and its lines were printed
+-- the effect of the command on the file of this name: what saving its texts and printing its lines
+-- came to, which may have failed
 abbrev pub DoesEffect : Command → List ℕ → Result FileOutcome FileError → Progress → Option Files
     → Channel → Type 0
 DoesEffect command name met old files output =
