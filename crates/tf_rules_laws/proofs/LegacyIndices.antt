@@ -21,17 +21,11 @@ same_kind_at (p ∷ ps) (suc n) = same_kind_at ps n
 
 by_layer : (pairs : List Pair) (x : Tail) → IsLegacyToken (tokens_of pairs) x → (l : TailLayer) → out-Tail x ≡ l → IsLegacyTail pairs l
 by_layer pairs x w (Tail-F.LegacyIndex n) h = sym (same_kind_at pairs n) ∙ w n h
-by_layer pairs x w (Tail-F.Name n) h = tt
-by_layer pairs x w Tail-F.AttributeSplat h = tt
-by_layer pairs x w Tail-F.FullSplat h = tt
-by_layer pairs x w (Tail-F.Index e) h = tt
+by_layer _ _ _ _ _ = tt
 
 at_node : (pairs : List Pair) (n : Node) → Derives (tokens_of pairs) n → IsLegacyNode pairs n
-at_node pairs (expr role e) s = tt
-at_node pairs (term role t) s = tt
 at_node pairs (tail splat x) s = by_layer pairs x (tail_legacy s.4) (out-Tail x) refl
-at_node pairs (part x) s = tt
-at_node pairs (member m) s = tt
+at_node _ _ _ = tt
 
 pub legacy_indices : PreorderIsUnique → LegacyIndicesAreTokens
 legacy_indices unique text tree parses nodes is_in_preorder =

@@ -33,6 +33,7 @@ use Rattle.hcl_grammar_laws.proofs.Placed.{placed_term, placed_level, placed_exp
 use Rattle.hcl_grammar_laws.proofs.Restart.{own_term}
 use Rattle.hcl_grammar_laws.proofs.RestartBodies.{some_is, attribute_is, block_is, other_member}
 use Rattle.hcl_grammar_laws.proofs.Spans.{Takes, step, loose, both, ahead, span_expr, span_level, span_links, span_unary, span_tails, span_term, span_names, span_labels}
+use Rattle.tf_reuse.proofs.MoveExpressions.{begins_term, begins_level, begins_expr}
 use Rattle.tf_rules.specs.Rules.Interpolation.{sole_part, sole_interpolation, part_interpolation}
 use Rattle.tf_rules.specs.Arguments.{two_arguments}
 
@@ -110,38 +111,20 @@ ordered i n e f a b h o =
     subst (λ (z : Expr). Ordered i n z b) p (subst (λ (z : Expr). Ordered i n e z) q o)
 
 module _ {ts : List Token} where
-  strict_term : {d : ℕ} {m : Bool} {t : Term} {i j : ℕ} → IsTerm ts d m t i j → next_index ts m i < j
-  strict_term {t} w = let s = span_term (own_term w) in let p = placed_term w in omega (arith, s.forth, p.0, p.1)
-
-  strict_unary : {d : ℕ} {m : Bool} {e : Expr} {i j : ℕ} → IsUnary ts d m e i j → next_index ts m i < j
-  strict_unary (with_operator {m} {i} p o x) = let f = follows ts m i in let s = span_unary x in omega (arith, f, s.forth)
-  strict_unary (post p xs) = let f = strict_term p in let s = span_tails xs in omega (arith, f, s.forth)
-
-  strict_level : {d : ℕ} {m : Bool} {n : ℕ} {e : Expr} {i j : ℕ} → IsLevel ts d m n e i j → next_index ts m i < j
-  strict_level (lowest p) = strict_unary p
-  strict_level (level p xs) = let f = strict_level p in let s = span_links xs in omega (arith, f, s.forth)
-
-  strict_expr : {d : ℕ} {m : Bool} {e : Expr} {i j : ℕ} → IsExpr ts d m e i j → next_index ts m i < j
-  strict_expr (plain p) = strict_level p
-  strict_expr (conditional {m} {j} {n} c q x s y) =
-      let f = strict_level c in
-      let t = both (loose (step ts m k.Question j q)) (both (span_expr x) (both (loose (step ts m k.Colon n s)) (span_expr y))) in
-      omega (arith, f, t.forth)
-
   pub term_sits : {d : ℕ} {m : Bool} {t : Term} {i j : ℕ} → IsTerm ts d m t i j → Sits ts i j t.first t.past
   term_sits {m} {i} w =
-      let b = begins ts m i in let f = strict_term w in let s = span_term w in let p = placed_term w in
-      record { begun = omega (arith, b, p.0); some = omega (arith, f, p.0, p.1); ended = omega (arith, p.1); within = omega (arith, s.within, p.1) }
+      let b = begins ts m i in let f = begins_term w in let g = follows ts m i in let s = span_term w in let p = placed_term w in
+      record { begun = omega (arith, b, p.0); some = omega (arith, f, g, p.0, p.1); ended = omega (arith, p.1); within = omega (arith, s.within, p.1) }
 
   level_sits : {d : ℕ} {m : Bool} {n : ℕ} {e : Expr} {i j : ℕ} → IsLevel ts d m n e i j → Sits ts i j e.first e.past
   level_sits {m} {i} w =
-      let b = begins ts m i in let f = strict_level w in let s = span_level w in let p = placed_level w in
-      record { begun = omega (arith, b, p.0); some = omega (arith, f, p.0, p.1); ended = omega (arith, p.1); within = omega (arith, b, f, s.within, p.1) }
+      let b = begins ts m i in let f = begins_level w in let g = follows ts m i in let s = span_level w in let p = placed_level w in
+      record { begun = omega (arith, b, p.0); some = omega (arith, f, g, p.0, p.1); ended = omega (arith, p.1); within = omega (arith, b, f, g, s.within, p.1) }
 
   pub expr_sits : {d : ℕ} {m : Bool} {e : Expr} {i j : ℕ} → IsExpr ts d m e i j → Sits ts i j e.first e.past
   expr_sits {m} {i} w =
-      let b = begins ts m i in let f = strict_expr w in let s = span_expr w in let p = placed_expr w in
-      record { begun = omega (arith, b, p.0); some = omega (arith, f, p.0, p.1); ended = omega (arith, p.1); within = omega (arith, b, f, s.within, p.1) }
+      let b = begins ts m i in let f = begins_expr w in let g = follows ts m i in let s = span_expr w in let p = placed_expr w in
+      record { begun = omega (arith, b, p.0); some = omega (arith, f, g, p.0, p.1); ended = omega (arith, p.1); within = omega (arith, b, f, g, s.within, p.1) }
 
   -- ---- a chain
 

@@ -112,33 +112,23 @@ no_content role h (Content-F.OneLine (Some a)) = if_false (is_same_role role Att
 -- ---- layer by layer
 
 at_expr : (role other : Role) (l : ExprKindLayer) → exprs_in_role role (expr_kind_children other l) ≡ of_expr role l
-at_expr Elsewhere other (ExprKind-F.Conditional c met unmet) = refl
 at_expr Elsewhere other (ExprKind-F.Binary head ls) = ap (λ (es : List Expr). head ∷ es) (all_links ls)
-at_expr Elsewhere other (ExprKind-F.Unary op x) = refl
 at_expr Elsewhere other (ExprKind-F.Postfix t xs) = no_tails Elsewhere false xs
-at_expr Elsewhere other (ExprKind-F.Term t) = refl
-at_expr role other (ExprKind-F.Conditional c met unmet) = refl
 at_expr role other (ExprKind-F.Binary head ls) = no_links role refl ls
-at_expr role other (ExprKind-F.Unary op x) = refl
 at_expr role other (ExprKind-F.Postfix t xs) = no_tails role false xs
-at_expr role other (ExprKind-F.Term t) = refl
+at_expr _ _ _ = refl
 
 at_term : (role : Role) (l : PrimaryLayer) → exprs_in_role role (primary_children l) ≡ of_term role l
 at_term Argument (Primary-F.Call c) = all_exprs Argument Argument refl (out-Call c).arguments
 at_term Element (Primary-F.Tuple es) = all_exprs Element Element refl es
 at_term ObjectKey (Primary-F.Object xs) = all_keys xs
 at_term ObjectValue (Primary-F.Object xs) = all_values xs
-at_term Parentheses (Primary-F.Parens e) = refl
 at_term Elsewhere (Primary-F.ForTuple f) =
     ap (λ (es : List Expr). (out-ForTuple f).intro.collection ∷ (out-ForTuple f).value ∷ es) (all_conditions (out-ForTuple f).filter)
 at_term Elsewhere (Primary-F.ForObject f) =
     ap (λ (es : List Expr). (out-ForObject f).intro.collection ∷ (out-ForObject f).key ∷ (out-ForObject f).value ∷ es) (all_conditions (out-ForObject f).filter)
-at_term Element Primary-F.Number = refl
-at_term Element Primary-F.Identifier = refl
 at_term Element (Primary-F.Quoted t) = no_parts Element t.parts
 at_term Element (Primary-F.Heredoc t) = no_parts Element t.parts
-at_term role Primary-F.Number = refl
-at_term role Primary-F.Identifier = refl
 at_term role (Primary-F.Call c) = no_exprs role Argument refl (out-Call c).arguments
 at_term role (Primary-F.Tuple es) = no_exprs role Element refl es
 at_term role (Primary-F.Object xs) = no_elems role refl refl xs
@@ -146,30 +136,19 @@ at_term role (Primary-F.ForTuple f) = no_conditions role refl (out-ForTuple f).f
 at_term role (Primary-F.ForObject f) = no_conditions role refl (out-ForObject f).filter
 at_term role (Primary-F.Quoted t) = no_parts role t.parts
 at_term role (Primary-F.Heredoc t) = no_parts role t.parts
-at_term role (Primary-F.Parens e) = refl
+at_term _ _ = refl
 
 at_tail : (role : Role) (l : TailLayer) → exprs_in_role role (tail_children l) ≡ of_tail role l
 at_tail Index (Tail-F.Index e) = refl
-at_tail Index (Tail-F.Name n) = refl
-at_tail Index (Tail-F.LegacyIndex n) = refl
-at_tail Index Tail-F.AttributeSplat = refl
-at_tail Index Tail-F.FullSplat = refl
-at_tail role (Tail-F.Index e) = refl
-at_tail role (Tail-F.Name n) = refl
-at_tail role (Tail-F.LegacyIndex n) = refl
-at_tail role Tail-F.AttributeSplat = refl
-at_tail role Tail-F.FullSplat = refl
+at_tail _ _ = refl
 
 at_part : (role : Role) (l : PartLayer) → exprs_in_role role (part_children l) ≡ of_part role l
-at_part Interpolation (Part-F.Interp e) = refl
 at_part Elsewhere (Part-F.If d) =
     ap (λ (es : List Expr). (out-IfDirective d).condition ∷ es) (after_parts Elsewhere (out-IfDirective d).then_branch.parts (else_children (out-IfDirective d).else_branch) (no_else Elsewhere (out-IfDirective d).else_branch))
 at_part Elsewhere (Part-F.For d) = ap (λ (es : List Expr). d.intro.collection ∷ es) (no_parts Elsewhere d.body.parts)
-at_part Interpolation (Part-F.Literal n) = refl
-at_part role (Part-F.Literal n) = refl
-at_part role (Part-F.Interp e) = refl
 at_part role (Part-F.If d) = after_parts role (out-IfDirective d).then_branch.parts (else_children (out-IfDirective d).else_branch) (no_else role (out-IfDirective d).else_branch)
 at_part role (Part-F.For d) = no_parts role d.body.parts
+at_part _ _ = refl
 
 at_member : (role : Role) (l : MemberLayer) → exprs_in_role role (member_children l) ≡ of_member role l
 at_member AttributeValue (Member-F.Attribute a) = refl
@@ -223,15 +202,11 @@ no_term_members [] = refl
 no_term_members (m ∷ ms) = no_term_members ms
 
 terms_at_expr : (role : Role) (l : ExprKindLayer) → terms_among (expr_kind_children role l) ≡ term_of_expr role l
-terms_at_expr role (ExprKind-F.Conditional c met unmet) = refl
 terms_at_expr role (ExprKind-F.Binary head ls) = no_term_links ls
-terms_at_expr role (ExprKind-F.Unary op x) = refl
 terms_at_expr role (ExprKind-F.Postfix t xs) = ap (λ (ts : List (Role × Term)). (Elsewhere, t) ∷ ts) (no_term_tails false xs)
-terms_at_expr role (ExprKind-F.Term t) = refl
+terms_at_expr _ _ = refl
 
 no_terms_at_term : (l : PrimaryLayer) → terms_among (primary_children l) ≡ []
-no_terms_at_term Primary-F.Number = refl
-no_terms_at_term Primary-F.Identifier = refl
 no_terms_at_term (Primary-F.Call c) = no_term_exprs Argument (out-Call c).arguments
 no_terms_at_term (Primary-F.Tuple es) = no_term_exprs Element es
 no_terms_at_term (Primary-F.Object xs) = no_term_elems xs
@@ -239,20 +214,16 @@ no_terms_at_term (Primary-F.ForTuple f) = no_term_conditions (out-ForTuple f).fi
 no_terms_at_term (Primary-F.ForObject f) = no_term_conditions (out-ForObject f).filter
 no_terms_at_term (Primary-F.Quoted t) = no_term_parts t.parts
 no_terms_at_term (Primary-F.Heredoc t) = no_term_parts t.parts
-no_terms_at_term (Primary-F.Parens e) = refl
+no_terms_at_term _ = refl
 
 no_terms_at_tail : (l : TailLayer) → terms_among (tail_children l) ≡ []
 no_terms_at_tail (Tail-F.Index e) = refl
-no_terms_at_tail (Tail-F.Name n) = refl
-no_terms_at_tail (Tail-F.LegacyIndex n) = refl
-no_terms_at_tail Tail-F.AttributeSplat = refl
-no_terms_at_tail Tail-F.FullSplat = refl
+no_terms_at_tail _ = refl
 
 no_terms_at_part : (l : PartLayer) → terms_among (part_children l) ≡ []
-no_terms_at_part (Part-F.Literal n) = refl
-no_terms_at_part (Part-F.Interp e) = refl
 no_terms_at_part (Part-F.If d) = after_term_parts (out-IfDirective d).then_branch.parts (else_children (out-IfDirective d).else_branch) (no_term_else (out-IfDirective d).else_branch)
 no_terms_at_part (Part-F.For d) = no_term_parts d.body.parts
+no_terms_at_part _ = refl
 
 no_terms_in_content : (l : ContentLayer) → terms_among (content_children l) ≡ []
 no_terms_in_content (Content-F.Body b) = no_term_members b.members
@@ -275,9 +246,7 @@ terms_right (member m) = no_terms_at_member (out-Member m)
 over : (l : TailLayer) (splat leads : Bool) → splat ≡ leads → splat_after splat l ≡ leads_back_over l leads
 over (Tail-F.Name n) splat leads h = h
 over (Tail-F.LegacyIndex n) splat leads h = h
-over Tail-F.AttributeSplat splat leads h = refl
-over Tail-F.FullSplat splat leads h = refl
-over (Tail-F.Index e) splat leads h = refl
+over _ _ _ _ = refl
 
 flagged : (splat : Bool) (before xs : List Tail) → splat ≡ leads_back_to_splat before → tails_among (nodes_of_tails splat xs) ≡ flagged_tails before xs
 flagged splat before [] h = refl
@@ -289,11 +258,9 @@ no_tail_links [] = refl
 no_tail_links (l ∷ ls) = no_tail_links ls
 
 tails_at_expr : (role : Role) (l : ExprKindLayer) → tails_among (expr_kind_children role l) ≡ tails_of_expr l
-tails_at_expr role (ExprKind-F.Conditional c met unmet) = refl
 tails_at_expr role (ExprKind-F.Binary head ls) = no_tail_links ls
-tails_at_expr role (ExprKind-F.Unary op x) = refl
 tails_at_expr role (ExprKind-F.Postfix t xs) = flagged false [] xs refl
-tails_at_expr role (ExprKind-F.Term t) = refl
+tails_at_expr _ _ = refl
 
 pub roles_are_right : RolesAreRight
 roles_are_right = record {

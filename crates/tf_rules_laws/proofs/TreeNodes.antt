@@ -137,55 +137,6 @@ module _ {ts : List Token} where
 
 -- ---- the nodes in what a production makes
 
-conditional_nodes : (role : Role) (a b : ℕ) (c t u : Expr)
-    → expr_kind_children role (out-ExprKind (node.expr a b (form.Conditional c t u)).kind) ≡ expr Elsewhere c ∷ expr Elsewhere t ∷ expr Elsewhere u ∷ []
-unfolding node.expr
-conditional_nodes role a b c t u = ap (expr_kind_children role) (open_conditional c t u)
-
-links_nodes : (op : BinaryOperator) (x : Expr) (links : List Operation)
-    → map (λ (l : Operation). expr Elsewhere l.operand) (node.operation op x ∷ links) ≡ expr Elsewhere x ∷ map (λ (l : Operation). expr Elsewhere l.operand) links
-unfolding node.operation
-links_nodes op x links = refl
-
-chain_nodes : (role : Role) (a b : ℕ) (head : Expr) (op : BinaryOperator) (x : Expr) (links : List Operation)
-    → expr_kind_children role (out-ExprKind (node.binary a b head (node.operation op x ∷ links)).kind)
-    ≡ expr Elsewhere head ∷ expr Elsewhere x ∷ map (λ (l : Operation). expr Elsewhere l.operand) links
-unfolding node.expr node.operation
-chain_nodes role a b head op x links = ap (expr_kind_children role) (open_chain head (node.operation op x ∷ links))
-
-unary_nodes : (role : Role) (a b : ℕ) (op : UnaryOperator) (x : Expr) → expr_kind_children role (out-ExprKind (node.expr a b (form.Unary op x)).kind) ≡ expr Elsewhere x ∷ []
-unfolding node.expr
-unary_nodes role a b op x = ap (expr_kind_children role) (open_prefixed op x)
-
-plain_nodes : (role : Role) (a b : ℕ) (t : Term) → expr_kind_children role (out-ExprKind (node.postfix a b t []).kind) ≡ term role t ∷ []
-unfolding node.expr
-plain_nodes role a b t = ap (expr_kind_children role) (open_plain t)
-
-tailed_nodes : (role : Role) (a b : ℕ) (t : Term) (x : Tail) (xs : List Tail)
-    → expr_kind_children role (out-ExprKind (node.postfix a b t (x ∷ xs)).kind) ≡ term Elsewhere t ∷ tail false x ∷ nodes_of_tails (splat_after false (out-Tail x)) xs
-unfolding node.expr
-tailed_nodes role a b t x xs = ap (expr_kind_children role) (open_tailed t (x ∷ xs))
-
-number_nodes : (a b : ℕ) → primary_children (out-Primary (node.term a b shape.Number).kind) ≡ []
-unfolding node.term
-number_nodes a b = ap primary_children open_number
-
-identifier_nodes : (a b : ℕ) → primary_children (out-Primary (node.term a b shape.Identifier).kind) ≡ []
-unfolding node.term
-identifier_nodes a b = ap primary_children open_identifier
-
-call_nodes : (a b : ℕ) (names : List ℕ) (es : List Expr) (expand_final : Bool) → primary_children (out-Primary (node.term a b (node.call names es expand_final)).kind) ≡ map (expr Argument) es
-unfolding node.term node.call
-call_nodes a b names es expand_final = ap primary_children (open_call _) ∙ ap (map (expr Argument)) (call_arguments names es expand_final)
-
-tuple_nodes : (a b : ℕ) (es : List Expr) → primary_children (out-Primary (node.term a b (shape.Tuple es)).kind) ≡ map (expr Element) es
-unfolding node.term
-tuple_nodes a b es = ap primary_children (open_tuple es)
-
-object_nodes : (a b : ℕ) (xs : List Elem) → primary_children (out-Primary (node.term a b (shape.Object xs)).kind) ≡ flat_map elem_children xs
-unfolding node.term
-object_nodes a b xs = ap primary_children (open_object xs)
-
 for_tuple_nodes : (a b : ℕ) (x : Intro) (value : Expr) (o : Option Expr)
     → primary_children (out-Primary (node.term a b (node.for_tuple x value o)).kind) ≡ expr Elsewhere x.collection ∷ expr Elsewhere value ∷ filter_children o
 unfolding node.term node.for_tuple
@@ -199,32 +150,6 @@ for_object_nodes a b x key value grouped o =
     ap primary_children (open_for_object _)
     ∙ rw (for_object_intro x key value grouped o, for_object_key x key value grouped o, for_object_value x key value grouped o, for_object_filter x key value grouped o) refl
 
-quoted_nodes : (a b c d : ℕ) (ps : List Part) → primary_children (out-Primary (node.term a b (shape.Quoted (node.template c d ps))).kind) ≡ map part ps
-unfolding node.term node.template
-quoted_nodes a b c d ps = ap primary_children (open_quoted _)
-
-heredoc_nodes : (a b c d : ℕ) (ps : List Part) → primary_children (out-Primary (node.term a b (shape.Heredoc (node.template c d ps))).kind) ≡ map part ps
-unfolding node.term node.template
-heredoc_nodes a b c d ps = ap primary_children (open_heredoc _)
-
-parens_nodes : (a b : ℕ) (e : Expr) → primary_children (out-Primary (node.term a b (shape.Parens e)).kind) ≡ expr Parentheses e ∷ []
-unfolding node.term
-parens_nodes a b e = ap primary_children (open_parens e)
-
-elem_nodes : (key value : Expr) → elem_children (node.elem key value) ≡ expr ObjectKey key ∷ expr ObjectValue value ∷ []
-unfolding node.elem
-elem_nodes key value = refl
-
-intro_nodes : (a b n : ℕ) (o : Option ℕ) (e : Expr) → expr Elsewhere (node.intro a b n o e).collection ∷ [] ≡ expr Elsewhere e ∷ []
-unfolding node.intro
-intro_nodes a b n o e = refl
-
-literal_nodes : (n : ℕ) → part_children (out-Part (piece.Literal n)) ≡ []
-literal_nodes n = ap part_children (open_literal n)
-
-interp_nodes : (e : Expr) → part_children (out-Part (piece.Interp e)) ≡ expr Interpolation e ∷ []
-interp_nodes e = ap part_children (open_interp e)
-
 rolled_if_nodes : (a b : ℕ) (c : Expr) (t : Template) (u : Option Template)
     → part_children (Part-F.If (roll-IfDirective (record { first = a; past = b; condition = c; then_branch = t; else_branch = u }))) ≡ expr Elsewhere c ∷ (map part t.parts ++ else_children u)
 rolled_if_nodes a b c t u = rw (if_directive_condition a b c t u, if_directive_met a b c t u, if_directive_unmet a b c t u) refl
@@ -234,41 +159,16 @@ if_nodes : (a b : ℕ) (c : Expr) (x y : ℕ) (ps : List Part) (u : Option Templ
 unfolding node.if_part node.template
 if_nodes a b c x y ps u = ap part_children (open_if _) ∙ rolled_if_nodes a b c (node.template x y ps) u
 
-for_nodes : (a b : ℕ) (i : Intro) (x y : ℕ) (ps : List Part) → part_children (out-Part (node.for_part a b i (node.template x y ps))) ≡ expr Elsewhere i.collection ∷ map part ps
-unfolding node.for_part node.template
-for_nodes a b i x y ps = ap part_children (open_for _)
-
-else_nodes : (a b : ℕ) (ps : List Part) → else_children (Some (node.template a b ps)) ≡ map part ps
-unfolding node.template
-else_nodes a b ps = refl
-
-value_nodes : (a b : ℕ) (e : Expr) → option_children (Some (node.attribute a b e)) ≡ expr AttributeValue e ∷ []
-unfolding node.attribute
-value_nodes a b e = refl
-
-attribute_nodes : (a b : ℕ) (e : Expr) → member_children (out-Member (item.Attribute (node.attribute a b e))) ≡ expr AttributeValue e ∷ []
-unfolding node.attribute
-attribute_nodes a b e = ap member_children (open_attribute _)
-
-block_nodes : (a b : ℕ) (ls : List Label) (x : Content) → member_children (out-Member (node.block a b ls x)) ≡ content_children (out-Content x)
-unfolding node.block
-block_nodes a b ls x = ap member_children (open_block _)
-
-body_nodes : (a b : ℕ) (ms : List Member) → content_children (out-Content (inner.Body (node.body a b ms))) ≡ map member ms
-unfolding node.body
-body_nodes a b ms = ap content_children (open_lines _)
-
-on_line_nodes : (o : Option Attribute) → content_children (out-Content (inner.OneLine o)) ≡ option_children o
-on_line_nodes o = ap content_children (open_line o)
-
 -- ---- the grammar
 
 module _ {ts : List Token} where
   mutual
+    unfolding node.expr node.operation node.term node.call node.template node.elem node.intro node.for_part
+
     in_expr : {d : ℕ} {m : Bool} {e : Expr} {i j : ℕ} (role : Role) → IsExpr ts d m e i j → Reads ts (expr_kind_children role (out-ExprKind e.kind)) i j
     in_expr role (plain p) = in_level role zero refl p
     in_expr role (conditional {m} {c} {then_branch} {else_branch} {i} {j} {n} {l} p q x s y) =
-        same_nodes (conditional_nodes role (next_index ts m i) l c then_branch else_branch)
+        same_nodes (ap (expr_kind_children role) (open_conditional c then_branch else_branch))
         (cons (before (an_operand zero refl p (in_level Elsewhere zero refl p)) (pass m j k.Question refl q))
         (cons (before (an_expr Elsewhere x (in_expr Elsewhere x)) (pass m n k.Colon refl s))
         (an_expr Elsewhere y (in_expr Elsewhere y))))
@@ -278,22 +178,21 @@ module _ {ts : List Token} where
     in_level role k h (level p no_operations) = in_level role (suc k) (omega (arith, h)) p
     in_level role k h (level {m} {n} {head} {i} {j} {l} p (operation {t} {op} {x} {links} q o y ys)) =
         let lower : suc k + n ≡ levels = omega (arith, h) in
-        same_nodes (chain_nodes role (next_index ts m i) l head op x links)
+        same_nodes (ap (expr_kind_children role) (open_chain head (node.operation op x ∷ links)))
         (cons (an_operand (suc k) lower p (in_level Elsewhere (suc k) lower p))
         (following (pass m j t (binary_other t n op o) q) (cons (an_operand (suc k) lower y (in_level Elsewhere (suc k) lower y)) (in_links (suc k) lower ys))))
 
     in_links : {d : ℕ} {m : Bool} {n : ℕ} {links : List Operation} {i j : ℕ} (k : ℕ) → k + n ≡ levels → IsOperations ts d m n links i j → Reads ts (map (λ (l : Operation). expr Elsewhere l.operand) links) i j
     in_links k h (no_operations {i = i}) = none_at i
     in_links k h (operation {m} {n} {t} {op} {x} {links} {i} p o y ys) =
-        same_nodes (links_nodes op x links)
-        (following (pass m i t (binary_other t n op o) p) (cons (an_operand k h y (in_level Elsewhere k h y)) (in_links k h ys)))
+        following (pass m i t (binary_other t n op o) p) (cons (an_operand k h y (in_level Elsewhere k h y)) (in_links k h ys))
 
     in_unary : {d : ℕ} {m : Bool} {e : Expr} {i j : ℕ} (role : Role) → IsUnary ts d m e i j → Reads ts (expr_kind_children role (out-ExprKind e.kind)) i j
     in_unary role (with_operator {m} {t} {op} {e} {i} {j} p o x) =
-        same_nodes (unary_nodes role (next_index ts m i) j op e) (following (pass m i t (unary_other t op o) p) (an_operand levels refl (lowest x) (in_unary Elsewhere x)))
-    in_unary role (post {m} {head} {i} {l} p no_tails) = same_nodes (plain_nodes role (next_index ts m i) l head) (a_term role p (in_term p))
+        same_nodes (ap (expr_kind_children role) (open_prefixed op e)) (following (pass m i t (unary_other t op o) p) (an_operand levels refl (lowest x) (in_unary Elsewhere x)))
+    in_unary role (post {m} {head} {i} {l} p no_tails) = same_nodes (ap (expr_kind_children role) (open_plain head)) (a_term role p (in_term p))
     in_unary role (post {m} {head} {i} {l} p (tails {x} {xs} w ws)) =
-        same_nodes (tailed_nodes role (next_index ts m i) l head x xs)
+        same_nodes (ap (expr_kind_children role) (open_tailed head (x ∷ xs)))
         (cons (a_term Elsewhere p (in_term p)) (cons (in_tail false w) (in_tails (splat_after false (out-Tail x)) ws)))
 
     in_tails : {d : ℕ} {m : Bool} {xs : List Tail} {i j : ℕ} (splat : Bool) → IsTails ts d m xs i j → Reads ts (nodes_of_tails splat xs) i j
@@ -315,14 +214,14 @@ module _ {ts : List Token} where
         (following (pass m i k.OpenBracket refl p) (before (an_expr Index x (in_expr Index x)) (pass true j k.CloseBracket refl q)))
 
     in_term : {d : ℕ} {m : Bool} {t : Term} {i j : ℕ} → IsTerm ts d m t i j → Reads ts (primary_children (out-Primary t.kind)) i j
-    in_term (number {m} {i} p) = same_nodes (number_nodes (next_index ts m i) (after_next ts m i)) (tokens (pass m i k.Number refl p))
-    in_term (identifier {m} {i} p q r) = same_nodes (identifier_nodes (next_index ts m i) (after_next ts m i)) (tokens (pass m i k.Identifier refl p))
+    in_term (number {m} {i} p) = same_nodes (ap primary_children open_number) (tokens (pass m i k.Number refl p))
+    in_term (identifier {m} {i} p q r) = same_nodes (ap primary_children open_identifier) (tokens (pass m i k.Identifier refl p))
     in_term (call {m} {names} {es} {expand_final} {i} {j} {l} p ns q xs) =
-        same_nodes (call_nodes (next_index ts m i) l (next_index ts m i ∷ names) es expand_final)
+        same_nodes (ap primary_children (open_call _) ∙ ap (map (expr Argument)) (call_arguments (next_index ts m i ∷ names) es expand_final))
         (following (after (pass m i k.Identifier refl p) (after (pass_names ns) (pass m j k.OpenParen refl q))) (in_arguments xs))
-    in_term (tuple {m} {es} {i} {j} p w xs) = same_nodes (tuple_nodes (next_index ts m i) j es) (following (pass m i k.OpenBracket refl p) (in_items xs))
+    in_term (tuple {m} {es} {i} {j} p w xs) = same_nodes (ap primary_children (open_tuple es)) (following (pass m i k.OpenBracket refl p) (in_items xs))
     in_term (object {m} {xs} {i} {l} p w ls es) =
-        same_nodes (object_nodes (next_index ts m i) l xs) (following (after (pass m i k.OpenBrace refl p) (pass_lines ls)) (in_elems es))
+        same_nodes (ap primary_children (open_object xs)) (following (after (pass m i k.OpenBrace refl p) (pass_lines ls)) (in_elems es))
     in_term (for_tuple {m} {x} {value} {filter = o} {i} {j} {l} p y c v f) =
         same_nodes (for_tuple_nodes (next_index ts m i) l x value o)
         (following (pass m i k.OpenBracket refl p) (cons (before (in_intro y) (pass true j k.Colon refl c)) (cons (an_expr Elsewhere v (in_expr Elsewhere v)) (in_filter refl f))))
@@ -332,13 +231,13 @@ module _ {ts : List Token} where
         (cons (before (an_expr Elsewhere a (in_expr Elsewhere a)) (pass true n k.FatArrow refl w))
         (cons (before (an_expr Elsewhere v (in_expr Elsewhere v)) (pass_dots s)) (in_filter refl f)))))
     in_term (quoted {m} {ps} {i} {j} p xs q) =
-        same_nodes (quoted_nodes (next_index ts m i) (after_next ts m j) (first_token_in ts m (after_next ts m i) j) j ps)
+        same_nodes (ap primary_children (open_quoted _))
         (following (pass m i k.QuoteOpen refl p) (before (in_parts xs) (pass m j k.QuoteClose refl q)))
     in_term (heredoc {m} {ps} {i} {j} p xs q) =
-        same_nodes (heredoc_nodes (next_index ts m i) (after_next ts m j) (first_token_in ts m (after_next ts m i) j) j ps)
+        same_nodes (ap primary_children (open_heredoc _))
         (following (pass m i k.HereOpen refl p) (before (in_parts xs) (pass m j k.HereClose refl q)))
     in_term (parens {m} {e} {i} {j} p x q) =
-        same_nodes (parens_nodes (next_index ts m i) (after_next ts true j) e)
+        same_nodes (ap primary_children (open_parens e))
         (following (pass m i k.OpenParen refl p) (before (an_expr Parentheses x (in_expr Parentheses x)) (pass true j k.CloseParen refl q)))
 
     in_arguments : {d : ℕ} {es : List Expr} {s : Bool} {i j : ℕ} → IsArguments ts d es s i j → Reads ts (map (expr Argument) es) i j
@@ -360,14 +259,13 @@ module _ {ts : List Token} where
 
     in_elem : {d : ℕ} {x : Elem} {i j : ℕ} → IsElem ts d x i j → Reads ts (elem_children x) i j
     in_elem (by_equals {key} {value} {j} a p b) =
-        same_nodes (elem_nodes key value) (cons (before (an_expr ObjectKey a (in_expr ObjectKey a)) (pass false j k.Equal refl p)) (an_expr ObjectValue b (in_expr ObjectValue b)))
+        cons (before (an_expr ObjectKey a (in_expr ObjectKey a)) (pass false j k.Equal refl p)) (an_expr ObjectValue b (in_expr ObjectValue b))
     in_elem (by_colon {key} {value} {j} a p b) =
-        same_nodes (elem_nodes key value) (cons (before (an_expr ObjectKey a (in_expr ObjectKey a)) (pass false j k.Colon refl p)) (an_expr ObjectValue b (in_expr ObjectValue b)))
+        cons (before (an_expr ObjectKey a (in_expr ObjectKey a)) (pass false j k.Colon refl p)) (an_expr ObjectValue b (in_expr ObjectValue b))
 
     in_intro : {d : ℕ} {x : Intro} {i j : ℕ} → IsIntro ts d x i j → Reads ts (expr Elsewhere x.collection ∷ []) i j
     in_intro (intro {o} {e} {i} {j} {l} w p s v x) =
-        same_nodes (intro_nodes (next_index ts true i) l (next_index ts true (after_next ts true i)) o e)
-        (following (after (word true _ i w) (after (pass true (after_next ts true i) k.Identifier refl p) (after (pass_second s) (word true _ j v)))) (an_expr Elsewhere x (in_expr Elsewhere x)))
+        following (after (word true _ i w) (after (pass true (after_next ts true i) k.Identifier refl p) (after (pass_second s) (word true _ j v)))) (an_expr Elsewhere x (in_expr Elsewhere x))
 
     in_filter : {d : ℕ} {close : Kind} {o : Option Expr} {i j : ℕ} → is_legacy close ≡ false → IsFilter ts d close o i j → Reads ts (filter_children o) i j
     in_filter c (no_filter {close} {i} p) = tokens (pass true i close c p)
@@ -378,22 +276,22 @@ module _ {ts : List Token} where
     in_parts (parts w ws) = cons (a_part w (in_part w)) (in_parts ws)
 
     in_part : {d : ℕ} {m : Bool} {x : Part} {i j : ℕ} → IsPart ts d m x i j → Reads ts (part_children (out-Part x)) i j
-    in_part (quote_text {m} {i} p) = same_nodes (literal_nodes (next_index ts m i)) (tokens (pass m i k.QuoteLit refl p))
-    in_part (here_text {m} {i} p) = same_nodes (literal_nodes (next_index ts m i)) (tokens (pass m i k.HereLit refl p))
+    in_part (quote_text {m} {i} p) = same_nodes (ap part_children (open_literal _)) (tokens (pass m i k.QuoteLit refl p))
+    in_part (here_text {m} {i} p) = same_nodes (ap part_children (open_literal _)) (tokens (pass m i k.HereLit refl p))
     in_part (interp {m} {e} {i} {j} p x q) =
-        same_nodes (interp_nodes e) (following (pass m i k.InterpOpen refl p) (before (an_expr Interpolation x (in_expr Interpolation x)) (pass true j k.SeqClose refl q)))
+        same_nodes (ap part_children (open_interp e)) (following (pass m i k.InterpOpen refl p) (before (an_expr Interpolation x (in_expr Interpolation x)) (pass true j k.SeqClose refl q)))
     in_part (if_directive {m} {c} {then_branch} {else_branch} {i} {j} {n} {l} p w x q ps o) =
         same_nodes (if_nodes (next_index ts m i) l c (first_token_in ts m (after_next ts true j) n) n then_branch else_branch)
         (following (after (pass m i k.DirectiveOpen refl p) (word true _ (after_next ts m i) w))
         (cons (before (an_expr Elsewhere x (in_expr Elsewhere x)) (pass true j k.SeqClose refl q)) (joined (map part then_branch) (else_children else_branch) (in_parts ps) (in_else o))))
     in_part (for_directive {m} {x} {body} {i} {j} {n} {l} p y q ps s) =
-        same_nodes (for_nodes (next_index ts m i) l x (first_token_in ts m (after_next ts true j) n) n body)
+        same_nodes (ap part_children (open_for _))
         (following (pass m i k.DirectiveOpen refl p) (cons (before (in_intro y) (pass true j k.SeqClose refl q)) (before (in_parts ps) (pass_keyword s))))
 
     in_else : {d : ℕ} {m : Bool} {o : Option Template} {i j : ℕ} → IsElse ts d m o i j → Reads ts (else_children o) i j
     in_else (no_else s) = tokens (pass_keyword s)
     in_else (has_else {m} {ps} {j} {n} s w t) =
-        same_nodes (else_nodes (first_token_in ts m j n) n ps) (following (pass_keyword s) (before (in_parts w) (pass_keyword t)))
+        following (pass_keyword s) (before (in_parts w) (pass_keyword t))
 
   -- ---- members
 
@@ -406,26 +304,27 @@ module _ {ts : List Token} where
   pass_head {i = i} {j = j} p ls b = after (pass false i k.Identifier refl p) (after (pass_labels ls) (pass false j k.OpenBrace refl b))
 
   in_line : {d : ℕ} {o : Option Attribute} {i j : ℕ} → IsOneLineBody ts d o i j → Reads ts (option_children o) i j
+  unfolding node.attribute
   in_line (nothing {i = i}) = none_at i
   in_line (just {e} {i} {j} p q x) =
-      same_nodes (value_nodes (next_index ts false i) j e) (following (pass_name i p q) (an_expr AttributeValue x (in_expr AttributeValue x)))
+      following (pass_name i p q) (an_expr AttributeValue x (in_expr AttributeValue x))
 
   in_members : {d : ℕ} {ms : List Member} {i j : ℕ} → IsMembers ts d ms i j → Reads ts (map member ms) i j
+  unfolding node.attribute node.block node.body
   in_members (no_members {i = i}) = none_at i
   in_members (blank l r) = following (pass_line l) (in_members r)
   in_members (attribute {e} {i} {n} p q x l r) =
       cons (a_member (attribute p q x l no_members)
-      (same_nodes (attribute_nodes (next_index ts false i) n e) (following (pass_name i p q) (before (an_expr AttributeValue x (in_expr AttributeValue x)) (pass_eol l)))))
+      (same_nodes (ap member_children (open_attribute _)) (following (pass_name i p q) (before (an_expr AttributeValue x (in_expr AttributeValue x)) (pass_eol l)))))
       (in_members r)
   in_members (block {ls} {bs} {i} {n} {o} {q} p ns b s w c l r) =
-      let content = inner.Body (node.body (first_token_in ts false n o) o bs) in
       cons (a_member (block p ns b s w c l no_members)
-      (same_nodes (block_nodes (next_index ts false i) q ls content) (same_nodes (body_nodes (first_token_in ts false n o) o bs)
+      (same_nodes (ap member_children (open_block _)) (same_nodes (ap content_children (open_lines _))
       (following (after (pass_head p ns b) (pass_line s)) (before (in_members w) (after (pass false o k.CloseBrace refl c) (pass_eol l)))))))
       (in_members r)
   in_members (line_block {ls} {a} {i} {o} {q} p ns b t c l r) =
       cons (a_member (line_block p ns b t c l no_members)
-      (same_nodes (block_nodes (next_index ts false i) q ls (inner.OneLine a)) (same_nodes (on_line_nodes a)
+      (same_nodes (ap member_children (open_block _)) (same_nodes (ap content_children (open_line a))
       (following (pass_head p ns b) (before (in_line t) (after (pass false o k.CloseBrace refl c) (pass_eol l)))))))
       (in_members r)
 

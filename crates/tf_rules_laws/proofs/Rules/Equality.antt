@@ -48,11 +48,8 @@ chain_of_rule pairs first is_first left [] = found.none
 chain_of_rule pairs first is_first left (l ∷ ls) = found.both (link_of_rule pairs first is_first left l) (chain_of_rule pairs first false l.operand ls)
 
 pub of_rule : (pairs : List Pair) (first : ℕ) (form : ExprKindLayer) → From pairs EmptyListEquality (equality_findings pairs first form)
-of_rule pairs first (ExprKind-F.Conditional a b c) = found.none
 of_rule pairs first (ExprKind-F.Binary head links) = chain_of_rule pairs first true head links
-of_rule pairs first (ExprKind-F.Unary op a) = found.none
-of_rule pairs first (ExprKind-F.Postfix t xs) = found.none
-of_rule pairs first (ExprKind-F.Term t) = found.none
+of_rule _ _ _ = found.none
 
 -- ---- where its tokens are elsewhere too, the same is found
 
@@ -166,10 +163,7 @@ chain_is_valid pairs first is_first left (l ∷ ls) past a r b =
 module _ (pairs : List Pair) (ts : List Token) (count : length ts ≡ length pairs) where
   pub equality_is_valid : {d : ℕ} {m : Bool} (e : Expr) → IsExpr ts d m e e.first e.past → (l : ExprKindLayer) → out-ExprKind e.kind ≡ l
       → AreValid (length pairs) (equality_findings pairs e.first l)
-  equality_is_valid e w (ExprKind-F.Conditional a b c) h = valid.none
   equality_is_valid e w (ExprKind-F.Binary head ls) h =
       let c = chain_in w head ls h in let s = expr_sits w in
       chain_is_valid pairs e.first true head ls e.past (omega (arith, c.begun, c.some)) c.rise (omega (arith, s.within, count))
-  equality_is_valid e w (ExprKind-F.Unary op a) h = valid.none
-  equality_is_valid e w (ExprKind-F.Postfix t xs) h = valid.none
-  equality_is_valid e w (ExprKind-F.Term t) h = valid.none
+  equality_is_valid _ _ _ _ = valid.none

@@ -30,11 +30,8 @@ use Rattle.tf_rules_laws.proofs.Valid.{AreValid}
 -- ---- what is found is of the rule
 
 pub of_rule : (pairs : List Pair) (splat : Bool) (t : TailLayer) → From pairs DeprecatedIndex (index_findings pairs splat t)
-of_rule pairs splat (Tail-F.Name n) = found.none
 of_rule pairs splat (Tail-F.LegacyIndex n) = found.maybe (not splat) (insert_only insertion.Index) refl refl refl
-of_rule pairs splat Tail-F.AttributeSplat = found.none
-of_rule pairs splat Tail-F.FullSplat = found.none
-of_rule pairs splat (Tail-F.Index e) = found.none
+of_rule _ _ _ = found.none
 
 -- ---- where its tokens are elsewhere too, the same is found
 
@@ -59,7 +56,4 @@ module _ (pairs : List Pair) (ts : List Token) (count : length ts ≡ length pai
   index_is_valid splat w (Tail-F.LegacyIndex n) h =
       let b = kind_within ts n DotIndex (tail_legacy w n h) in
       valid.keep (length pairs) DeprecatedIndex n (n + 1) plain_message _ (omega arith) (omega (arith, b, count)) (valid.fits n (n + 1) (not splat) (insert_only insertion.Index) (indexed n))
-  index_is_valid splat w (Tail-F.Name n) h = valid.none
-  index_is_valid splat w Tail-F.AttributeSplat h = valid.none
-  index_is_valid splat w Tail-F.FullSplat h = valid.none
-  index_is_valid splat w (Tail-F.Index e) h = valid.none
+  index_is_valid _ _ _ _ = valid.none

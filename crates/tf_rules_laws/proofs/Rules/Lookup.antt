@@ -46,16 +46,8 @@ call_of_rule : (pairs : List Pair) (first past : ℕ) (c : CallLayer) → From p
 call_of_rule pairs first past c = found.choose (c.expand_final || not (is_lookup pairs c.names)) found.none (pair_of_rule pairs first past (two_arguments c.arguments))
 
 pub of_rule : (pairs : List Pair) (first past : ℕ) (s : PrimaryLayer) → From pairs DeprecatedLookup (lookup_findings pairs first past s)
-of_rule pairs first past Primary-F.Number = found.none
-of_rule pairs first past Primary-F.Identifier = found.none
 of_rule pairs first past (Primary-F.Call c) = call_of_rule pairs first past (out-Call c)
-of_rule pairs first past (Primary-F.Tuple es) = found.none
-of_rule pairs first past (Primary-F.Object es) = found.none
-of_rule pairs first past (Primary-F.ForTuple f) = found.none
-of_rule pairs first past (Primary-F.ForObject f) = found.none
-of_rule pairs first past (Primary-F.Quoted t) = found.none
-of_rule pairs first past (Primary-F.Heredoc t) = found.none
-of_rule pairs first past (Primary-F.Parens e) = found.none
+of_rule _ _ _ _ = found.none
 
 -- ---- where its tokens are elsewhere too, the same is found
 
@@ -150,12 +142,4 @@ module _ (pairs : List Pair) (ts : List Token) (count : length ts ≡ length pai
   pub lookup_is_valid : {d : ℕ} {m : Bool} (t : Term) → IsTerm ts d m t t.first t.past → (l : PrimaryLayer) → out-Primary t.kind ≡ l
       → AreValid (length pairs) (lookup_findings pairs t.first t.past l)
   lookup_is_valid t w (Primary-F.Call c) h = valid.choose ((out-Call c).expand_final || not (is_lookup pairs (out-Call c).names)) valid.none (pair_is_valid t w c h (two_arguments (out-Call c).arguments) refl)
-  lookup_is_valid t w Primary-F.Number h = valid.none
-  lookup_is_valid t w Primary-F.Identifier h = valid.none
-  lookup_is_valid t w (Primary-F.Tuple es) h = valid.none
-  lookup_is_valid t w (Primary-F.Object es) h = valid.none
-  lookup_is_valid t w (Primary-F.ForTuple f) h = valid.none
-  lookup_is_valid t w (Primary-F.ForObject f) h = valid.none
-  lookup_is_valid t w (Primary-F.Quoted x) h = valid.none
-  lookup_is_valid t w (Primary-F.Heredoc x) h = valid.none
-  lookup_is_valid t w (Primary-F.Parens e) h = valid.none
+  lookup_is_valid _ _ _ _ = valid.none
