@@ -1,5 +1,5 @@
 -- The parser answers each derivation of a body, and of a whole text.
-use Rattle.std.proofs.Common.{◌≡◌, ◌≢◌, ℕ, zero, suc, ◌+◌, ◌≤◌, false, List, [], ◌∷◌, ◌++◌, length, Option, Some, None, Ok, refl, sym, ap, ◌∙◌, append_assoc, append-nil, arith}
+use Rattle.std.proofs.Common.{◌≡◌, ◌≢◌, ℕ, zero, suc, ◌+◌, ◌≤◌, ◌<◌, false, List, [], ◌∷◌, ◌++◌, length, Option, Some, None, Ok, refl, sym, ap, ◌∙◌, append_assoc, append-nil, arith}
 use Rattle.hcl_token.specs.declared.kind.Kind.{Kind}
 use Rattle.hcl_token.specs.declared.kind.Kind.TheVariants as k
 use Rattle.hcl_grammar.specs.declared.goal.Goal.TheVariants.{Whole}
@@ -14,6 +14,7 @@ use Rattle.hcl_grammar.specs.declared.tree.Tree.{Tree}
 use Rattle.hcl_grammar.specs.Bodies.{IsLabels, no_labels, word_label, text_label, empty_label, IsOneLineBody, nothing, one, IsMembers, no_members, blank, attribute, block, line_block, IsOptionalMark, no_mark, mark, IsFileEnd, at_end, at_comment, IsFile, file}
 use Rattle.hcl_grammar.specs.Pure.BodyParser as bodies
 use Rattle.hcl_grammar.specs.Pure.BodyParser.{deeper_members}
+use Rattle.hcl_grammar.specs.Grammar.{IsExpr}
 use Rattle.hcl_grammar.specs.Lookahead.{NextIs, IsNewline, line_end, comment, IsEol, eol_line, eol_end, eol_comment}
 use Rattle.hcl_grammar.specs.Nodes as node
 use Rattle.hcl_grammar.specs.Pure.NodeMakers.{nodes}
@@ -25,6 +26,7 @@ use Rattle.hcl_grammar_laws.proofs.Ahead.{Stops, stops_at, sees-not, sees-other}
 use Rattle.hcl_grammar_laws.proofs.Complete.{nested, c_expr}
 use Rattle.hcl_grammar_laws.proofs.Lines.{NoLine, no_line, line-yes, NoInner, no_inner, no_inner_at, inner-yes}
 use Rattle.hcl_grammar_laws.proofs.Spans.{step, span_line, span_eol, span_expr, span_labels, span_on_line, span_members}
+use Rattle.hcl_grammar_laws.specs.OneMember.{IsOneMember, attribute as one_attribute, block as one_block, line_block as one_line_block}
 use Rattle.hcl_grammar_laws.proofs.Steps.{Answers, found, deep, bind, deeper_found, sees-yes, if_next-yes, if_next-no, expect-yes}
 
 module _ (ts : List Token) where
@@ -56,7 +58,7 @@ module _ (ts : List Token) where
   eol-yes (eol_end {i} h) = let n = unlike k.LineComment i h in rw ((no_line_end i h).is, if_next-no ts false k.LineComment i n, h)
   eol-yes (eol_comment {i} q h) = rw (line-no i q h, if_next-yes ts false k.LineComment i q, h)
 
-  pub eol_stop : {i j : ℕ} → IsEol ts i j → Stops 8 ts false i
+  eol_stop : {i j : ℕ} → IsEol ts i j → Stops 8 ts false i
   eol_stop (eol_line (line_end q)) = stops_at 8 k.LineEnd q (omega arith)
   eol_stop (eol_line (comment q n)) = stops_at 8 k.LineComment q (omega arith)
   eol_stop (eol_end h) = record { at_token = λ t e. absurd (let clash : None ≡ Some t = sym h ∙ e in cc) }
@@ -125,7 +127,7 @@ module _ (ts : List Token) where
     pub no_line : NoLine ts i
     pub no_name : next_is ts false k.Identifier i ≡ false
 
-  pub ends_brace : (i : ℕ) → NextIs ts false k.CloseBrace i → Ends i
+  ends_brace : (i : ℕ) → NextIs ts false k.CloseBrace i → Ends i
   unfolding same_kind
   ends_brace i h = record { no_line = no_line_brace i h; no_name = sees-other ts false k.CloseBrace k.Identifier i h refl }
 
@@ -139,20 +141,33 @@ module _ (ts : List Token) where
   unfolding bodies.members_from
   members_newline turns acc i q r = rw (line-yes q) r
 
-  -- a member, and those after it
-  members_more : {d a : ℕ} {x : Member} {ys : List Member} {n l : ℕ} (turns : ℕ) (acc : List Member) (i : ℕ) → NextIs ts false k.Identifier i
-      → Answers d a x n (bodies.attribute_or_block nodes ts a (deeper_members nodes ts a) (next_index ts false i) (after_next ts false i))
-      → Answers d a ys l (bodies.members_from nodes ts a (deeper_members nodes ts a) turns (acc ++ x ∷ []) n)
-      → Answers d a ys l (bodies.members_from nodes ts a (deeper_members nodes ts a) (suc turns) acc i)
-  unfolding bodies.members_from bodies.member_of
-  members_more turns acc i q x more = rw ((no_line_name i q).is, sees-yes ts false k.Identifier i q, if_next-yes ts false k.Identifier i q) (bind _ (bind _ x found) more)
+  span_one : {d : ℕ} {x : Member} {i n : ℕ} → IsOneMember ts d x i n → i < n
+  span_one (one_attribute {i} q e x el) = omega (arith, (step ts false k.Identifier i q).forth, (step ts false k.Equal (after_next ts false i) e).forth, (span_expr x).forth, (span_eol el).forth)
+  span_one (one_block {i} {j} {o} h ls br nl bs cl el) =
+      omega (arith, (step ts false k.Identifier i h).forth, (span_labels ls).forth, (step ts false k.OpenBrace j br).forth, (span_line nl).forth, (span_members bs).forth, (step ts false k.CloseBrace o cl).forth, (span_eol el).forth)
+  span_one (one_line_block {i} {j} {o} h ls br x cl el) =
+      omega (arith, (step ts false k.Identifier i h).forth, (span_labels ls).forth, (step ts false k.OpenBrace j br).forth, (span_on_line x).forth, (step ts false k.CloseBrace o cl).forth, (span_eol el).forth)
 
-  pub member_attribute : {d a : ℕ} {e : Expr} {j n : ℕ} (first i : ℕ) → NextIs ts false k.Equal i → Answers d a e j ((p.under nodes ts a).expr false Whole (after_next ts false i)) → IsEol ts j n
+  -- the parser answers a member, after its name
+  abbrev GivesOne : ℕ → Member → ℕ → ℕ → Type 0
+  GivesOne d x i n = (b : ℕ) → Answers d b x n (bodies.attribute_or_block nodes ts b (deeper_members nodes ts b) (next_index ts false i) (after_next ts false i))
+
+  -- a member, and those after it
+  members_more : {d b : ℕ} {x : Member} {ys : List Member} {i n l : ℕ} → NextIs ts false k.Identifier i → i < n → n ≤ l
+      → Answers d b x n (bodies.attribute_or_block nodes ts b (deeper_members nodes ts b) (next_index ts false i) (after_next ts false i))
+      → ((turns : ℕ) (acc : List Member) → l ≤ turns + n → Answers d b (acc ++ ys) l (bodies.members_from nodes ts b (deeper_members nodes ts b) turns acc n))
+      → (turns : ℕ) (acc : List Member) → l ≤ turns + i → Answers d b (acc ++ x ∷ ys) l (bodies.members_from nodes ts b (deeper_members nodes ts b) turns acc i)
+  unfolding bodies.members_from bodies.member_of
+  members_more q f g x more zero acc le = absurd (omega (arith, f, g, le))
+  members_more {x = y} {ys} {i} q f g x more (suc turns) acc le =
+      rw (← append_assoc acc (y ∷ []) ys, (no_line_name i q).is, sees-yes ts false k.Identifier i q, if_next-yes ts false k.Identifier i q) (bind _ (bind _ x found) (more turns (acc ++ y ∷ []) (omega (arith, f, le))))
+
+  member_attribute : {d a : ℕ} {e : Expr} {j n : ℕ} (first i : ℕ) → NextIs ts false k.Equal i → Answers d a e j ((p.under nodes ts a).expr false Whole (after_next ts false i)) → IsEol ts j n
       → Answers d a (member.Attribute (node.attribute first n e)) n (bodies.attribute_or_block nodes ts a (deeper_members nodes ts a) first i)
   unfolding bodies.attribute_or_block bodies.attribute_by
   member_attribute first i e x l = rw (sees-yes ts false k.Equal i e, if_next-yes ts false k.Equal i e) (bind _ x (rw (eol-yes l) found))
 
-  pub member_block : {d : ℕ} {ls : List Label} {x : Content} {j o q : ℕ} (first i : ℕ) → IsLabels ts ls i j → NextIs ts false k.OpenBrace j → NextIs ts false k.CloseBrace o → IsEol ts (after_next ts false o) q → (b : ℕ)
+  member_block : {d : ℕ} {ls : List Label} {x : Content} {j o q : ℕ} (first i : ℕ) → IsLabels ts ls i j → NextIs ts false k.OpenBrace j → NextIs ts false k.CloseBrace o → IsEol ts (after_next ts false o) q → (b : ℕ)
       → ((a : ℕ) → Answers d a x o (bodies.block_content nodes ts (suc a) (bodies.members nodes ts a) (after_next ts false j)))
       → Answers (suc d) b (node.block first q ls x) q (bodies.attribute_or_block nodes ts b (deeper_members nodes ts b) first i)
   unfolding bodies.attribute_or_block bodies.block_by
@@ -162,7 +177,7 @@ module _ (ts : List Token) where
       rw (not_equals ls br, if_next-no ts false k.Equal i (not_equals ls br), labels_all ls br, expect-yes ts false k.OpenBrace j br)
       (bind _ (deeper_found (x a)) (rw (expect-yes ts false k.CloseBrace o cl, eol-yes el) found))
 
-  pub content_lines : {d a : ℕ} {bs : List Member} {n o : ℕ} (i : ℕ) → IsNewline ts i n → Answers d a bs o (bodies.members nodes ts a n)
+  content_lines : {d a : ℕ} {bs : List Member} {n o : ℕ} (i : ℕ) → IsNewline ts i n → Answers d a bs o (bodies.members nodes ts a n)
       → Answers d a (content.Body (node.body (first_token_in ts false n o) o bs)) o (bodies.block_content nodes ts (suc a) (bodies.members nodes ts a) i)
   unfolding bodies.block_content bodies.nested_body
   content_lines i l x = rw (inner-yes l) (bind _ x found)
@@ -176,43 +191,38 @@ module _ (ts : List Token) where
   unfolding bodies.block_content bodies.one_line_body
   content_one i h q x = rw ((no_inner_name i h).is, sees-yes ts false k.Identifier i h, if_next-yes ts false k.Identifier i h, expect-yes ts false k.Equal (after_next ts false i) q) (bind _ x found)
 
-  pub c_on_line : {d : ℕ} {x : Option Attribute} {i j : ℕ} → IsOneLineBody ts d x i j → NextIs ts false k.CloseBrace j → (a : ℕ) → Answers d a (content.OneLine x) j (bodies.block_content nodes ts (suc a) (bodies.members nodes ts a) i)
+  c_on_line : {d : ℕ} {x : Option Attribute} {i j : ℕ} → IsOneLineBody ts d x i j → NextIs ts false k.CloseBrace j → (a : ℕ) → Answers d a (content.OneLine x) j (bodies.block_content nodes ts (suc a) (bodies.members nodes ts a) i)
   c_on_line (nothing {i}) h a = content_empty i h
   c_on_line (one {i} {j} n q x) h a = content_one i n q (nested ts false (after_next ts false (after_next ts false i)) a (c_expr ts x (stops_at 8 k.CloseBrace h (omega arith)) a))
 
-  pub members-is : (a i : ℕ) → bodies.members nodes ts a i ≡ bodies.members_from nodes ts a (deeper_members nodes ts a) (length ts) [] i
+  members-is : (a i : ℕ) → bodies.members nodes ts a i ≡ bodies.members_from nodes ts a (deeper_members nodes ts a) (length ts) [] i
   unfolding bodies.members
   members-is zero i = refl
   members-is (suc a) i = refl
 
-  pub c_members : {d : ℕ} {ms : List Member} {i j : ℕ} → IsMembers ts d ms i j → Ends j → (b turns : ℕ) (acc : List Member) → j ≤ turns + i
+  c_attribute : {d : ℕ} {e : Expr} {j n : ℕ} (i : ℕ) → NextIs ts false k.Identifier i → NextIs ts false k.Equal (after_next ts false i) → IsExpr ts d false e (after_next ts false (after_next ts false i)) j → IsEol ts j n
+      → GivesOne d (member.Attribute (node.attribute (next_index ts false i) n e)) i n
+  c_attribute i q e x el b = member_attribute (next_index ts false i) (after_next ts false i) e (nested ts false (after_next ts false (after_next ts false i)) b (c_expr ts x (eol_stop el) b)) el
+
+  c_block : {d : ℕ} {ls : List Label} {bs : List Member} {j n o q : ℕ} (i : ℕ) → IsLabels ts ls (after_next ts false i) j → NextIs ts false k.OpenBrace j → IsNewline ts (after_next ts false j) n
+      → ((a : ℕ) → Answers d a bs o (bodies.members_from nodes ts a (deeper_members nodes ts a) (length ts) [] n)) → NextIs ts false k.CloseBrace o → IsEol ts (after_next ts false o) q
+      → GivesOne (suc d) (node.block (next_index ts false i) q ls (content.Body (node.body (first_token_in ts false n o) o bs))) i q
+  c_block {j} {n} i ls br nl bs cl el b = member_block (next_index ts false i) (after_next ts false i) ls br cl el b (λ a. content_lines (after_next ts false j) nl (rw (members-is a n) (bs a)))
+
+  c_line_block : {d : ℕ} {ls : List Label} {x : Option Attribute} {j o q : ℕ} (i : ℕ) → IsLabels ts ls (after_next ts false i) j → NextIs ts false k.OpenBrace j → IsOneLineBody ts d x (after_next ts false j) o
+      → NextIs ts false k.CloseBrace o → IsEol ts (after_next ts false o) q → GivesOne (suc d) (node.block (next_index ts false i) q ls (content.OneLine x)) i q
+  c_line_block i ls br x cl el b = member_block (next_index ts false i) (after_next ts false i) ls br cl el b (λ a. c_on_line x cl a)
+
+  c_members : {d : ℕ} {ms : List Member} {i j : ℕ} → IsMembers ts d ms i j → Ends j → (b turns : ℕ) (acc : List Member) → j ≤ turns + i
       → Answers d b (acc ++ ms) j (bodies.members_from nodes ts b (deeper_members nodes ts b) turns acc i)
   c_members (no_members {i}) s b turns acc l = rw (append-nil acc) (members_end turns acc i s)
   c_members (blank q ms) s b zero acc l = absurd (omega (arith, (span_line q).forth, (span_members ms).forth))
   c_members (blank {i} q ms) s b (suc turns) acc l = members_newline turns acc i q (c_members ms s b turns acc (omega (arith, (span_line q).forth)))
-  c_members (attribute {i} q e x el ms) s b zero acc l =
-      absurd (omega (arith, (step ts false k.Identifier i q).forth, (step ts false k.Equal (after_next ts false i) e).forth, (span_expr x).forth, (span_eol el).forth, (span_members ms).forth))
-  c_members (attribute {e = y} {ms = ys} {i} {n} q e x el ms) s b (suc turns) acc l =
-      rw (← append_assoc acc (member.Attribute (node.attribute (next_index ts false i) n y) ∷ []) ys)
-      (members_more turns acc i q (member_attribute (next_index ts false i) (after_next ts false i) e (nested ts false (after_next ts false (after_next ts false i)) b (c_expr ts x (eol_stop el) b)) el)
-      (c_members ms s b turns (acc ++ member.Attribute (node.attribute (next_index ts false i) n y) ∷ [])
-      (omega (arith, (step ts false k.Identifier i q).forth, (step ts false k.Equal (after_next ts false i) e).forth, (span_expr x).forth, (span_eol el).forth))))
-  c_members (block {i} {j} {o} h ls br nl bs cl el ms) s b zero acc l =
-      absurd (omega (arith, (step ts false k.Identifier i h).forth, (span_labels ls).forth, (step ts false k.OpenBrace j br).forth, (span_line nl).forth, (span_members bs).forth, (step ts false k.CloseBrace o cl).forth, (span_eol el).forth, (span_members ms).forth))
-  c_members (block {ls = ns} {bs = xs} {ms = ys} {i} {j} {n} {o} {q} h ls br nl bs cl el ms) s b (suc turns) acc l =
-      rw (← append_assoc acc (node.block (next_index ts false i) q ns (content.Body (node.body (first_token_in ts false n o) o xs)) ∷ []) ys)
-      (members_more turns acc i h
-      (member_block (next_index ts false i) (after_next ts false i) ls br cl el b
-      (λ a. content_lines (after_next ts false j) nl (rw (members-is a n) (c_members bs (ends_brace o cl) a (length ts) [] (omega (arith, (span_members bs).within))))))
-      (c_members ms s b turns (acc ++ node.block (next_index ts false i) q ns (content.Body (node.body (first_token_in ts false n o) o xs)) ∷ [])
-      (omega (arith, (step ts false k.Identifier i h).forth, (span_labels ls).forth, (step ts false k.OpenBrace j br).forth, (span_line nl).forth, (span_members bs).forth, (step ts false k.CloseBrace o cl).forth, (span_eol el).forth))))
-  c_members (line_block {i} {j} {o} h ls br x cl el ms) s b zero acc l =
-      absurd (omega (arith, (step ts false k.Identifier i h).forth, (span_labels ls).forth, (step ts false k.OpenBrace j br).forth, (span_on_line x).forth, (step ts false k.CloseBrace o cl).forth, (span_eol el).forth, (span_members ms).forth))
-  c_members (line_block {ls = ns} {a = y} {ms = ys} {i} {j} {o} {q} h ls br x cl el ms) s b (suc turns) acc l =
-      rw (← append_assoc acc (node.block (next_index ts false i) q ns (content.OneLine y) ∷ []) ys)
-      (members_more turns acc i h (member_block (next_index ts false i) (after_next ts false i) ls br cl el b (λ a. c_on_line x cl a))
-      (c_members ms s b turns (acc ++ node.block (next_index ts false i) q ns (content.OneLine y) ∷ [])
-      (omega (arith, (step ts false k.Identifier i h).forth, (span_labels ls).forth, (step ts false k.OpenBrace j br).forth, (span_on_line x).forth, (step ts false k.CloseBrace o cl).forth, (span_eol el).forth))))
+  c_members (attribute q e x el ms) s b turns acc l = members_more q (span_one (one_attribute q e x el)) (span_members ms).forth (c_attribute _ q e x el b) (c_members ms s b) turns acc l
+  c_members (block h ls br nl bs cl el ms) s b turns acc l =
+      members_more h (span_one (one_block h ls br nl bs cl el)) (span_members ms).forth (c_block _ ls br nl (λ a. c_members bs (ends_brace _ cl) a (length ts) [] (omega (arith, (span_members bs).within))) cl el b) (c_members ms s b) turns acc l
+  c_members (line_block h ls br x cl el ms) s b turns acc l =
+      members_more h (span_one (one_line_block h ls br x cl el)) (span_members ms).forth (c_line_block _ ls br x cl el b) (c_members ms s b) turns acc l
 
   -- ---- one member
 
@@ -221,25 +231,25 @@ module _ (ts : List Token) where
   no_newline {i} h (comment q n) = let clash : Some k.Identifier ≡ Some k.LineComment = sym h ∙ q in absurd (cc)
 
   -- the member that a body begins with, where no line end is before it
-  c_named : {d : ℕ} {m : Member} {ms : List Member} {i l : ℕ} → NextIs ts false k.Identifier i → IsMembers ts d (m ∷ ms) i l → (b : ℕ)
-      → (n : ℕ) × Answers d b m n (bodies.attribute_or_block nodes ts b (deeper_members nodes ts b) (next_index ts false i) (after_next ts false i))
-  c_named h (blank q ms) b = absurd (no_newline h q)
-  c_named h (attribute {i} {n = n} q e x el ms) b = (n, member_attribute (next_index ts false i) (after_next ts false i) e (nested ts false (after_next ts false (after_next ts false i)) b (c_expr ts x (eol_stop el) b)) el)
-  c_named h (block {i} {j} {n} {o} {q} g ls br nl bs cl el ms) b = (
-    q,
-    member_block (next_index ts false i) (after_next ts false i) ls br cl el b
-        (λ a. content_lines (after_next ts false j) nl (rw (members-is a n) (c_members bs (ends_brace o cl) a (length ts) [] (omega (arith, (span_members bs).within))))),
-  )
-  c_named h (line_block {i} {q = q} g ls br x cl el ms) b = (q, member_block (next_index ts false i) (after_next ts false i) ls br cl el b (λ a. c_on_line x cl a))
+  first_member : {d : ℕ} {m : Member} {ms : List Member} {i l : ℕ} → NextIs ts false k.Identifier i → IsMembers ts d (m ∷ ms) i l → (n : ℕ) × IsOneMember ts d m i n
+  first_member h (blank q ms) = absurd (no_newline h q)
+  first_member h (attribute q e x el ms) = (_, one_attribute q e x el)
+  first_member h (block g ls br nl bs cl el ms) = (_, one_block g ls br nl bs cl el)
+  first_member h (line_block g ls br x cl el ms) = (_, one_line_block g ls br x cl el)
 
   c_some : {d : ℕ} {m : Member} {n : ℕ} (b i : ℕ) → NextIs ts false k.Identifier i → Answers d b m n (bodies.attribute_or_block nodes ts b (deeper_members nodes ts b) (next_index ts false i) (after_next ts false i))
       → Answers d b (Some m) n (bodies.member_of nodes ts b (deeper_members nodes ts b) i)
   unfolding bodies.member_of
   c_some b i h x = rw (sees-yes ts false k.Identifier i h, if_next-yes ts false k.Identifier i h) (bind _ x found)
 
+  pub c_one : {d : ℕ} {m : Member} {i n : ℕ} → IsOneMember ts d m i n → (b : ℕ) → Answers d b (Some m) n (bodies.member_of nodes ts b (deeper_members nodes ts b) i)
+  c_one (one_attribute q e x el) b = c_some b _ q (c_attribute _ q e x el b)
+  c_one (one_block h ls br nl bs cl el) b = c_some b _ h (c_block _ ls br nl (λ a. c_members bs (ends_brace _ cl) a (length ts) [] (omega (arith, (span_members bs).within))) cl el b)
+  c_one (one_line_block h ls br x cl el) b = c_some b _ h (c_line_block _ ls br x cl el b)
+
   pub c_member : {d : ℕ} {m : Member} {ms : List Member} {l : ℕ} (i : ℕ) → NextIs ts false k.Identifier i → IsMembers ts d (m ∷ ms) i l → (b : ℕ)
       → (n : ℕ) × Answers d b (Some m) n (bodies.member_of nodes ts b (deeper_members nodes ts b) i)
-  c_member i h x b = let r = c_named h x b in (r.0, c_some b i h r.1)
+  c_member i h x b = let m = first_member h x in (m.0, c_one m.1 b)
 
   pub c_none : (b i : ℕ) → next_kind ts false i ≢ Some k.Identifier → Answers b b None i (bodies.member_of nodes ts b (deeper_members nodes ts b) i)
   unfolding bodies.member_of

@@ -1,5 +1,5 @@
 -- The parser answers each derivation.
-use Rattle.std.proofs.Common.{◌≡◌, ◌≢◌, ℕ, zero, suc, ◌+◌, ◌≤◌, ◌||◌, Bool, true, false, List, [], ◌∷◌, ◌++◌, length, Option, Some, None, Ok, Err, refl, ap, subst, ◌∙◌, append_assoc, append-nil, arith}
+use Rattle.std.proofs.Common.{◌≡◌, ℕ, zero, suc, ◌+◌, ◌≤◌, ◌||◌, Bool, true, false, List, [], ◌∷◌, ◌++◌, length, Option, Some, None, Ok, Err, refl, ap, subst, ◌∙◌, append_assoc, append-nil, arith}
 use Rattle.hcl_token.specs.declared.kind.Kind.{Kind}
 use Rattle.hcl_token.specs.declared.kind.Kind.TheVariants as k
 use Rattle.hcl_grammar.specs.declared.fault.TokenFault.TheVariants.{Syntax}
@@ -12,23 +12,20 @@ use Rattle.hcl_grammar.specs.declared.tree.Intro.{Intro}
 use Rattle.hcl_grammar.specs.declared.tree.Operation.{Operation}
 use Rattle.hcl_grammar.specs.declared.tree.BinaryOperator.{BinaryOperator}
 use Rattle.hcl_grammar.specs.declared.tree.Part.{Part}
-use Rattle.hcl_grammar.specs.declared.tree.Part.TheVariants as part
 use Rattle.hcl_grammar.specs.declared.tree.UnaryOperator.{UnaryOperator}
-use Rattle.hcl_grammar.specs.declared.tree.Primary.TheVariants as shape
 use Rattle.hcl_grammar.specs.declared.tree.Tail.{Tail}
-use Rattle.hcl_grammar.specs.declared.tree.Tail.TheVariants as tail
 use Rattle.hcl_grammar.specs.declared.tree.Template.{Template}
 use Rattle.hcl_grammar.specs.declared.tree.Term.{Term}
 use Rattle.hcl_grammar.specs.Grammar.{IsExpr, plain, conditional, IsLevel, lowest, level, IsOperations, no_operations, operation, IsUnary, with_operator, post, IsTails, no_tails, tails, IsTail, by_name, legacy, attribute_splat, full_splat, index, IsTerm, number, identifier, call, tuple, object, for_tuple, for_object, quoted, heredoc, parens, IsArguments, no_arguments, last_argument, spread_argument, argument, IsItems, no_items, last_item, item, IsElems, no_elems, last_elem, elems, IsElem, by_equals, by_colon, IsIntro, intro, IsFilter, no_filter, filter, IsParts, no_parts, parts, IsPart, quote_text, here_text, interp, if_directive, for_directive, IsElse, no_else, has_else}
-use Rattle.hcl_grammar.specs.Lookahead.{NextIs, NextIsWord, NextIsNotWord, IsNewline, line_end, comment, IsNewlines, IsSep, comma, lines, IsNameTail, no_names, name, IsSecondName, no_second, second, IsEllipsis, no_ellipsis, ellipsis, IsKeyword, keyword}
+use Rattle.hcl_grammar.specs.Lookahead.{NextIs, NextIsWord, IsNewline, line_end, comment, IsSep, comma, lines, IsNameTail, no_names, name, IsSecondName, no_second, second, IsEllipsis, no_ellipsis, ellipsis, IsKeyword, keyword}
 use Rattle.hcl_grammar.specs.Nodes as node
 use Rattle.hcl_grammar.specs.Operators.{unary_operator, binary_operator, levels}
 use Rattle.hcl_grammar.specs.Pure.NodeMakers.{nodes, group}
 use Rattle.hcl_grammar.specs.Pure.Parser as p
 use Rattle.hcl_grammar.specs.Pure.Parser.{deeper, twice}
-use Rattle.hcl_grammar.specs.Pure.Reading.{Outcome, next_is, after_if_next, next_is_word}
+use Rattle.hcl_grammar.specs.Pure.Reading.{Outcome, next_is, after_if_next}
 use Rattle.hcl_grammar.specs.Pure.Steps as steps
-use Rattle.hcl_grammar.specs.Tokens.{Token, next_index, next_kind, after_next, first_token_in, same_kind, for_word, in_word, if_word, else_word, endif_word, endfor_word}
+use Rattle.hcl_grammar.specs.Tokens.{Token, next_index, next_kind, after_next, same_kind, for_word, in_word, if_word, else_word, endif_word, endfor_word}
 use Rattle.hcl_grammar_laws.proofs.Ahead.{reach, reach_by, Stops, looser, stops_at, no-begin, no-stop, sees-not, sees-other}
 use Rattle.hcl_grammar_laws.proofs.Chains.{Chain, no_more, one_more, Flat, FlatLinks, flat_operand, flat_end, flat_link, flat_level, its_level}
 use Rattle.hcl_grammar_laws.proofs.Firsts.{first_term, begin_expr, begin_elem, begin_intro}
@@ -150,58 +147,11 @@ module _ (ts : List Token) where
   tails_end m zero xs i s = found
   tails_end {b} m (suc turns) xs i s = rw (tail-no b m i s) found
 
-  tails_more : {d b : ℕ} {x : Tail} {ys : List Tail} {j l : ℕ} (m : Bool) (turns : ℕ) (xs : List Tail) (i : ℕ) → Answers d b (Some x) j (p.tail_of nodes ts b (deeper nodes ts b) m i)
-      → Answers d b ys l (p.tails_from nodes ts b (deeper nodes ts b) m turns (xs ++ x ∷ []) j)
-      → Answers d b ys l (p.tails_from nodes ts b (deeper nodes ts b) m (suc turns) xs i)
-  unfolding p.tails_from
-  tails_more m turns xs i r more = bind _ r more
-
-  tail_name : {d : ℕ} (m : Bool) (i : ℕ) → NextIs ts m k.Dot i → NextIs ts m k.Identifier (after_next ts m i) → (b : ℕ)
-      → Answers d b (Some (tail.Name (next_index ts m (after_next ts m i)))) (after_next ts m (after_next ts m i)) (p.tail_of nodes ts b (deeper nodes ts b) m i)
-  unfolding p.dot_tail same_kind
-  tail_name m i h n b =
-      let star = sees-other ts m k.Identifier k.Star (after_next ts m i) n refl in
-      rw (tail-at b m (Some k.Dot) i h, star, if_next-no ts m k.Star (after_next ts m i) star, expect-yes ts m k.Identifier (after_next ts m i) n) found
-
-  tail_splat : {d : ℕ} (m : Bool) (i : ℕ) → NextIs ts m k.Dot i → NextIs ts m k.Star (after_next ts m i) → (b : ℕ)
-      → Answers d b (Some tail.AttributeSplat) (after_next ts m (after_next ts m i)) (p.tail_of nodes ts b (deeper nodes ts b) m i)
-  unfolding p.dot_tail
-  tail_splat m i h n b = rw (tail-at b m (Some k.Dot) i h, sees-yes ts m k.Star (after_next ts m i) n, if_next-yes ts m k.Star (after_next ts m i) n) found
-
-  tail_legacy : {d : ℕ} (m : Bool) (i : ℕ) → NextIs ts m k.DotIndex i → (b : ℕ)
-      → Answers d b (Some (tail.LegacyIndex (next_index ts m i))) (after_next ts m i) (p.tail_of nodes ts b (deeper nodes ts b) m i)
-  tail_legacy m i h b = rw (tail-at b m (Some k.DotIndex) i h) found
-
-  tail_full : {d : ℕ} (m : Bool) (i : ℕ) → NextIs ts m k.OpenBracket i → NextIs ts true k.Star (after_next ts m i) → NextIs ts true k.CloseBracket (after_next ts true (after_next ts m i)) → (b : ℕ)
-      → Answers (suc d) b (Some tail.FullSplat) (after_next ts true (after_next ts true (after_next ts m i))) (p.tail_of nodes ts b (deeper nodes ts b) m i)
-  unfolding p.bracket_tail
-  tail_full m i h s c zero = rw (tail-at zero m (Some k.OpenBracket) i h) (deep (omega arith))
-  tail_full m i h s c (suc a) =
-      rw (tail-at (suc a) m (Some k.OpenBracket) i h, sees-yes ts true k.Star (after_next ts m i) s, if_next-yes ts true k.Star (after_next ts m i) s, expect-yes ts true k.CloseBracket (after_next ts true (after_next ts m i)) c) found
-
-  tail_index : {d : ℕ} {e : Expr} {j : ℕ} (m : Bool) (i : ℕ) → NextIs ts m k.OpenBracket i → next_is ts true k.Star (after_next ts m i) ≡ false → NextIs ts true k.CloseBracket j → (b : ℕ)
-      → ((a : ℕ) → Answers d a e j ((p.under nodes ts a).expr true Whole (after_next ts m i)))
-      → Answers (suc d) b (Some (tail.Index e)) (after_next ts true j) (p.tail_of nodes ts b (deeper nodes ts b) m i)
-  unfolding p.bracket_tail
-  tail_index m i h s c zero x = rw (tail-at zero m (Some k.OpenBracket) i h) (deep (omega arith))
-  tail_index {j} m i h s c (suc a) x =
-      rw (tail-at (suc a) m (Some k.OpenBracket) i h, s, if_next-no ts true k.Star (after_next ts m i) s)
-      (bind _ (bind _ (deeper_found (x a)) (rw (expect-yes ts true k.CloseBracket j c) found)) found)
-
   -- ---- terms
 
   term-at : (b : ℕ) (m : Bool) (t : Kind) (i : ℕ) → NextIs ts m t i → term b m i (next_kind ts m i) ≡ p.term_by nodes ts b (deeper nodes ts b) m (next_index ts m i) t (after_next ts m i)
   unfolding term
   term-at b m t i h = ap (term b m i) h
-
-  term_number : {d b : ℕ} (m : Bool) (i : ℕ) → NextIs ts m k.Number i → Answers d b (node.term (next_index ts m i) (after_next ts m i) shape.Number) (after_next ts m i) (term b m i (next_kind ts m i))
-  term_number {b} m i h = rw (term-at b m k.Number i h) found
-
-  term_identifier : {d b : ℕ} (m : Bool) (i : ℕ) → NextIs ts m k.Identifier i → next_kind ts m (after_next ts m i) ≢ Some k.OpenParen → next_kind ts m (after_next ts m i) ≢ Some k.DoubleColon
-      → Answers d b (node.term (next_index ts m i) (after_next ts m i) shape.Identifier) (after_next ts m i) (term b m i (next_kind ts m i))
-  unfolding p.identifier_or_call
-  term_identifier {b} m i h n q =
-      rw (term-at b m k.Identifier i h, sees-not ts m k.OpenParen (after_next ts m i) n, sees-not ts m k.DoubleColon (after_next ts m i) q) found
 
   names-yes : {m : Bool} {ns : List ℕ} {i j : ℕ} → IsNameTail ts m ns i j → next_is ts m k.DoubleColon j ≡ false → (turns : ℕ) (acc : List ℕ) → j ≤ turns + i → p.names_from nodes ts m turns acc i ≡ Ok (acc ++ ns, j)
   unfolding p.names_from
@@ -225,66 +175,6 @@ module _ (ts : List Token) where
       go true = refl
       go false = sees-yes ts m k.DoubleColon i q
 
-  term_call : {d : ℕ} {ns : List ℕ} {es : List Expr} {s : Bool} {j l : ℕ} (m : Bool) (i : ℕ) → NextIs ts m k.Identifier i → IsNameTail ts m ns (after_next ts m i) j → NextIs ts m k.OpenParen j → (b : ℕ)
-      → ((a : ℕ) → Answers d a (es, s) l (p.arguments_from nodes ts (p.under nodes ts a).expr (length ts) [] (after_next ts m j)))
-      → Answers (suc d) b (node.term (next_index ts m i) l (node.call (next_index ts m i ∷ ns) es s)) l (term b m i (next_kind ts m i))
-  unfolding p.identifier_or_call p.call same_kind
-  term_call {j} m i h ns q zero x =
-      rw (term-at zero m k.Identifier i h, called ns q, names_all (next_index ts m i) ns (sees-other ts m k.OpenParen k.DoubleColon j q refl), expect-yes ts m k.OpenParen j q) (deep (omega arith))
-  term_call {j} m i h ns q (suc a) x =
-      rw (term-at (suc a) m k.Identifier i h, called ns q, names_all (next_index ts m i) ns (sees-other ts m k.OpenParen k.DoubleColon j q refl), expect-yes ts m k.OpenParen j q) (bind _ (deeper_found (x a)) found)
-
-  term_tuple : {d : ℕ} {es : List Expr} {j : ℕ} (m : Bool) (i : ℕ) → NextIs ts m k.OpenBracket i → NextIsNotWord ts true for_word (after_next ts m i) → (b : ℕ)
-      → ((a : ℕ) → Answers d a es j (p.tuple_items_from nodes ts (p.under nodes ts a).expr (length ts) [] (after_next ts m i)))
-      → Answers (suc d) b (node.term (next_index ts m i) j (shape.Tuple es)) j (term b m i (next_kind ts m i))
-  unfolding p.tuple_or_for p.tuple
-  term_tuple m i h n zero x = rw (term-at zero m k.OpenBracket i h) (deep (omega arith))
-  term_tuple m i h n (suc a) x = rw (term-at (suc a) m k.OpenBracket i h, reads-no ts true for_word (after_next ts m i) n) (bind _ (deeper_found (x a)) found)
-
-  term_object : {d : ℕ} {xs : List Elem} {j l : ℕ} (m : Bool) (i : ℕ) → NextIs ts m k.OpenBrace i → NextIsNotWord ts true for_word (after_next ts m i) → IsNewlines ts (after_next ts m i) j → NoInner ts j → (b : ℕ)
-      → ((a : ℕ) → Answers d a xs l (p.elements_from nodes ts (p.under nodes ts a).expr (length ts) [] j))
-      → Answers (suc d) b (node.term (next_index ts m i) l (shape.Object xs)) l (term b m i (next_kind ts m i))
-  unfolding p.object_or_for p.object
-  term_object m i h w t n zero x = rw (term-at zero m k.OpenBrace i h) (deep (omega arith))
-  term_object m i h w t n (suc a) x = rw (term-at (suc a) m k.OpenBrace i h, reads-no ts true for_word (after_next ts m i) w, lines_all t n) (bind _ (deeper_found (x a)) found)
-
-  term_for_tuple : {d : ℕ} {x : Intro} {v : Expr} {o : Option Expr} {j n l : ℕ} (m : Bool) (i : ℕ) → NextIs ts m k.OpenBracket i → next_is_word ts true for_word (after_next ts m i) ≡ true → NextIs ts true k.Colon j → (b : ℕ)
-      → ((a : ℕ) → Answers d a x j (p.intro nodes ts (p.under nodes ts a).expr (after_next ts m i)))
-      → ((a : ℕ) → Answers d a v n ((p.under nodes ts a).expr true Whole (after_next ts true j)))
-      → ((a : ℕ) → Answers d a o l (p.condition nodes ts (p.under nodes ts a).expr k.CloseBracket n))
-      → Answers (suc d) b (node.term (next_index ts m i) l (node.for_tuple x v o)) l (term b m i (next_kind ts m i))
-  unfolding p.tuple_or_for p.for_tuple
-  term_for_tuple m i h w c zero x v o = rw (term-at zero m k.OpenBracket i h) (deep (omega arith))
-  term_for_tuple {j} m i h w c (suc a) x v o =
-      rw (term-at (suc a) m k.OpenBracket i h, w) (bind _ (deeper_found (x a)) (rw (expect-yes ts true k.Colon j c) (bind _ (deeper_found (v a)) (bind _ (deeper_found (o a)) found))))
-
-  term_for_object : {d : ℕ} {x : Intro} {y v : Expr} {s : Bool} {o : Option Expr} {j n q r l : ℕ} (m : Bool) (i : ℕ) → NextIs ts m k.OpenBrace i → next_is_word ts true for_word (after_next ts m i) ≡ true → NextIs ts true k.Colon j → NextIs ts true k.FatArrow n
-      → next_is ts true k.Ellipsis q ≡ s → after_if_next ts true k.Ellipsis q ≡ r → (b : ℕ)
-      → ((a : ℕ) → Answers d a x j (p.intro nodes ts (p.under nodes ts a).expr (after_next ts m i)))
-      → ((a : ℕ) → Answers d a y n ((p.under nodes ts a).expr true Whole (after_next ts true j)))
-      → ((a : ℕ) → Answers d a v q ((p.under nodes ts a).expr true Whole (after_next ts true n)))
-      → ((a : ℕ) → Answers d a o l (p.condition nodes ts (p.under nodes ts a).expr k.CloseBrace r))
-      → Answers (suc d) b (node.term (next_index ts m i) l (node.for_object x y v s o)) l (term b m i (next_kind ts m i))
-  unfolding p.object_or_for p.for_object p.for_value
-  term_for_object m i h w c f e1 e2 zero x y v o = rw (term-at zero m k.OpenBrace i h) (deep (omega arith))
-  term_for_object {j} {n} m i h w c f e1 e2 (suc a) x y v o =
-      rw (term-at (suc a) m k.OpenBrace i h, w) (bind _ (deeper_found (x a)) (rw (expect-yes ts true k.Colon j c) (bind _ (deeper_found (y a)) (rw (expect-yes ts true k.FatArrow n f)
-      (bind _ (deeper_found (v a)) (rw (e1, e2) (bind _ (deeper_found (o a)) found)))))))
-
-  term_quoted : {d : ℕ} {ps : List Part} {j : ℕ} (m : Bool) (i : ℕ) → NextIs ts m k.QuoteOpen i → NextIs ts m k.QuoteClose j → (b : ℕ)
-      → ((a : ℕ) → Answers d a ps j ((p.under nodes ts a).parts m (after_next ts m i)))
-      → Answers (suc d) b (node.term (next_index ts m i) (after_next ts m j) (shape.Quoted (node.template (first_token_in ts m (after_next ts m i) j) j ps))) (after_next ts m j) (term b m i (next_kind ts m i))
-  unfolding p.quoted p.template
-  term_quoted m i h c zero x = rw (term-at zero m k.QuoteOpen i h) (deep (omega arith))
-  term_quoted {j} m i h c (suc a) x = rw (term-at (suc a) m k.QuoteOpen i h) (bind _ (bind _ (deeper_found (x a)) found) (rw (expect-yes ts m k.QuoteClose j c) found))
-
-  term_heredoc : {d : ℕ} {ps : List Part} {j : ℕ} (m : Bool) (i : ℕ) → NextIs ts m k.HereOpen i → NextIs ts m k.HereClose j → (b : ℕ)
-      → ((a : ℕ) → Answers d a ps j ((p.under nodes ts a).parts m (after_next ts m i)))
-      → Answers (suc d) b (node.term (next_index ts m i) (after_next ts m j) (shape.Heredoc (node.template (first_token_in ts m (after_next ts m i) j) j ps))) (after_next ts m j) (term b m i (next_kind ts m i))
-  unfolding p.heredoc p.template
-  term_heredoc m i h c zero x = rw (term-at zero m k.HereOpen i h) (deep (omega arith))
-  term_heredoc {j} m i h c (suc a) x = rw (term-at (suc a) m k.HereOpen i h) (bind _ (bind _ (deeper_found (x a)) found) (rw (expect-yes ts m k.HereClose j c) found))
-
   enclosed-yes : {d : ℕ} {e : Expr} {j : ℕ} (close : Kind) (first i : ℕ) → NextIs ts true close j → (b : ℕ)
       → ((a : ℕ) → Answers d a e j ((p.under nodes ts a).expr true Whole i))
       → Answers (suc d) b e (after_next ts true j) (p.enclosed nodes ts b (deeper nodes ts b) close first i)
@@ -292,106 +182,12 @@ module _ (ts : List Token) where
   enclosed-yes close first i c zero x = deep (omega arith)
   enclosed-yes {j} close first i c (suc a) x = bind _ (deeper_found (x a)) (rw (expect-yes ts true close j c) found)
 
-  term_parens : {d : ℕ} {e : Expr} {j : ℕ} (m : Bool) (i : ℕ) → NextIs ts m k.OpenParen i → NextIs ts true k.CloseParen j → (b : ℕ)
-      → ((a : ℕ) → Answers d a e j ((p.under nodes ts a).expr true Whole (after_next ts m i)))
-      → Answers (suc d) b (node.term (next_index ts m i) (after_next ts true j) (shape.Parens e)) (after_next ts true j) (term b m i (next_kind ts m i))
-  unfolding p.parens
-  term_parens m i h c b x = rw (term-at b m k.OpenParen i h) (bind _ (enclosed-yes k.CloseParen (next_index ts m i) (after_next ts m i) c b x) found)
-
-  -- ---- items, arguments and elements, over the expressions of budget a
-
-  items_none : {d a : ℕ} (turns : ℕ) (xs : List Expr) (i : ℕ) → NextIs ts true k.CloseBracket i
-      → Answers d a xs (after_next ts true i) (p.tuple_items_from nodes ts (p.under nodes ts a).expr (suc turns) xs i)
-  unfolding p.tuple_items_from
-  items_none turns xs i h = rw (sees-yes ts true k.CloseBracket i h, if_next-yes ts true k.CloseBracket i h) found
-
-  items_last : {d a : ℕ} {e : Expr} {j : ℕ} (turns : ℕ) (xs : List Expr) (i : ℕ) → next_is ts true k.CloseBracket i ≡ false → Answers d a e j ((p.under nodes ts a).expr true Whole i) → NextIs ts true k.CloseBracket j
-      → Answers d a (xs ++ e ∷ []) (after_next ts true j) (p.tuple_items_from nodes ts (p.under nodes ts a).expr (suc turns) xs i)
-  unfolding p.tuple_items_from same_kind
-  items_last {j} turns xs i n r h =
-      let c = sees-other ts true k.CloseBracket k.Comma j h refl in
-      rw (n, if_next-no ts true k.CloseBracket i n) (bind _ r (rw (c, if_next-no ts true k.Comma j c, expect-yes ts true k.CloseBracket j h) found))
-
-  items_more : {d a : ℕ} {e : Expr} {ys : List Expr} {j l : ℕ} (turns : ℕ) (xs : List Expr) (i : ℕ) → next_is ts true k.CloseBracket i ≡ false → Answers d a e j ((p.under nodes ts a).expr true Whole i)
-      → NextIs ts true k.Comma j → Answers d a ys l (p.tuple_items_from nodes ts (p.under nodes ts a).expr turns (xs ++ e ∷ []) (after_next ts true j))
-      → Answers d a ys l (p.tuple_items_from nodes ts (p.under nodes ts a).expr (suc turns) xs i)
-  unfolding p.tuple_items_from
-  items_more {j} turns xs i n r c more = rw (n, if_next-no ts true k.CloseBracket i n) (bind _ r (rw (sees-yes ts true k.Comma j c, if_next-yes ts true k.Comma j c) more))
-
-  arguments_none : {d a : ℕ} (turns : ℕ) (xs : List Expr) (i : ℕ) → NextIs ts true k.CloseParen i
-      → Answers d a (xs, false) (after_next ts true i) (p.arguments_from nodes ts (p.under nodes ts a).expr (suc turns) xs i)
-  unfolding p.arguments_from
-  arguments_none turns xs i h = rw (sees-yes ts true k.CloseParen i h, if_next-yes ts true k.CloseParen i h) found
-
-  arguments_last : {d a : ℕ} {e : Expr} {j : ℕ} (turns : ℕ) (xs : List Expr) (i : ℕ) → next_is ts true k.CloseParen i ≡ false → Answers d a e j ((p.under nodes ts a).expr true Whole i) → NextIs ts true k.CloseParen j
-      → Answers d a (xs ++ e ∷ [], false) (after_next ts true j) (p.arguments_from nodes ts (p.under nodes ts a).expr (suc turns) xs i)
-  unfolding p.arguments_from same_kind
-  arguments_last {j} turns xs i n r h =
-      let c = sees-other ts true k.CloseParen k.Comma j h refl in
-      let s = sees-other ts true k.CloseParen k.Ellipsis j h refl in
-      rw (n, if_next-no ts true k.CloseParen i n) (bind _ r (rw (c, if_next-no ts true k.Comma j c, s, if_next-no ts true k.Ellipsis j s, expect-yes ts true k.CloseParen j h) found))
-
-  arguments_spread : {d a : ℕ} {e : Expr} {j : ℕ} (turns : ℕ) (xs : List Expr) (i : ℕ) → next_is ts true k.CloseParen i ≡ false → Answers d a e j ((p.under nodes ts a).expr true Whole i) → NextIs ts true k.Ellipsis j → NextIs ts true k.CloseParen (after_next ts true j)
-      → Answers d a (xs ++ e ∷ [], true) (after_next ts true (after_next ts true j)) (p.arguments_from nodes ts (p.under nodes ts a).expr (suc turns) xs i)
-  unfolding p.arguments_from same_kind
-  arguments_spread {j} turns xs i n r s h =
-      let c = sees-other ts true k.Ellipsis k.Comma j s refl in
-      rw (n, if_next-no ts true k.CloseParen i n) (bind _ r (rw (c, if_next-no ts true k.Comma j c, sees-yes ts true k.Ellipsis j s, if_next-yes ts true k.Ellipsis j s, expect-yes ts true k.CloseParen (after_next ts true j) h) found))
-
-  arguments_more : {d a : ℕ} {e : Expr} {ys : List Expr × Bool} {j l : ℕ} (turns : ℕ) (xs : List Expr) (i : ℕ) → next_is ts true k.CloseParen i ≡ false → Answers d a e j ((p.under nodes ts a).expr true Whole i)
-      → NextIs ts true k.Comma j → Answers d a ys l (p.arguments_from nodes ts (p.under nodes ts a).expr turns (xs ++ e ∷ []) (after_next ts true j))
-      → Answers d a ys l (p.arguments_from nodes ts (p.under nodes ts a).expr (suc turns) xs i)
-  unfolding p.arguments_from
-  arguments_more {j} turns xs i n r c more = rw (n, if_next-no ts true k.CloseParen i n) (bind _ r (rw (sees-yes ts true k.Comma j c, if_next-yes ts true k.Comma j c) more))
-
-  elem_equals : {d a : ℕ} {x y : Expr} {j l : ℕ} (xs : List Elem) (i : ℕ) → Answers d a x j ((p.under nodes ts a).expr false Whole i) → NextIs ts false k.Equal j → Answers d a y l ((p.under nodes ts a).expr false Whole (after_next ts false j))
-      → Answers d a (xs ++ node.elem x y ∷ []) l (p.element nodes ts (p.under nodes ts a).expr xs i)
-  unfolding p.element steps.equals_or_colon
-  elem_equals {j} xs i r h q = bind _ r (rw (sees-yes ts false k.Equal j h, if_next-yes ts false k.Equal j h) (bind _ q found))
-
-  elem_colon : {d a : ℕ} {x y : Expr} {j l : ℕ} (xs : List Elem) (i : ℕ) → Answers d a x j ((p.under nodes ts a).expr false Whole i) → NextIs ts false k.Colon j → Answers d a y l ((p.under nodes ts a).expr false Whole (after_next ts false j))
-      → Answers d a (xs ++ node.elem x y ∷ []) l (p.element nodes ts (p.under nodes ts a).expr xs i)
-  unfolding p.element steps.equals_or_colon same_kind
-  elem_colon {j} xs i r h q = let n = sees-other ts false k.Colon k.Equal j h refl in bind _ r (rw (n, if_next-no ts false k.Equal j n, expect-yes ts false k.Colon j h) (bind _ q found))
-
-  elems_none : {d a : ℕ} (turns : ℕ) (xs : List Elem) (i : ℕ) → NextIs ts false k.CloseBrace i
-      → Answers d a xs (after_next ts false i) (p.elements_from nodes ts (p.under nodes ts a).expr (suc turns) xs i)
-  unfolding p.elements_from
-  elems_none turns xs i h = rw (sees-yes ts false k.CloseBrace i h, if_next-yes ts false k.CloseBrace i h) found
-
-  elems_last : {d a : ℕ} {j : ℕ} (turns : ℕ) (xs : List Elem) (x : Elem) (i : ℕ) → next_is ts false k.CloseBrace i ≡ false → Answers d a (xs ++ x ∷ []) j (p.element nodes ts (p.under nodes ts a).expr xs i)
-      → NextIs ts false k.CloseBrace j
-      → Answers d a (xs ++ x ∷ []) (after_next ts false j) (p.elements_from nodes ts (p.under nodes ts a).expr (suc turns) xs i)
-  unfolding p.elements_from
-  elems_last {j} turns xs x i n r h = rw (n, if_next-no ts false k.CloseBrace i n) (bind _ r (rw (sep_or_end-no ts j h) found))
-
-  elems_more : {d a : ℕ} {ys : List Elem} {j n l : ℕ} (turns : ℕ) (xs : List Elem) (x : Elem) (i : ℕ) → next_is ts false k.CloseBrace i ≡ false → Answers d a (xs ++ x ∷ []) j (p.element nodes ts (p.under nodes ts a).expr xs i)
-      → IsSep ts j n → NoInner ts n → Answers d a ys l (p.elements_from nodes ts (p.under nodes ts a).expr turns (xs ++ x ∷ []) n)
-      → Answers d a ys l (p.elements_from nodes ts (p.under nodes ts a).expr (suc turns) xs i)
-  unfolding p.elements_from
-  elems_more turns xs x i not r s line more = rw (not, if_next-no ts false k.CloseBrace i not) (bind _ r (rw (sep_or_end-yes s line) more))
-
   -- ---- `for`
 
   second-yes : {o : Option ℕ} {i j : ℕ} → IsSecondName ts o i j → NextIsWord ts true in_word j → steps.second_name ts i ≡ Ok (o, j)
   unfolding steps.second_name same_kind
   second-yes (no_second {i}) w = let n = sees-other ts true k.Identifier k.Comma i (word_at ts true in_word i w) refl in rw (n, if_next-no ts true k.Comma i n)
   second-yes (second {i} q n) w = rw (sees-yes ts true k.Comma i q, if_next-yes ts true k.Comma i q, expect-yes ts true k.Identifier (after_next ts true i) n)
-
-  intro_by : {d a : ℕ} {o : Option ℕ} {e : Expr} {j l : ℕ} (i : ℕ) → NextIsWord ts true for_word i → NextIs ts true k.Identifier (after_next ts true i) → IsSecondName ts o (after_next ts true (after_next ts true i)) j → NextIsWord ts true in_word j
-      → Answers d a e l ((p.under nodes ts a).expr true Whole (after_next ts true j))
-      → Answers d a (node.intro (next_index ts true i) l (next_index ts true (after_next ts true i)) o e) l (p.intro nodes ts (p.under nodes ts a).expr i)
-  unfolding p.intro
-  intro_by {j} i w n s v r = rw (word-yes ts true for_word i w, expect-yes ts true k.Identifier (after_next ts true i) n, second-yes s v, word-yes ts true in_word j v) (bind _ r found)
-
-  filter_none : {d a : ℕ} (close : Kind) (i : ℕ) → NextIs ts true close i → same_kind k.Identifier close ≡ false → Answers d a None (after_next ts true i) (p.condition nodes ts (p.under nodes ts a).expr close i)
-  unfolding p.condition
-  filter_none close i h n = rw (reads-other ts true if_word close i h n, expect-yes ts true close i h) found
-
-  filter_some : {d a : ℕ} {e : Expr} {j : ℕ} (close : Kind) (i : ℕ) → NextIsWord ts true if_word i → Answers d a e j ((p.under nodes ts a).expr true Whole (after_next ts true i)) → NextIs ts true close j
-      → Answers d a (Some e) (after_next ts true j) (p.condition nodes ts (p.under nodes ts a).expr close i)
-  unfolding p.condition
-  filter_some {j} close i w r h = rw (reads-yes ts true if_word i w) (bind _ r (rw (expect-yes ts true close j h) found))
 
   -- ---- templates
 
@@ -436,56 +232,6 @@ module _ (ts : List Token) where
   unfolding p.parts_from
   parts_end m zero xs i s = found
   parts_end {b} m (suc turns) xs i s = rw (s.is b) found
-
-  parts_more : {d b : ℕ} {x : Part} {ys : List Part} {j l : ℕ} (m : Bool) (turns : ℕ) (xs : List Part) (i : ℕ) → Answers d b (Some x) j (p.part_of nodes ts b (deeper nodes ts b) (twice nodes ts b) m i)
-      → Answers d b ys l (p.parts_from nodes ts b (deeper nodes ts b) (twice nodes ts b) m turns (xs ++ x ∷ []) j)
-      → Answers d b ys l (p.parts_from nodes ts b (deeper nodes ts b) (twice nodes ts b) m (suc turns) xs i)
-  unfolding p.parts_from
-  parts_more m turns xs i r more = bind _ r more
-
-  part_quote : {d : ℕ} (m : Bool) (i : ℕ) → NextIs ts m k.QuoteLit i → (b : ℕ) → Answers d b (Some (part.Literal (next_index ts m i))) (after_next ts m i) (p.part_of nodes ts b (deeper nodes ts b) (twice nodes ts b) m i)
-  part_quote m i h b = rw (part-at b m (Some k.QuoteLit) i h) found
-
-  part_here : {d : ℕ} (m : Bool) (i : ℕ) → NextIs ts m k.HereLit i → (b : ℕ) → Answers d b (Some (part.Literal (next_index ts m i))) (after_next ts m i) (p.part_of nodes ts b (deeper nodes ts b) (twice nodes ts b) m i)
-  part_here m i h b = rw (part-at b m (Some k.HereLit) i h) found
-
-  part_interp : {d : ℕ} {e : Expr} {j : ℕ} (m : Bool) (i : ℕ) → NextIs ts m k.InterpOpen i → NextIs ts true k.SeqClose j → (b : ℕ)
-      → ((a : ℕ) → Answers d a e j ((p.under nodes ts a).expr true Whole (after_next ts m i)))
-      → Answers (suc d) b (Some (part.Interp e)) (after_next ts true j) (p.part_of nodes ts b (deeper nodes ts b) (twice nodes ts b) m i)
-  unfolding p.interpolation
-  part_interp m i h c b x = rw (part-at b m (Some k.InterpOpen) i h) (bind _ (bind _ (enclosed-yes k.SeqClose (next_index ts m i) (after_next ts m i) c b x) found) found)
-
-  part_if : {d : ℕ} {e : Expr} {ps : List Part} {o : Option Template} {j n l : ℕ} (m : Bool) (i : ℕ) → NextIs ts m k.DirectiveOpen i → NextIsWord ts true if_word (after_next ts m i) → NextIs ts true k.SeqClose j → (b : ℕ)
-      → ((a : ℕ) → Answers d a e j ((p.under nodes ts a).expr true Whole (after_next ts true (after_next ts m i))))
-      → ((a : ℕ) → Answers (suc d) a ps n ((p.under nodes ts a).parts m (after_next ts true j)))
-      → ((b a : ℕ) → Answers (suc d) a o l (p.else_and_endif nodes ts b (p.under nodes ts a) m n))
-      → Answers (suc (suc d)) b (Some (node.if_part (next_index ts m i) l e (node.template (first_token_in ts m (after_next ts true j) n) n ps) o)) l (p.part_of nodes ts b (deeper nodes ts b) (twice nodes ts b) m i)
-  unfolding p.directive p.if_directive p.template
-  part_if m i h w c zero x ps o = rw (part-at zero m (Some k.DirectiveOpen) i h, reads-yes ts true if_word (after_next ts m i) w) (deep (omega arith))
-  part_if m i h w c (suc zero) x ps o = rw (part-at (suc zero) m (Some k.DirectiveOpen) i h, reads-yes ts true if_word (after_next ts m i) w) (deep (omega arith))
-  part_if {j} m i h w c (suc (suc a)) x ps o =
-      rw (part-at (suc (suc a)) m (Some k.DirectiveOpen) i h, reads-yes ts true if_word (after_next ts m i) w)
-      (bind _ (bind _ (deeper_found (deeper_found (x a))) (rw (expect-yes ts true k.SeqClose j c) (bind _ (bind _ (deeper_found (ps (suc a))) found) (bind _ (deeper_found (o (suc (suc a)) (suc a))) found)))) found)
-
-  part_for : {d : ℕ} {x : Intro} {ps : List Part} {j n l : ℕ} (m : Bool) (i : ℕ) → NextIs ts m k.DirectiveOpen i → NextIsWord ts true for_word (after_next ts m i) → NextIs ts true k.SeqClose j → IsKeyword ts m endfor_word n l → (b : ℕ)
-      → ((a : ℕ) → Answers d a x j (p.intro nodes ts (p.under nodes ts a).expr (after_next ts m i)))
-      → ((a : ℕ) → Answers (suc d) a ps n ((p.under nodes ts a).parts m (after_next ts true j)))
-      → Answers (suc (suc d)) b (Some (node.for_part (next_index ts m i) l x (node.template (first_token_in ts m (after_next ts true j) n) n ps))) l (p.part_of nodes ts b (deeper nodes ts b) (twice nodes ts b) m i)
-  unfolding p.directive p.for_directive p.template
-  part_for m i h w c e zero x ps = rw (part-at zero m (Some k.DirectiveOpen) i h, reads-another ts true for_word if_word (after_next ts m i) w refl, reads-yes ts true for_word (after_next ts m i) w) (deep (omega arith))
-  part_for m i h w c e (suc zero) x ps = rw (part-at (suc zero) m (Some k.DirectiveOpen) i h, reads-another ts true for_word if_word (after_next ts m i) w refl, reads-yes ts true for_word (after_next ts m i) w) (deep (omega arith))
-  part_for {j} m i h w c e (suc (suc a)) x ps =
-      rw (part-at (suc (suc a)) m (Some k.DirectiveOpen) i h, reads-another ts true for_word if_word (after_next ts m i) w refl, reads-yes ts true for_word (after_next ts m i) w)
-      (bind _ (bind _ (deeper_found (deeper_found (x a))) (rw (expect-yes ts true k.SeqClose j c) (bind _ (bind _ (deeper_found (ps (suc a))) found) (rw (keyword-yes e) found)))) found)
-
-  otherwise_none : {d a : ℕ} {j : ℕ} (b : ℕ) (m : Bool) (i : ℕ) → IsKeyword ts m endif_word i j → Answers d a None j (p.else_and_endif nodes ts b (p.under nodes ts a) m i)
-  unfolding p.else_and_endif
-  otherwise_none b m i x = rw (reads-another ts true endif_word else_word (after_next ts m i) (keyword_word x) refl, keyword-yes x) found
-
-  otherwise_some : {d a : ℕ} {ps : List Part} {j n l : ℕ} (b : ℕ) (m : Bool) (i : ℕ) → IsKeyword ts m else_word i j → Answers d a ps n ((p.under nodes ts a).parts m j) → IsKeyword ts m endif_word n l
-      → Answers d a (Some (node.template (first_token_in ts m j n) n ps)) l (p.else_and_endif nodes ts b (p.under nodes ts a) m i)
-  unfolding p.else_and_endif p.template
-  otherwise_some b m i x r e = rw (reads-yes ts true else_word (after_next ts m i) (keyword_word x), keyword-yes x) (bind _ (bind _ r found) (rw (keyword-yes e) found))
 
   -- ---- what is one construct deeper
 
@@ -574,6 +320,8 @@ module _ (ts : List Token) where
       (subst (λ (c : Expr). Answers d b e l (p.conditional nodes ts b (deeper nodes ts b) m (next_index ts m i) c j)) f.is then)
 
   mutual
+    unfolding p.tails_from p.dot_tail p.bracket_tail same_kind p.identifier_or_call p.call p.tuple_or_for p.tuple p.object_or_for p.object p.for_tuple p.for_object p.for_value p.quoted p.heredoc p.template p.parens p.arguments_from p.tuple_items_from p.elements_from p.element steps.equals_or_colon p.intro p.condition p.parts_from p.interpolation p.directive p.if_directive p.for_directive p.else_and_endif
+
     pub c_expr : {d : ℕ} {m : Bool} {e : Expr} {i j : ℕ} → IsExpr ts d m e i j → Stops 8 ts m j → (b : ℕ) → Answers d b e j (p.whole nodes ts b (deeper nodes ts b) m i)
     c_expr (plain {m} {i} q) s b = c_whole q (c_level q (looser (omega arith) s)) (looser (omega arith) s) b (choice_none m (next_index ts m i) s)
     c_expr (conditional {m} {i} {j} {n} c q x s y) t b =
@@ -588,116 +336,166 @@ module _ (ts : List Token) where
     c_links (no_operations {d} {m} {n} {i}) s = flat_end ts m (IsOperand d m) n i
     c_links (operation {d} {m} q o x xs) s = flat_link ts m (IsOperand d m) q o (c_level x (links_stop xs s)) (c_links xs s)
 
-    pub c_unary : {d : ℕ} {m : Bool} {e : Expr} {i j : ℕ} → IsUnary ts d m e i j → Stops 1 ts m j → (b : ℕ) → Answers d b e j (p.unary nodes ts b (deeper nodes ts b) m i)
+    c_unary : {d : ℕ} {m : Bool} {e : Expr} {i j : ℕ} → IsUnary ts d m e i j → Stops 1 ts m j → (b : ℕ) → Answers d b e j (p.unary nodes ts b (deeper nodes ts b) m i)
     c_unary (with_operator {m} {i} q o x) s b = unary_prefixed m i q o b (λ a. nested_operand m (after_next ts m i) a (c_unary x s a))
     c_unary (post {m} {i} q xs) s b = let t = first_term q in unary_post m i t.token t.is t.no_prefix (c_term q b) (c_tails xs s b (length ts) [] (omega (arith, (span_tails xs).within)))
 
-    pub c_tails : {d : ℕ} {m : Bool} {xs : List Tail} {i j : ℕ} → IsTails ts d m xs i j → Stops 1 ts m j → (b turns : ℕ) (acc : List Tail) → j ≤ turns + i
+    c_tails : {d : ℕ} {m : Bool} {xs : List Tail} {i j : ℕ} → IsTails ts d m xs i j → Stops 1 ts m j → (b turns : ℕ) (acc : List Tail) → j ≤ turns + i
         → Answers d b (acc ++ xs) j (p.tails_from nodes ts b (deeper nodes ts b) m turns acc i)
     c_tails (no_tails {m} {i}) s b turns acc l = rw (append-nil acc) (tails_end m turns acc i s)
     c_tails (tails x xs) s b zero acc l = absurd (omega (arith, (span_tail x).forth, (span_tails xs).forth))
     c_tails (tails {m} {x = y} {xs = ys} {i} x xs) s b (suc turns) acc l =
-        rw (← append_assoc acc (y ∷ []) ys) (tails_more m turns acc i (c_tail x b) (c_tails xs s b turns (acc ++ y ∷ []) (omega (arith, (span_tail x).forth))))
+        rw (← append_assoc acc (y ∷ []) ys) (bind _ (c_tail x b) (c_tails xs s b turns (acc ++ y ∷ []) (omega (arith, (span_tail x).forth))))
 
-    pub c_tail : {d : ℕ} {m : Bool} {x : Tail} {i j : ℕ} → IsTail ts d m x i j → (b : ℕ) → Answers d b (Some x) j (p.tail_of nodes ts b (deeper nodes ts b) m i)
-    c_tail (by_name {m} {i} q n) b = tail_name m i q n b
-    c_tail (legacy {m} {i} q) b = tail_legacy m i q b
-    c_tail (attribute_splat {m} {i} q n) b = tail_splat m i q n b
-    c_tail (full_splat {m} {i} q s c) b = tail_full m i q s c b
-    c_tail (index {m} {i} q x c) b =
-        tail_index m i q (no-begin ts true k.Star (after_next ts m i) (begin_expr x) refl) c b (λ a. nested true (after_next ts m i) a (c_expr x (stops_at 8 k.CloseBracket c (omega arith)) a))
+    c_tail : {d : ℕ} {m : Bool} {x : Tail} {i j : ℕ} → IsTail ts d m x i j → (b : ℕ) → Answers d b (Some x) j (p.tail_of nodes ts b (deeper nodes ts b) m i)
+    c_tail (by_name {m} {i} q n) b =
+        let star = sees-other ts m k.Identifier k.Star (after_next ts m i) n refl in
+        rw (tail-at b m (Some k.Dot) i q, star, if_next-no ts m k.Star (after_next ts m i) star, expect-yes ts m k.Identifier (after_next ts m i) n) found
+    c_tail (legacy {m} {i} q) b = rw (tail-at b m (Some k.DotIndex) i q) found
+    c_tail (attribute_splat {m} {i} q n) b = rw (tail-at b m (Some k.Dot) i q, sees-yes ts m k.Star (after_next ts m i) n, if_next-yes ts m k.Star (after_next ts m i) n) found
+    c_tail (full_splat {m} {i} q s c) zero = rw (tail-at zero m (Some k.OpenBracket) i q) (deep (omega arith))
+    c_tail (full_splat {m} {i} q s c) (suc a) =
+        rw (tail-at (suc a) m (Some k.OpenBracket) i q, sees-yes ts true k.Star (after_next ts m i) s, if_next-yes ts true k.Star (after_next ts m i) s, expect-yes ts true k.CloseBracket (after_next ts true (after_next ts m i)) c) found
+    c_tail (index {m} {i} q x c) zero = rw (tail-at zero m (Some k.OpenBracket) i q) (deep (omega arith))
+    c_tail (index {m} {i} {j} q x c) (suc a) =
+        let star = no-begin ts true k.Star (after_next ts m i) (begin_expr x) refl in
+        rw (tail-at (suc a) m (Some k.OpenBracket) i q, star, if_next-no ts true k.Star (after_next ts m i) star)
+        (bind _ (bind _ (deeper_found (nested true (after_next ts m i) a (c_expr x (stops_at 8 k.CloseBracket c (omega arith)) a))) (rw (expect-yes ts true k.CloseBracket j c) found)) found)
 
-    pub c_term : {d : ℕ} {m : Bool} {e : Term} {i j : ℕ} → IsTerm ts d m e i j → (b : ℕ) → Answers d b e j (term b m i (next_kind ts m i))
-    c_term (number {m} {i} q) b = term_number m i q
-    c_term (identifier {m} {i} q n r) b = term_identifier m i q n r
-    c_term (call {m} {i} q ns n xs) b = term_call m i q ns n b (λ a. c_arguments xs a (length ts) [] (omega (arith, (span_arguments xs).within)))
-    c_term (tuple {m} {i} q n xs) b = term_tuple m i q n b (λ a. c_items xs a (length ts) [] (omega (arith, (span_items xs).within)))
-    c_term (object {m} {i} q n l xs) b = term_object m i q n l (elems_line xs) b (λ a. c_elems xs a (length ts) [] (omega (arith, (span_elems xs).within)))
-    c_term (for_tuple {m} {i} {j} q x c v o) b =
-        term_for_tuple m i q (begin_intro x) c b (λ a. c_intro x (stops_at 8 k.Colon c (omega arith)) a)
-        (λ a. nested true (after_next ts true j) a (c_expr v (filter_stop closes_bracket o) a)) (λ a. c_filter closes_bracket o a)
-    c_term (for_object {m} {i} {j} {n} q x c y f v s o) b =
-        term_for_object m i q (begin_intro x) c f (dots-seen s (filter_dots closes_brace o)) (after-ellipsis s (filter_dots closes_brace o)) b
-        (λ a. c_intro x (stops_at 8 k.Colon c (omega arith)) a) (λ a. nested true (after_next ts true j) a (c_expr y (stops_at 8 k.FatArrow f (omega arith)) a))
-        (λ a. nested true (after_next ts true n) a (c_expr v (dots_stop s (filter_stop closes_brace o)) a)) (λ a. c_filter closes_brace o a)
-    c_term (quoted {m} {i} {j} q ps c) b = term_quoted m i q c b (λ a. nested_parts m (after_next ts m i) a (c_parts ps (no_part_quote m j c) a (length ts) [] (omega (arith, (span_parts ps).within))))
-    c_term (heredoc {m} {i} {j} q ps c) b = term_heredoc m i q c b (λ a. nested_parts m (after_next ts m i) a (c_parts ps (no_part_here m j c) a (length ts) [] (omega (arith, (span_parts ps).within))))
-    c_term (parens {m} {i} q x c) b = term_parens m i q c b (λ a. nested true (after_next ts m i) a (c_expr x (stops_at 8 k.CloseParen c (omega arith)) a))
+    c_term : {d : ℕ} {m : Bool} {e : Term} {i j : ℕ} → IsTerm ts d m e i j → (b : ℕ) → Answers d b e j (term b m i (next_kind ts m i))
+    c_term (number {m} {i} q) b = rw (term-at b m k.Number i q) found
+    c_term (identifier {m} {i} q n r) b = rw (term-at b m k.Identifier i q, sees-not ts m k.OpenParen (after_next ts m i) n, sees-not ts m k.DoubleColon (after_next ts m i) r) found
+    c_term (call {m} {i} {j} q ns n xs) zero =
+        rw (term-at zero m k.Identifier i q, called ns n, names_all (next_index ts m i) ns (sees-other ts m k.OpenParen k.DoubleColon j n refl), expect-yes ts m k.OpenParen j n) (deep (omega arith))
+    c_term (call {m} {i} {j} q ns n xs) (suc a) =
+        rw (term-at (suc a) m k.Identifier i q, called ns n, names_all (next_index ts m i) ns (sees-other ts m k.OpenParen k.DoubleColon j n refl), expect-yes ts m k.OpenParen j n)
+        (bind _ (deeper_found (c_arguments xs a (length ts) [] (omega (arith, (span_arguments xs).within)))) found)
+    c_term (tuple {m} {i} q n xs) zero = rw (term-at zero m k.OpenBracket i q) (deep (omega arith))
+    c_term (tuple {m} {i} q n xs) (suc a) =
+        rw (term-at (suc a) m k.OpenBracket i q, reads-no ts true for_word (after_next ts m i) n) (bind _ (deeper_found (c_items xs a (length ts) [] (omega (arith, (span_items xs).within)))) found)
+    c_term (object {m} {i} q n l xs) zero = rw (term-at zero m k.OpenBrace i q) (deep (omega arith))
+    c_term (object {m} {i} q n l xs) (suc a) =
+        rw (term-at (suc a) m k.OpenBrace i q, reads-no ts true for_word (after_next ts m i) n, lines_all l (elems_line xs)) (bind _ (deeper_found (c_elems xs a (length ts) [] (omega (arith, (span_elems xs).within)))) found)
+    c_term (for_tuple {m} {i} q x c v o) zero = rw (term-at zero m k.OpenBracket i q) (deep (omega arith))
+    c_term (for_tuple {m} {i} {j} q x c v o) (suc a) =
+        rw (term-at (suc a) m k.OpenBracket i q, begin_intro x) (bind _ (deeper_found (c_intro x (stops_at 8 k.Colon c (omega arith)) a)) (rw (expect-yes ts true k.Colon j c)
+        (bind _ (deeper_found (nested true (after_next ts true j) a (c_expr v (filter_stop closes_bracket o) a))) (bind _ (deeper_found (c_filter closes_bracket o a)) found))))
+    c_term (for_object {m} {i} q x c y f v s o) zero = rw (term-at zero m k.OpenBrace i q) (deep (omega arith))
+    c_term (for_object {m} {i} {j} {n} q x c y f v s o) (suc a) =
+        rw (term-at (suc a) m k.OpenBrace i q, begin_intro x) (bind _ (deeper_found (c_intro x (stops_at 8 k.Colon c (omega arith)) a)) (rw (expect-yes ts true k.Colon j c)
+        (bind _ (deeper_found (nested true (after_next ts true j) a (c_expr y (stops_at 8 k.FatArrow f (omega arith)) a))) (rw (expect-yes ts true k.FatArrow n f)
+        (bind _ (deeper_found (nested true (after_next ts true n) a (c_expr v (dots_stop s (filter_stop closes_brace o)) a)))
+        (rw (dots-seen s (filter_dots closes_brace o), after-ellipsis s (filter_dots closes_brace o)) (bind _ (deeper_found (c_filter closes_brace o a)) found)))))))
+    c_term (quoted {m} {i} q ps c) zero = rw (term-at zero m k.QuoteOpen i q) (deep (omega arith))
+    c_term (quoted {m} {i} {j} q ps c) (suc a) =
+        rw (term-at (suc a) m k.QuoteOpen i q) (bind _ (bind _ (deeper_found (nested_parts m (after_next ts m i) a (c_parts ps (no_part_quote m j c) a (length ts) [] (omega (arith, (span_parts ps).within))))) found)
+        (rw (expect-yes ts m k.QuoteClose j c) found))
+    c_term (heredoc {m} {i} q ps c) zero = rw (term-at zero m k.HereOpen i q) (deep (omega arith))
+    c_term (heredoc {m} {i} {j} q ps c) (suc a) =
+        rw (term-at (suc a) m k.HereOpen i q) (bind _ (bind _ (deeper_found (nested_parts m (after_next ts m i) a (c_parts ps (no_part_here m j c) a (length ts) [] (omega (arith, (span_parts ps).within))))) found)
+        (rw (expect-yes ts m k.HereClose j c) found))
+    c_term (parens {m} {i} q x c) b =
+        rw (term-at b m k.OpenParen i q) (bind _ (enclosed-yes k.CloseParen (next_index ts m i) (after_next ts m i) c b (λ a. nested true (after_next ts m i) a (c_expr x (stops_at 8 k.CloseParen c (omega arith)) a))) found)
 
-    pub c_arguments : {d : ℕ} {xs : List Expr} {s : Bool} {i j : ℕ} → IsArguments ts d xs s i j → (a turns : ℕ) (acc : List Expr) → j ≤ turns + i
+    c_arguments : {d : ℕ} {xs : List Expr} {s : Bool} {i j : ℕ} → IsArguments ts d xs s i j → (a turns : ℕ) (acc : List Expr) → j ≤ turns + i
         → Answers d a (acc ++ xs, s) j (p.arguments_from nodes ts (p.under nodes ts a).expr turns acc i)
     c_arguments (no_arguments {i} q) a zero acc l = absurd (omega (arith, (step ts true k.CloseParen i q).forth))
-    c_arguments (no_arguments {i} q) a (suc turns) acc l = rw (append-nil acc) (arguments_none turns acc i q)
+    c_arguments (no_arguments {i} q) a (suc turns) acc l = rw (append-nil acc, sees-yes ts true k.CloseParen i q, if_next-yes ts true k.CloseParen i q) found
     c_arguments (last_argument {i} {j} x q) a zero acc l = absurd (omega (arith, (step ts true k.CloseParen j q).forth, (span_expr x).forth))
     c_arguments (last_argument {i} {j} x q) a (suc turns) acc l =
-        arguments_last turns acc i (no-begin ts true k.CloseParen i (begin_expr x) refl) (nested true i a (c_expr x (stops_at 8 k.CloseParen q (omega arith)) a)) q
+        let n = no-begin ts true k.CloseParen i (begin_expr x) refl in
+        let c = sees-other ts true k.CloseParen k.Comma j q refl in
+        let s = sees-other ts true k.CloseParen k.Ellipsis j q refl in
+        rw (n, if_next-no ts true k.CloseParen i n) (bind _ (nested true i a (c_expr x (stops_at 8 k.CloseParen q (omega arith)) a))
+        (rw (c, if_next-no ts true k.Comma j c, s, if_next-no ts true k.Ellipsis j s, expect-yes ts true k.CloseParen j q) found))
     c_arguments (spread_argument {i} {j} x s q) a zero acc l = absurd (omega (arith, (step ts true k.Ellipsis j s).forth, (step ts true k.CloseParen (after_next ts true j) q).forth, (span_expr x).forth))
     c_arguments (spread_argument {i} {j} x s q) a (suc turns) acc l =
-        arguments_spread turns acc i (no-begin ts true k.CloseParen i (begin_expr x) refl) (nested true i a (c_expr x (stops_at 8 k.Ellipsis s (omega arith)) a)) s q
+        let n = no-begin ts true k.CloseParen i (begin_expr x) refl in
+        let c = sees-other ts true k.Ellipsis k.Comma j s refl in
+        rw (n, if_next-no ts true k.CloseParen i n) (bind _ (nested true i a (c_expr x (stops_at 8 k.Ellipsis s (omega arith)) a))
+        (rw (c, if_next-no ts true k.Comma j c, sees-yes ts true k.Ellipsis j s, if_next-yes ts true k.Ellipsis j s, expect-yes ts true k.CloseParen (after_next ts true j) q) found))
     c_arguments (argument {i} {j} x q xs) a zero acc l = absurd (omega (arith, (step ts true k.Comma j q).forth, (span_expr x).forth, (span_arguments xs).forth))
     c_arguments (argument {e} {es} {i} {j} x q xs) a (suc turns) acc l =
-        rw (← append_assoc acc (e ∷ []) es)
-        (arguments_more turns acc i (no-begin ts true k.CloseParen i (begin_expr x) refl) (nested true i a (c_expr x (stops_at 8 k.Comma q (omega arith)) a)) q
-        (c_arguments xs a turns (acc ++ e ∷ []) (omega (arith, (step ts true k.Comma j q).forth, (span_expr x).forth))))
+        let n = no-begin ts true k.CloseParen i (begin_expr x) refl in
+        rw (← append_assoc acc (e ∷ []) es, n, if_next-no ts true k.CloseParen i n) (bind _ (nested true i a (c_expr x (stops_at 8 k.Comma q (omega arith)) a))
+        (rw (sees-yes ts true k.Comma j q, if_next-yes ts true k.Comma j q) (c_arguments xs a turns (acc ++ e ∷ []) (omega (arith, (step ts true k.Comma j q).forth, (span_expr x).forth)))))
 
-    pub c_items : {d : ℕ} {xs : List Expr} {i j : ℕ} → IsItems ts d xs i j → (a turns : ℕ) (acc : List Expr) → j ≤ turns + i
+    c_items : {d : ℕ} {xs : List Expr} {i j : ℕ} → IsItems ts d xs i j → (a turns : ℕ) (acc : List Expr) → j ≤ turns + i
         → Answers d a (acc ++ xs) j (p.tuple_items_from nodes ts (p.under nodes ts a).expr turns acc i)
     c_items (no_items {i} q) a zero acc l = absurd (omega (arith, (step ts true k.CloseBracket i q).forth))
-    c_items (no_items {i} q) a (suc turns) acc l = rw (append-nil acc) (items_none turns acc i q)
+    c_items (no_items {i} q) a (suc turns) acc l = rw (append-nil acc, sees-yes ts true k.CloseBracket i q, if_next-yes ts true k.CloseBracket i q) found
     c_items (last_item {i} {j} x q) a zero acc l = absurd (omega (arith, (step ts true k.CloseBracket j q).forth, (span_expr x).forth))
     c_items (last_item {i} {j} x q) a (suc turns) acc l =
-        items_last turns acc i (no-begin ts true k.CloseBracket i (begin_expr x) refl) (nested true i a (c_expr x (stops_at 8 k.CloseBracket q (omega arith)) a)) q
+        let n = no-begin ts true k.CloseBracket i (begin_expr x) refl in
+        let c = sees-other ts true k.CloseBracket k.Comma j q refl in
+        rw (n, if_next-no ts true k.CloseBracket i n) (bind _ (nested true i a (c_expr x (stops_at 8 k.CloseBracket q (omega arith)) a))
+        (rw (c, if_next-no ts true k.Comma j c, expect-yes ts true k.CloseBracket j q) found))
     c_items (item {i} {j} x q xs) a zero acc l = absurd (omega (arith, (step ts true k.Comma j q).forth, (span_expr x).forth, (span_items xs).forth))
     c_items (item {e} {es} {i} {j} x q xs) a (suc turns) acc l =
-        rw (← append_assoc acc (e ∷ []) es)
-        (items_more turns acc i (no-begin ts true k.CloseBracket i (begin_expr x) refl) (nested true i a (c_expr x (stops_at 8 k.Comma q (omega arith)) a)) q
-        (c_items xs a turns (acc ++ e ∷ []) (omega (arith, (step ts true k.Comma j q).forth, (span_expr x).forth))))
+        let n = no-begin ts true k.CloseBracket i (begin_expr x) refl in
+        rw (← append_assoc acc (e ∷ []) es, n, if_next-no ts true k.CloseBracket i n) (bind _ (nested true i a (c_expr x (stops_at 8 k.Comma q (omega arith)) a))
+        (rw (sees-yes ts true k.Comma j q, if_next-yes ts true k.Comma j q) (c_items xs a turns (acc ++ e ∷ []) (omega (arith, (step ts true k.Comma j q).forth, (span_expr x).forth)))))
 
-    pub c_elems : {d : ℕ} {xs : List Elem} {i j : ℕ} → IsElems ts d xs i j → (a turns : ℕ) (acc : List Elem) → j ≤ turns + i
+    c_elems : {d : ℕ} {xs : List Elem} {i j : ℕ} → IsElems ts d xs i j → (a turns : ℕ) (acc : List Elem) → j ≤ turns + i
         → Answers d a (acc ++ xs) j (p.elements_from nodes ts (p.under nodes ts a).expr turns acc i)
     c_elems (no_elems {i} q) a zero acc l = absurd (omega (arith, (step ts false k.CloseBrace i q).forth))
-    c_elems (no_elems {i} q) a (suc turns) acc l = rw (append-nil acc) (elems_none turns acc i q)
+    c_elems (no_elems {i} q) a (suc turns) acc l = rw (append-nil acc, sees-yes ts false k.CloseBrace i q, if_next-yes ts false k.CloseBrace i q) found
     c_elems (last_elem {i} {j} x q) a zero acc l = absurd (omega (arith, (step ts false k.CloseBrace j q).forth, (span_elem x).forth))
-    c_elems (last_elem {x = y} {i} {j} x q) a (suc turns) acc l =
-        elems_last turns acc y i (no-begin ts false k.CloseBrace i (begin_elem x) refl) (c_elem x (stops_at 8 k.CloseBrace q (omega arith)) a acc) q
+    c_elems (last_elem {i} {j} x q) a (suc turns) acc l =
+        let n = no-begin ts false k.CloseBrace i (begin_elem x) refl in
+        rw (n, if_next-no ts false k.CloseBrace i n) (bind _ (c_elem x (stops_at 8 k.CloseBrace q (omega arith)) a acc) (rw (sep_or_end-no ts j q) found))
     c_elems (elems {i} {j} x q xs) a zero acc l = absurd (omega (arith, (span_sep q).forth, (span_elem x).forth, (span_elems xs).forth))
     c_elems (elems {x = y} {xs = ys} {i} {j} x q xs) a (suc turns) acc l =
-        rw (← append_assoc acc (y ∷ []) ys)
-        (elems_more turns acc y i (no-begin ts false k.CloseBrace i (begin_elem x) refl) (c_elem x (sep_stop q) a acc) q (elems_line xs)
-        (c_elems xs a turns (acc ++ y ∷ []) (omega (arith, (span_sep q).forth, (span_elem x).forth))))
+        let n = no-begin ts false k.CloseBrace i (begin_elem x) refl in
+        rw (← append_assoc acc (y ∷ []) ys, n, if_next-no ts false k.CloseBrace i n) (bind _ (c_elem x (sep_stop q) a acc)
+        (rw (sep_or_end-yes q (elems_line xs)) (c_elems xs a turns (acc ++ y ∷ []) (omega (arith, (span_sep q).forth, (span_elem x).forth)))))
 
-    pub c_elem : {d : ℕ} {x : Elem} {i j : ℕ} → IsElem ts d x i j → Stops 8 ts false j → (a : ℕ) (acc : List Elem) → Answers d a (acc ++ x ∷ []) j (p.element nodes ts (p.under nodes ts a).expr acc i)
+    c_elem : {d : ℕ} {x : Elem} {i j : ℕ} → IsElem ts d x i j → Stops 8 ts false j → (a : ℕ) (acc : List Elem) → Answers d a (acc ++ x ∷ []) j (p.element nodes ts (p.under nodes ts a).expr acc i)
     c_elem (by_equals {i} {j} x q y) s a acc =
-        elem_equals acc i (nested false i a (c_expr x (stops_at 8 k.Equal q (omega arith)) a)) q (nested false (after_next ts false j) a (c_expr y s a))
+        bind _ (nested false i a (c_expr x (stops_at 8 k.Equal q (omega arith)) a)) (rw (sees-yes ts false k.Equal j q, if_next-yes ts false k.Equal j q) (bind _ (nested false (after_next ts false j) a (c_expr y s a)) found))
     c_elem (by_colon {i} {j} x q y) s a acc =
-        elem_colon acc i (nested false i a (c_expr x (stops_at 8 k.Colon q (omega arith)) a)) q (nested false (after_next ts false j) a (c_expr y s a))
+        let n = sees-other ts false k.Colon k.Equal j q refl in
+        bind _ (nested false i a (c_expr x (stops_at 8 k.Colon q (omega arith)) a)) (rw (n, if_next-no ts false k.Equal j n, expect-yes ts false k.Colon j q) (bind _ (nested false (after_next ts false j) a (c_expr y s a)) found))
 
-    pub c_intro : {d : ℕ} {x : Intro} {i j : ℕ} → IsIntro ts d x i j → Stops 8 ts true j → (a : ℕ) → Answers d a x j (p.intro nodes ts (p.under nodes ts a).expr i)
-    c_intro (intro {i} {j} w n o v x) s a = intro_by i w n o v (nested true (after_next ts true j) a (c_expr x s a))
+    c_intro : {d : ℕ} {x : Intro} {i j : ℕ} → IsIntro ts d x i j → Stops 8 ts true j → (a : ℕ) → Answers d a x j (p.intro nodes ts (p.under nodes ts a).expr i)
+    c_intro (intro {i} {j} w n o v x) s a =
+        rw (word-yes ts true for_word i w, expect-yes ts true k.Identifier (after_next ts true i) n, second-yes o v, word-yes ts true in_word j v) (bind _ (nested true (after_next ts true j) a (c_expr x s a)) found)
 
-    pub c_filter : {d : ℕ} {close : Kind} {o : Option Expr} {i j : ℕ} → Closes close → IsFilter ts d close o i j → (a : ℕ) → Answers d a o j (p.condition nodes ts (p.under nodes ts a).expr close i)
-    c_filter z (no_filter {close} {i} q) a = filter_none close i q z.no_name
-    c_filter z (filter {close} {i} w x q) a = filter_some close i w (nested true (after_next ts true i) a (c_expr x (stops_at 8 close q z.ends) a)) q
+    c_filter : {d : ℕ} {close : Kind} {o : Option Expr} {i j : ℕ} → Closes close → IsFilter ts d close o i j → (a : ℕ) → Answers d a o j (p.condition nodes ts (p.under nodes ts a).expr close i)
+    c_filter z (no_filter {close} {i} q) a = rw (reads-other ts true if_word close i q z.no_name, expect-yes ts true close i q) found
+    c_filter z (filter {close} {i} {j} w x q) a = rw (reads-yes ts true if_word i w) (bind _ (nested true (after_next ts true i) a (c_expr x (stops_at 8 close q z.ends) a)) (rw (expect-yes ts true close j q) found))
 
-    pub c_parts : {d : ℕ} {m : Bool} {xs : List Part} {i j : ℕ} → IsParts ts d m xs i j → NoPart m j → (b turns : ℕ) (acc : List Part) → j ≤ turns + i
+    c_parts : {d : ℕ} {m : Bool} {xs : List Part} {i j : ℕ} → IsParts ts d m xs i j → NoPart m j → (b turns : ℕ) (acc : List Part) → j ≤ turns + i
         → Answers d b (acc ++ xs) j (p.parts_from nodes ts b (deeper nodes ts b) (twice nodes ts b) m turns acc i)
     c_parts (no_parts {m} {i}) s b turns acc l = rw (append-nil acc) (parts_end m turns acc i s)
     c_parts (parts x xs) s b zero acc l = absurd (omega (arith, (span_part x).forth, (span_parts xs).forth))
     c_parts (parts {m} {x = y} {xs = ys} {i} x xs) s b (suc turns) acc l =
-        rw (← append_assoc acc (y ∷ []) ys) (parts_more m turns acc i (c_part x b) (c_parts xs s b turns (acc ++ y ∷ []) (omega (arith, (span_part x).forth))))
+        rw (← append_assoc acc (y ∷ []) ys) (bind _ (c_part x b) (c_parts xs s b turns (acc ++ y ∷ []) (omega (arith, (span_part x).forth))))
 
-    pub c_part : {d : ℕ} {m : Bool} {x : Part} {i j : ℕ} → IsPart ts d m x i j → (b : ℕ) → Answers d b (Some x) j (p.part_of nodes ts b (deeper nodes ts b) (twice nodes ts b) m i)
-    c_part (quote_text {m} {i} q) b = part_quote m i q b
-    c_part (here_text {m} {i} q) b = part_here m i q b
-    c_part (interp {m} {i} q x c) b = part_interp m i q c b (λ a. nested true (after_next ts m i) a (c_expr x (stops_at 8 k.SeqClose c (omega arith)) a))
-    c_part (if_directive {m} {i} {j} q w x c ps o) b =
-        part_if m i q w c b (λ a. nested true (after_next ts true (after_next ts m i)) a (c_expr x (stops_at 8 k.SeqClose c (omega arith)) a))
-        (λ a. nested_parts m (after_next ts true j) a (c_parts ps (no_part_other o) a (length ts) [] (omega (arith, (span_parts ps).within)))) (λ b a. c_else o b a)
-    c_part (for_directive {m} {i} {j} q x c ps e) b =
-        part_for m i q (intro_word x) c e b (λ a. c_intro x (stops_at 8 k.SeqClose c (omega arith)) a)
-        (λ a. nested_parts m (after_next ts true j) a (c_parts ps (no_part_endfor e) a (length ts) [] (omega (arith, (span_parts ps).within))))
+    c_part : {d : ℕ} {m : Bool} {x : Part} {i j : ℕ} → IsPart ts d m x i j → (b : ℕ) → Answers d b (Some x) j (p.part_of nodes ts b (deeper nodes ts b) (twice nodes ts b) m i)
+    c_part (quote_text {m} {i} q) b = rw (part-at b m (Some k.QuoteLit) i q) found
+    c_part (here_text {m} {i} q) b = rw (part-at b m (Some k.HereLit) i q) found
+    c_part (interp {m} {i} q x c) b =
+        rw (part-at b m (Some k.InterpOpen) i q) (bind _ (bind _ (enclosed-yes k.SeqClose (next_index ts m i) (after_next ts m i) c b (λ a. nested true (after_next ts m i) a (c_expr x (stops_at 8 k.SeqClose c (omega arith)) a))) found) found)
+    c_part (if_directive {m} {i} q w x c ps o) zero = rw (part-at zero m (Some k.DirectiveOpen) i q, reads-yes ts true if_word (after_next ts m i) w) (deep (omega arith))
+    c_part (if_directive {m} {i} q w x c ps o) (suc zero) = rw (part-at (suc zero) m (Some k.DirectiveOpen) i q, reads-yes ts true if_word (after_next ts m i) w) (deep (omega arith))
+    c_part (if_directive {m} {i} {j} q w x c ps o) (suc (suc a)) =
+        rw (part-at (suc (suc a)) m (Some k.DirectiveOpen) i q, reads-yes ts true if_word (after_next ts m i) w)
+        (bind _ (bind _ (deeper_found (deeper_found (nested true (after_next ts true (after_next ts m i)) a (c_expr x (stops_at 8 k.SeqClose c (omega arith)) a)))) (rw (expect-yes ts true k.SeqClose j c)
+        (bind _ (bind _ (deeper_found (nested_parts m (after_next ts true j) (suc a) (c_parts ps (no_part_other o) (suc a) (length ts) [] (omega (arith, (span_parts ps).within))))) found)
+        (bind _ (deeper_found (c_else o (suc (suc a)) (suc a))) found)))) found)
+    c_part (for_directive {m} {i} q x c ps e) zero =
+        let w = intro_word x in rw (part-at zero m (Some k.DirectiveOpen) i q, reads-another ts true for_word if_word (after_next ts m i) w refl, reads-yes ts true for_word (after_next ts m i) w) (deep (omega arith))
+    c_part (for_directive {m} {i} q x c ps e) (suc zero) =
+        let w = intro_word x in rw (part-at (suc zero) m (Some k.DirectiveOpen) i q, reads-another ts true for_word if_word (after_next ts m i) w refl, reads-yes ts true for_word (after_next ts m i) w) (deep (omega arith))
+    c_part (for_directive {m} {i} {j} q x c ps e) (suc (suc a)) =
+        let w = intro_word x in
+        rw (part-at (suc (suc a)) m (Some k.DirectiveOpen) i q, reads-another ts true for_word if_word (after_next ts m i) w refl, reads-yes ts true for_word (after_next ts m i) w)
+        (bind _ (bind _ (deeper_found (deeper_found (c_intro x (stops_at 8 k.SeqClose c (omega arith)) a))) (rw (expect-yes ts true k.SeqClose j c)
+        (bind _ (bind _ (deeper_found (nested_parts m (after_next ts true j) (suc a) (c_parts ps (no_part_endfor e) (suc a) (length ts) [] (omega (arith, (span_parts ps).within))))) found) (rw (keyword-yes e) found)))) found)
 
-    pub c_else : {d : ℕ} {m : Bool} {o : Option Template} {i j : ℕ} → IsElse ts d m o i j → (b a : ℕ) → Answers d a o j (p.else_and_endif nodes ts b (p.under nodes ts a) m i)
-    c_else (no_else {m} {i} e) b a = otherwise_none b m i e
+    c_else : {d : ℕ} {m : Bool} {o : Option Template} {i j : ℕ} → IsElse ts d m o i j → (b a : ℕ) → Answers d a o j (p.else_and_endif nodes ts b (p.under nodes ts a) m i)
+    c_else (no_else {m} {i} e) b a = rw (reads-another ts true endif_word else_word (after_next ts m i) (keyword_word e) refl, keyword-yes e) found
     c_else (has_else {m} {i} {j} x ps e) b a =
-        otherwise_some b m i x (nested_parts m j a (c_parts ps (no_part_endif e) a (length ts) [] (omega (arith, (span_parts ps).within)))) e
+        rw (reads-yes ts true else_word (after_next ts m i) (keyword_word x), keyword-yes x)
+        (bind _ (bind _ (nested_parts m j a (c_parts ps (no_part_endif e) a (length ts) [] (omega (arith, (span_parts ps).within)))) found) (rw (keyword-yes e) found))

@@ -7,7 +7,7 @@ pub mod Chains
 pub mod Lines
 pub mod Complete
 pub mod BodyComplete
-pub mod Inverts
+pub mod Gives
 pub mod Sound
 pub mod BodySound
 pub mod Whole
@@ -15,7 +15,6 @@ pub mod Neat
 pub mod Restart
 pub mod Opens
 pub mod RestartBodies
-pub mod Own
 pub mod Alike
 pub mod AlikeExpressions
 pub mod AlikeBodies

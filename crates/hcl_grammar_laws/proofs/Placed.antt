@@ -3,7 +3,7 @@ use Rattle.std.proofs.Common.{◌≡◌, ℕ, Bool, true, List, refl}
 use Rattle.hcl_grammar.specs.declared.tree.Expr.{Expr}
 use Rattle.hcl_grammar.specs.declared.tree.Intro.{Intro}
 use Rattle.hcl_grammar.specs.declared.tree.Term.{Term}
-use Rattle.hcl_grammar.specs.Grammar.{IsExpr, plain, conditional, IsLevel, lowest, level, no_operations, operation, IsUnary, with_operator, post, no_tails, tails, IsTerm, number, identifier, call, tuple, object, for_tuple, for_object, quoted, heredoc, parens, IsIntro, intro}
+use Rattle.hcl_grammar.specs.Grammar.{IsExpr, plain, conditional, IsLevel, lowest, level, no_operations, operation, IsUnary, with_operator, post, no_tails, tails, IsTerm, number, IsIntro, intro}
 use Rattle.hcl_grammar.specs.Nodes as node
 use Rattle.hcl_grammar.specs.Tokens.{Token, next_index}
 
@@ -11,15 +11,7 @@ module _ {ts : List Token} where
   pub placed_term : {d : ℕ} {m : Bool} {e : Term} {i j : ℕ} → IsTerm ts d m e i j → (e.first ≡ next_index ts m i) × (e.past ≡ j)
   unfolding node.term
   placed_term (number p) = (refl, refl)
-  placed_term (identifier p q r) = (refl, refl)
-  placed_term (call p ns q xs) = (refl, refl)
-  placed_term (tuple p n xs) = (refl, refl)
-  placed_term (object p n l xs) = (refl, refl)
-  placed_term (for_tuple p x c e f) = (refl, refl)
-  placed_term (for_object p x c e a v s f) = (refl, refl)
-  placed_term (quoted p ps q) = (refl, refl)
-  placed_term (heredoc p ps q) = (refl, refl)
-  placed_term (parens p e q) = (refl, refl)
+  placed_term _ = (refl, refl)
 
   pub placed_unary : {d : ℕ} {m : Bool} {e : Expr} {i j : ℕ} → IsUnary ts d m e i j → (e.first ≡ next_index ts m i) × (e.past ≡ j)
   unfolding node.expr

@@ -1,5 +1,5 @@
 -- Parts of templates, labels and members by themselves, from their first tokens on.
-use Rattle.std.proofs.Common.{◌<◌, ◌==◌, ◌≡◌, ℕ, zero, suc, Bool, true, false, List, [], ◌∷◌, slice_get, Option, Some, None, refl, sym, ap, ◌∙◌, subst, inl, inr, arith}
+use Rattle.std.proofs.Common.{◌<◌, ◌==◌, ◌≡◌, ℕ, suc, Bool, true, false, List, [], ◌∷◌, slice_get, Option, Some, None, refl, sym, ap, ◌∙◌, subst, inl, inr, arith}
 use Rattle.std.proofs.lemmas.Bool.Decides.{eqb_tells}
 use Rattle.hcl_token.specs.declared.kind.Kind.{Kind}
 use Rattle.hcl_token.specs.declared.kind.Kind.TheVariants as k
@@ -12,7 +12,7 @@ use Rattle.hcl_grammar.specs.declared.tree.Label.{Label}
 use Rattle.hcl_grammar.specs.declared.tree.Member.{Member, out-Member}
 use Rattle.hcl_grammar.specs.declared.tree.Member.TheVariants as member
 use Rattle.hcl_grammar.specs.declared.tree.Part.{Part}
-use Rattle.hcl_grammar.specs.Bodies.{IsLabels, no_labels, word_label, text_label, empty_label, IsOneLineBody, nothing, one as just, IsMembers, no_members, blank, attribute, block, line_block}
+use Rattle.hcl_grammar.specs.Bodies.{IsLabels, no_labels, word_label, text_label, empty_label, IsOneLineBody, one as just, IsMembers, no_members, blank, attribute, block, line_block}
 use Rattle.hcl_grammar.specs.Grammar.{IsExpr, IsIntro, intro, IsParts, no_parts, parts, IsPart, quote_text, here_text, interp, if_directive, for_directive}
 use Rattle.hcl_grammar.specs.Lookahead.{NextIs, NextIsWord, IsNewline, line_end, comment, IsEol, IsSecondName}
 use Rattle.hcl_grammar.specs.Nodes as node
@@ -110,64 +110,45 @@ module _ {ts : List Token} where
 
   -- ---- labels
 
-  word_alone : (i n : ℕ) → next_index ts false i ≡ next_index ts false n → NextIs ts false k.Identifier i
+  pub word_alone : (i n : ℕ) → next_index ts false i ≡ next_index ts false n → NextIs ts false k.Identifier i
       → IsLabels ts (node.label (next_index ts false i) (after_next ts false i) (Some (next_index ts false i)) ∷ []) n (after_next ts false i)
   word_alone i n h p = rw (h, following ts false i n h) (word_label (moved ts false k.Identifier i n h p) no_labels)
 
-  text_alone : (i n : ℕ) → next_index ts false i ≡ next_index ts false n → NextIs ts false k.QuoteOpen i → NextIs ts false k.QuoteLit (after_next ts false i) → NextIs ts false k.QuoteClose (after_next ts false (after_next ts false i))
+  pub text_alone : (i n : ℕ) → next_index ts false i ≡ next_index ts false n → NextIs ts false k.QuoteOpen i → NextIs ts false k.QuoteLit (after_next ts false i) → NextIs ts false k.QuoteClose (after_next ts false (after_next ts false i))
       → IsLabels ts (node.label (next_index ts false i) (after_next ts false (after_next ts false (after_next ts false i))) (Some (next_index ts false (after_next ts false i))) ∷ []) n (after_next ts false (after_next ts false (after_next ts false i)))
   text_alone i n h p q r =
       let a = following ts false i n h in
       rw (h, a) (text_label (moved ts false k.QuoteOpen i n h p) (subst (λ z. NextIs ts false k.QuoteLit z) a q) (subst (λ z. NextIs ts false k.QuoteClose (after_next ts false z)) a r) no_labels)
 
-  empty_alone : (i n : ℕ) → next_index ts false i ≡ next_index ts false n → NextIs ts false k.QuoteOpen i → NextIs ts false k.QuoteClose (after_next ts false i)
+  pub empty_alone : (i n : ℕ) → next_index ts false i ≡ next_index ts false n → NextIs ts false k.QuoteOpen i → NextIs ts false k.QuoteClose (after_next ts false i)
       → IsLabels ts (node.label (next_index ts false i) (after_next ts false (after_next ts false i)) None ∷ []) n (after_next ts false (after_next ts false i))
   empty_alone i n h p q =
       let a = following ts false i n h in
       rw (h, a) (empty_label (moved ts false k.QuoteOpen i n h p) (subst (λ z. NextIs ts false k.QuoteClose z) a q) no_labels)
 
-  pub own_label : {ls : List Label} {i j : ℕ} → IsLabels ts ls i j → (n : ℕ) (x : Label) → slice_get ls n ≡ Some x → IsLabels ts (x ∷ []) x.first x.past
-  unfolding node.label
-  own_label no_labels n x e = absurd (cc)
-  own_label (word_label {i} p r) zero x e = subst (λ y. IsLabels ts (y ∷ []) y.first y.past) (some_is e) (word_alone i (next_index ts false i) (same (has_next_token ts false k.Identifier i p)) p)
-  own_label (text_label {i} p q s r) zero x e = subst (λ y. IsLabels ts (y ∷ []) y.first y.past) (some_is e) (text_alone i (next_index ts false i) (same (has_next_token ts false k.QuoteOpen i p)) p q s)
-  own_label (empty_label {i} p q r) zero x e = subst (λ y. IsLabels ts (y ∷ []) y.first y.past) (some_is e) (empty_alone i (next_index ts false i) (same (has_next_token ts false k.QuoteOpen i p)) p q)
-  own_label (word_label p r) (suc n) x e = own_label r n x e
-  own_label (text_label p q s r) (suc n) x e = own_label r n x e
-  own_label (empty_label p q r) (suc n) x e = own_label r n x e
-
   -- ---- attributes and blocks
 
-  on_line_alone : {d : ℕ} {y : Expr} {j : ℕ} (i n : ℕ) → next_index ts false i ≡ next_index ts false n → NextIs ts false k.Identifier i → NextIs ts false k.Equal (after_next ts false i)
+  pub on_line_alone : {d : ℕ} {y : Expr} {j : ℕ} (i n : ℕ) → next_index ts false i ≡ next_index ts false n → NextIs ts false k.Identifier i → NextIs ts false k.Equal (after_next ts false i)
       → IsExpr ts d false y (after_next ts false (after_next ts false i)) j → IsOneLineBody ts d (Some (node.attribute (next_index ts false i) j y)) n j
   on_line_alone {d} {y} {j} i n h p q x =
       let a = following ts false i n h in
       rw h (just (moved ts false k.Identifier i n h p) (subst (λ z. NextIs ts false k.Equal z) a q) (subst (λ z. IsExpr ts d false y (after_next ts false z) j) a x))
 
-  own_on_line_by : {d : ℕ} {o : Option Attribute} {i j : ℕ} → IsOneLineBody ts d o i j → (x : Attribute) → o ≡ Some x → IsOneLineBody ts d (Some x) x.first x.past
-  unfolding node.attribute
-  own_on_line_by nothing x e = absurd (cc)
-  own_on_line_by {d} (just {i} p q y) x e =
-      subst (λ a. IsOneLineBody ts d (Some a) a.first a.past) (some_is e) (on_line_alone i (next_index ts false i) (same (has_next_token ts false k.Identifier i p)) p q y)
-
-  pub own_on_line : {d : ℕ} {x : Attribute} {i j : ℕ} → IsOneLineBody ts d (Some x) i j → IsOneLineBody ts d (Some x) x.first x.past
-  own_on_line {x} w = own_on_line_by w x refl
-
   -- from its first token on, with what follows it
-  attribute_from : {d : ℕ} {y : Expr} {ms : List Member} {j l o : ℕ} (i n : ℕ) → next_index ts false i ≡ next_index ts false n → NextIs ts false k.Identifier i → NextIs ts false k.Equal (after_next ts false i)
+  pub attribute_from : {d : ℕ} {y : Expr} {ms : List Member} {j l o : ℕ} (i n : ℕ) → next_index ts false i ≡ next_index ts false n → NextIs ts false k.Identifier i → NextIs ts false k.Equal (after_next ts false i)
       → IsExpr ts d false y (after_next ts false (after_next ts false i)) j → IsEol ts j l → IsMembers ts d ms l o → IsMembers ts d (member.Attribute (node.attribute (next_index ts false i) l y) ∷ ms) n o
   attribute_from {d} {y} {j} i n h p q x s r =
       let a = following ts false i n h in
       rw h (attribute (moved ts false k.Identifier i n h p) (subst (λ z. NextIs ts false k.Equal z) a q) (subst (λ z. IsExpr ts d false y (after_next ts false z) j) a x) s r)
 
-  block_from : {d : ℕ} {ls : List Label} {bs ms : List Member} {j l o q u : ℕ} (i n : ℕ) → next_index ts false i ≡ next_index ts false n → NextIs ts false k.Identifier i → IsLabels ts ls (after_next ts false i) j
+  pub block_from : {d : ℕ} {ls : List Label} {bs ms : List Member} {j l o q u : ℕ} (i n : ℕ) → next_index ts false i ≡ next_index ts false n → NextIs ts false k.Identifier i → IsLabels ts ls (after_next ts false i) j
       → NextIs ts false k.OpenBrace j → IsNewline ts (after_next ts false j) l → IsMembers ts d bs l o → NextIs ts false k.CloseBrace o → IsEol ts (after_next ts false o) q → IsMembers ts (suc d) ms q u
       → IsMembers ts (suc d) (node.block (next_index ts false i) q ls (content.Body (node.body (first_token_in ts false l o) o bs)) ∷ ms) n u
   block_from {ls} {j} i n h p ns b s ms c e r =
       let a = following ts false i n h in
       rw h (block (moved ts false k.Identifier i n h p) (subst (λ z. IsLabels ts ls z j) a ns) b s ms c e r)
 
-  line_block_from : {d : ℕ} {ls : List Label} {t : Option Attribute} {ms : List Member} {j o q u : ℕ} (i n : ℕ) → next_index ts false i ≡ next_index ts false n → NextIs ts false k.Identifier i
+  pub line_block_from : {d : ℕ} {ls : List Label} {t : Option Attribute} {ms : List Member} {j o q u : ℕ} (i n : ℕ) → next_index ts false i ≡ next_index ts false n → NextIs ts false k.Identifier i
       → IsLabels ts ls (after_next ts false i) j → NextIs ts false k.OpenBrace j → IsOneLineBody ts d t (after_next ts false j) o → NextIs ts false k.CloseBrace o → IsEol ts (after_next ts false o) q → IsMembers ts (suc d) ms q u
       → IsMembers ts (suc d) (node.block (next_index ts false i) q ls (content.OneLine t) ∷ ms) n u
   line_block_from {ls} {j} i n h p ns b t c e r =
@@ -178,33 +159,6 @@ module _ {ts : List Token} where
       → Spans ts (after_next ts false j) o → NextIs ts false k.CloseBrace o → IsEol ts (after_next ts false o) q → IsMembers ts d ms q u → Takes ts i u
   take_block p ns b s c l r =
       ahead (step ts false k.Identifier _ p) (both (span_labels ns) (both (loose (step ts false k.OpenBrace _ b)) (both s (both (loose (step ts false k.CloseBrace _ c)) (both (span_eol l) (span_members r))))))
-
-  pub own_attribute : {d : ℕ} {ms : List Member} {i j : ℕ} → IsMembers ts d ms i j → (n : ℕ) (x : Attribute) → slice_get ms n ≡ Some (member.Attribute x)
-      → IsMembers ts d (member.Attribute x ∷ []) x.first x.past
-  unfolding node.attribute node.block
-  own_attribute no_members n x e = absurd (cc)
-  own_attribute (blank l r) n x e = own_attribute r n x e
-  own_attribute {d} (attribute {i} p q y s r) zero x e =
-      subst (λ a. IsMembers ts d (member.Attribute a ∷ []) a.first a.past) (attribute_is (some_is e)) (attribute_from i (next_index ts false i) (same (has_next_token ts false k.Identifier i p)) p q y s no_members)
-  own_attribute (attribute p q y s r) (suc n) x e = own_attribute r n x e
-  own_attribute (block p ns b s ms c l r) zero x e = absurd (other_member x _ (sym (some_is e)))
-  own_attribute (block p ns b s ms c l r) (suc n) x e = own_attribute r n x e
-  own_attribute (line_block p ns b t c l r) zero x e = absurd (other_member x _ (sym (some_is e)))
-  own_attribute (line_block p ns b t c l r) (suc n) x e = own_attribute r n x e
-
-  pub own_block : {d : ℕ} {ms : List Member} {i j : ℕ} → IsMembers ts d ms i j → (n : ℕ) (x : Block) → slice_get ms n ≡ Some (member.Block x)
-      → IsMembers ts d (member.Block x ∷ []) x.first x.past
-  unfolding node.attribute node.block
-  own_block no_members n x e = absurd (cc)
-  own_block (blank l r) n x e = own_block r n x e
-  own_block (attribute p q y s r) zero x e = absurd (other_member _ x (some_is e))
-  own_block (attribute p q y s r) (suc n) x e = own_block r n x e
-  own_block (block {d} {i} p ns b s ms c l r) zero x e =
-      subst (λ a. IsMembers ts (suc d) (member.Block a ∷ []) a.first a.past) (block_is (some_is e)) (block_from i (next_index ts false i) (same (has_next_token ts false k.Identifier i p)) p ns b s ms c l no_members)
-  own_block (block p ns b s ms c l r) (suc n) x e = own_block r n x e
-  own_block (line_block {d} {i} p ns b t c l r) zero x e =
-      subst (λ a. IsMembers ts (suc d) (member.Block a ∷ []) a.first a.past) (block_is (some_is e)) (line_block_from i (next_index ts false i) (same (has_next_token ts false k.Identifier i p)) p ns b t c l no_members)
-  own_block (line_block p ns b t c l r) (suc n) x e = own_block r n x e
 
   -- ---- bodies
 

@@ -12,13 +12,13 @@ use Rattle.hcl_grammar.specs.Pure.NodeMakers.{nodes}
 use Rattle.hcl_grammar.specs.Pure.Reading.{Outcome, Reads}
 use Rattle.hcl_grammar.specs.Tokens.{Token, next_kind}
 use Rattle.hcl_grammar_laws.proofs.BodyComplete.{c_member, c_none, file_answers}
-use Rattle.hcl_grammar_laws.proofs.BodySound.{below, file_derived, no_name, s_member_none, s_member_some, sound_body}
+use Rattle.hcl_grammar_laws.proofs.BodySound.{ends_at, member_first, s_file, s_member}
 use Rattle.hcl_grammar_laws.specs.Members.{IsMemberResult, member_past}
-use Rattle.hcl_grammar_laws.proofs.Inverts.{done, along}
+use Rattle.hcl_grammar_laws.proofs.Gives.{read, given}
 use Rattle.hcl_grammar_laws.proofs.Steps.{Answers, found, deep}
 
 deep_or : {A : Type 0} {d b : ℕ} {e : A} {j : ℕ} {o : Outcome A} (r : Result A TokenFault) (new : ℕ) → Answers d b e j o → Reads o r new → MatchResult r (λ x. x ≡ e) IsMemoryOrDeep
-deep_or {e} (Ok x) new found h = along (λ y _. y ≡ e) h refl
+deep_or {e} (Ok x) new found h = given {P = λ y _. y ≡ e} (read refl) h
 deep_or (Ok x) new (deep l) h = absurd (cc)
 deep_or (Err Memory) new a h = tt
 deep_or (Err (TooDeep at)) new a h = tt
@@ -27,7 +27,7 @@ deep_or (Err (Syntax at)) new (deep l) h = let no : Syntax at ≢ Memory = (λ s
 
 found_or : {A : Type 0} {d b : ℕ} {e : A} {j : ℕ} {o : Outcome A} (r : Result A TokenFault) (new : ℕ) → d ≤ b → Answers d b e j o → Reads o r new → MatchResult r (λ x. x ≡ e) IsMemory
 found_or r new s (deep l) h = absurd (omega arith)
-found_or {e} (Ok x) new s found h = along (λ y _. y ≡ e) h refl
+found_or {e} (Ok x) new s found h = given {P = λ y _. y ≡ e} (read refl) h
 found_or (Err Memory) new s found h = tt
 found_or (Err (TooDeep at)) new s found h = let no : TooDeep at ≢ Memory = (λ same. cc) in let eq = h no in absurd (cc)
 found_or (Err (Syntax at)) new s found h = let no : Syntax at ≢ Memory = (λ same. cc) in let eq = h no in absurd (cc)
@@ -38,7 +38,7 @@ module _ (ts : List Token) (b : ℕ) (r : Result Tree TokenFault) (new : ℕ) (h
   derived = go r h
     where
       go : (r : Result Tree TokenFault) → Reads (file nodes ts b 0) r new → IfOk r (λ t. IsFile ts b t)
-      go (Ok t) h = file_derived ts b t new h
+      go (Ok t) h = given (s_file ts b) h
       go (Err f) h = tt
 
   -- each tree that is derived is found, unless memory fails
@@ -53,20 +53,20 @@ module _ (ts : List Token) (b : ℕ) (r : Result Tree TokenFault) (new : ℕ) (h
 module _ (ts : List Token) (b i : ℕ) where
   member_derived : (r : Result (Option Member) TokenFault) (new : ℕ) → Reads (member_of nodes ts b (deeper_members nodes ts b) i) r new
       → IfOk r (λ o. IfSome o (λ m. (ms : List Member) (l : ℕ) → IsMembers ts b ms new l → IsMembers ts b (m ∷ ms) i l))
-  member_derived (Ok (Some m)) new h = (s_member_some ts b (below ts b (sound_body ts)) i m new h).1
+  member_derived (Ok (Some m)) new h = λ ms l. member_first (given (s_member ts b i) h)
   member_derived (Ok None) new h = tt
   member_derived (Err f) new h = tt
 
   member_ends : (r : Result (Option Member) TokenFault) (new : ℕ) → Reads (member_of nodes ts b (deeper_members nodes ts b) i) r new
       → IfOk r (λ o. IfSome o (λ m. member_past m ≡ new))
-  member_ends (Ok (Some m)) new h = (s_member_some ts b (below ts b (sound_body ts)) i m new h).0
+  member_ends (Ok (Some m)) new h = ends_at (given (s_member ts b i) h)
   member_ends (Ok None) new h = tt
   member_ends (Err f) new h = tt
 
   member_none : (r : Result (Option Member) TokenFault) (new : ℕ) → Reads (member_of nodes ts b (deeper_members nodes ts b) i) r new
       → IfOk r (λ o. IfNone o ((next_kind ts false i ≢ Some Identifier) × (new ≡ i)))
   member_none (Ok (Some m)) new h = tt
-  member_none (Ok None) new h = (no_name ts b i new h, s_member_none ts b i new h)
+  member_none (Ok None) new h = given (s_member ts b i) h
   member_none (Err f) new h = tt
 
   pub member_is : (r : Result (Option Member) TokenFault) (new : ℕ) → Reads (member_of nodes ts b (deeper_members nodes ts b) i) r new → IsMemberResult ts b i r new
@@ -80,7 +80,7 @@ module _ (ts : List Token) (b i : ℕ) where
   }
 
 -- a list of tokens has one tree at most
-pub found_at : {A : Type 0} {d b : ℕ} {x : A} {j : ℕ} {o : Outcome A} → d ≤ b → Answers d b x j o → o ≡ done x j
+pub found_at : {A : Type 0} {d b : ℕ} {x : A} {j : ℕ} {o : Outcome A} → d ≤ b → Answers d b x j o → o ≡ Ok (x, j)
 found_at l found = refl
 found_at l (deep h) = absurd (omega arith)
 
@@ -90,8 +90,8 @@ one_tree ts d e t u x y =
     let q = file_answers ts (d + e) e u y in
     let f = found_at {b = d + e} (omega arith) p.1 in
     let g = found_at {b = d + e} (omega arith) q.1 in
-    along (λ x _. t ≡ x) (sym f ∙ g) refl
+    given {P = λ x _. t ≡ x} (read refl) (sym f ∙ g)
 
 -- what nests no deeper than some number nests no deeper than a greater one
 pub weaken : (ts : List Token) (d e : ℕ) (t : Tree) → d ≤ e → IsFile ts d t → IsFile ts e t
-weaken ts d e t l w = let a = file_answers ts e d t w in file_derived ts e t a.0 (found_at l a.1)
+weaken ts d e t l w = let a = file_answers ts e d t w in given (s_file ts e) (found_at l a.1)

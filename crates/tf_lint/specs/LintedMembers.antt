@@ -1,6 +1,6 @@
 -- What is found in the members of a text's body.
 use Rattle.std.specs.Prelude.{◌≡◌, ℕ, List, [], ◌∷◌, slice_get, length, Some}
-use Rattle.tf_reuse.specs.OneMember.{IsOneMember}
+use Rattle.hcl_grammar_laws.specs.OneMember.{IsOneMember}
 use Rattle.hcl_grammar.specs.declared.tree.Member.{Member}
 use Rattle.hcl_grammar.specs.declared.bounds.TheConstants.{MAX_NESTING}
 use Rattle.hcl_scan.specs.Follows.{tokens_of}

@@ -14,21 +14,16 @@ use Rattle.hcl_grammar.specs.Grammar.{IsExpr}
 use Rattle.hcl_grammar.specs.Lookahead.{NextIs, IsNewline, line_end, comment, IsEol, eol_line, eol_end, eol_comment}
 use Rattle.hcl_grammar.specs.Nodes as node
 use Rattle.hcl_grammar.specs.Tokens.{Token, next_index, next_kind, after_next, first_token_in}
+use Rattle.hcl_grammar_laws.proofs.BodySound.{member_first}
 use Rattle.hcl_grammar_laws.proofs.Spans.{span_line, span_eol, span_expr, span_labels, span_on_line, span_members}
+use Rattle.hcl_grammar_laws.specs.OneMember.{IsOneMember}
+use Rattle.hcl_grammar_laws.specs.OneMember as alone
 use Rattle.tf_reuse.specs.SameTokens.{SameTokens}
-use Rattle.tf_reuse.specs.OneMember.{IsOneMember}
-use Rattle.tf_reuse.specs.OneMember as alone
 use Rattle.tf_reuse.proofs.MoveExpressions.{move_expr}
 use Rattle.tf_reuse.proofs.MoveLines.{move_line}
 use Rattle.tf_reuse.proofs.RenumberedNodes.{MovedLabels, MovedOnLine, MovedMember, MovedMembers}
 use Rattle.tf_reuse.proofs.RenumberedNodes as moved
 use Rattle.tf_reuse.proofs.Window.{Here, Same, NextIsWithin, starts, starts_here, afters, nexts, some_next, next_within_end, next_within, earlier, firsts}
-
--- one member before others
-pub member_first : {ts : List Token} {d : ℕ} {x : Member} {ms : List Member} {i n l : ℕ} → IsOneMember ts d x i n → IsMembers ts d ms n l → IsMembers ts d (x ∷ ms) i l
-member_first (alone.attribute p q x el) r = attribute p q x el r
-member_first (alone.block p ls br nl bs cl el) r = block p ls br nl bs cl el r
-member_first (alone.line_block p ls br x cl el) r = line_block p ls br x cl el r
 
 -- a line end ends it, not the end of the text
 abbrev pub IsLine : {ts : List Token} {i j : ℕ} → IsEol ts i j → Type 0

@@ -1,6 +1,6 @@
 -- A member whose tokens are elsewhere too is read there, and what is found in it is the same.
 use Rattle.std.proofs.Common.{◌≡◌, ℕ, ◌+◌, List, refl, subst, arith}
-use Rattle.tf_reuse.specs.OneMember.{IsOneMember}
+use Rattle.hcl_grammar_laws.specs.OneMember.{IsOneMember}
 use Rattle.hcl_grammar.specs.Tokens.{Token}
 use Rattle.hcl_scan.specs.Follows.{tokens_of}
 use Rattle.tf_reuse.specs.SameTokens.{SameTokens}

@@ -11,7 +11,7 @@ use Rattle.tf_rules.specs.Findings.{valid_findings}
 use Rattle.tf_rules.specs.declared.rule_set.RuleSet.{RuleSet}
 use Rattle.tf_rules.specs.Rules.{top_level_member_findings}
 use Rattle.tf_findings.specs.TreeFindings.{AreTreeFindings}
-use Rattle.tf_reuse.specs.OneMember.{IsOneMember}
+use Rattle.hcl_grammar_laws.specs.OneMember.{IsOneMember}
 use Rattle.tf_reuse.specs.Renumbering.{renumber_finding}
 use Rattle.tf_reuse.specs.SameTokens.{SameTokens}
 

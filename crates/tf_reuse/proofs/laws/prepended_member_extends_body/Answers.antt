@@ -1,4 +1,4 @@
-use Rattle.tf_reuse.proofs.MoveBodies.{member_first}
+use Rattle.hcl_grammar_laws.proofs.BodySound.{member_first}
 use Rattle.tf_reuse.proofs.laws.prepended_member_extends_body.Goals as goal
 
 pub returns : goal.returns
