@@ -5,7 +5,7 @@ ghost use Rattle.hcl_token.specs.TokenizedText.{kind_of, spelling_of};
 ghost use Rattle.hcl_token.specs.declared.kind.Kind.TheVariants.{Star};
 ghost use Rattle.hcl_explain.specs.Sequences as spec;
 
-use hcl_grammar::operators::binary_operator;
+use hcl_grammar::operators::operator_between;
 use hcl_scan::{Kind, Scanned};
 
 /// Returns the kind of token `i`, if there is one.
@@ -70,7 +70,7 @@ pub fn ends_line(kind: Kind) -> bool {
 
 /// Whether the kind is an operator between values.
 pub fn is_operator(kind: Kind) -> bool {
-    matches!(kind, Kind::Question | Kind::Colon) || binary_operator(kind).is_some()
+    matches!(kind, Kind::Question | Kind::Colon) || operator_between(kind).is_some()
 }
 
 /// Whether the grammar drops a token of the kind, where it drops line ends or not.

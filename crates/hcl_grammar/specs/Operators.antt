@@ -14,23 +14,47 @@ unary_operator k.Minus = Some prefix.Minus
 unary_operator k.Bang = Some prefix.Not
 unary_operator _ = None
 
--- the operator between two operands, with its level: level 0 binds closest
-abbrev pub binary_operator : Kind → Option (ℕ × BinaryOperator)
-binary_operator k.Star = Some (0, operator.Times)
-binary_operator k.Slash = Some (0, operator.Divide)
-binary_operator k.Percent = Some (0, operator.Modulo)
-binary_operator k.Plus = Some (1, operator.Plus)
-binary_operator k.Minus = Some (1, operator.Minus)
-binary_operator k.Greater = Some (2, operator.Greater)
-binary_operator k.GreaterEqual = Some (2, operator.GreaterEqual)
-binary_operator k.Less = Some (2, operator.Less)
-binary_operator k.LessEqual = Some (2, operator.LessEqual)
-binary_operator k.DoubleEqual = Some (3, operator.Equal)
-binary_operator k.NotEqual = Some (3, operator.NotEqual)
-binary_operator k.And = Some (4, operator.And)
-binary_operator k.Or = Some (5, operator.Or)
-binary_operator _ = None
+-- the operator between two operands
+abbrev pub operator_between : Kind → Option BinaryOperator
+operator_between k.Star = Some operator.Times
+operator_between k.Slash = Some operator.Divide
+operator_between k.Percent = Some operator.Modulo
+operator_between k.Plus = Some operator.Plus
+operator_between k.Minus = Some operator.Minus
+operator_between k.Greater = Some operator.Greater
+operator_between k.GreaterEqual = Some operator.GreaterEqual
+operator_between k.Less = Some operator.Less
+operator_between k.LessEqual = Some operator.LessEqual
+operator_between k.DoubleEqual = Some operator.Equal
+operator_between k.NotEqual = Some operator.NotEqual
+operator_between k.And = Some operator.And
+operator_between k.Or = Some operator.Or
+operator_between _ = None
+
+-- its level: level 0 binds closest
+abbrev pub operator_level : BinaryOperator → ℕ
+operator_level operator.Times = 0
+operator_level operator.Divide = 0
+operator_level operator.Modulo = 0
+operator_level operator.Plus = 1
+operator_level operator.Minus = 1
+operator_level operator.Greater = 2
+operator_level operator.GreaterEqual = 2
+operator_level operator.Less = 2
+operator_level operator.LessEqual = 2
+operator_level operator.Equal = 3
+operator_level operator.NotEqual = 3
+operator_level operator.And = 4
+operator_level operator.Or = 5
 
 -- how many levels there are
 abbrev pub levels : ℕ
 levels = 6
+
+abbrev pub with_level : Option BinaryOperator → Option (ℕ × BinaryOperator)
+with_level None = None
+with_level (Some x) = Some (operator_level x, x)
+
+-- the operator between two operands, with its level
+abbrev pub binary_operator : Kind → Option (ℕ × BinaryOperator)
+binary_operator t = with_level (operator_between t)

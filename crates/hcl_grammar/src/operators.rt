@@ -1,4 +1,4 @@
-//! Which kinds of tokens are operators.
+//! Which kinds of tokens are operators, and their levels.
 //!
 //! HCL native syntax specification, Operations.
 
@@ -19,26 +19,44 @@ pub fn unary_operator(kind: Kind) -> Option<UnaryOperator>
     }
 }
 
-/// Returns the operator between two operands that a token is, with its level, if it is one.
-///
-/// Level 0 binds closest.
-pub fn binary_operator(kind: Kind) -> Option<(usize, BinaryOperator)>
-    ensures { result ≡ operators.binary_operator kind }
+/// Returns the operator between two operands that a token is, if it is one.
+pub fn operator_between(kind: Kind) -> Option<BinaryOperator>
+    ensures { result ≡ operators.operator_between kind }
 {
     match kind {
-        Kind::Star => Some((0, BinaryOperator::Times)),
-        Kind::Slash => Some((0, BinaryOperator::Divide)),
-        Kind::Percent => Some((0, BinaryOperator::Modulo)),
-        Kind::Plus => Some((1, BinaryOperator::Plus)),
-        Kind::Minus => Some((1, BinaryOperator::Minus)),
-        Kind::Greater => Some((2, BinaryOperator::Greater)),
-        Kind::GreaterEqual => Some((2, BinaryOperator::GreaterEqual)),
-        Kind::Less => Some((2, BinaryOperator::Less)),
-        Kind::LessEqual => Some((2, BinaryOperator::LessEqual)),
-        Kind::DoubleEqual => Some((3, BinaryOperator::Equal)),
-        Kind::NotEqual => Some((3, BinaryOperator::NotEqual)),
-        Kind::And => Some((4, BinaryOperator::And)),
-        Kind::Or => Some((5, BinaryOperator::Or)),
+        Kind::Star => Some(BinaryOperator::Times),
+        Kind::Slash => Some(BinaryOperator::Divide),
+        Kind::Percent => Some(BinaryOperator::Modulo),
+        Kind::Plus => Some(BinaryOperator::Plus),
+        Kind::Minus => Some(BinaryOperator::Minus),
+        Kind::Greater => Some(BinaryOperator::Greater),
+        Kind::GreaterEqual => Some(BinaryOperator::GreaterEqual),
+        Kind::Less => Some(BinaryOperator::Less),
+        Kind::LessEqual => Some(BinaryOperator::LessEqual),
+        Kind::DoubleEqual => Some(BinaryOperator::Equal),
+        Kind::NotEqual => Some(BinaryOperator::NotEqual),
+        Kind::And => Some(BinaryOperator::And),
+        Kind::Or => Some(BinaryOperator::Or),
         _ => None,
+    }
+}
+
+/// How many levels there are.
+pub const LEVELS: u32 = 6;
+
+/// Returns the level of an operator: level 0 binds closest.
+pub fn operator_level(operator: BinaryOperator) -> u32
+    ensures { result ≡ operators.operator_level operator }
+{
+    match operator {
+        BinaryOperator::Times | BinaryOperator::Divide | BinaryOperator::Modulo => 0,
+        BinaryOperator::Plus | BinaryOperator::Minus => 1,
+        BinaryOperator::Greater
+        | BinaryOperator::GreaterEqual
+        | BinaryOperator::Less
+        | BinaryOperator::LessEqual => 2,
+        BinaryOperator::Equal | BinaryOperator::NotEqual => 3,
+        BinaryOperator::And => 4,
+        BinaryOperator::Or => 5,
     }
 }

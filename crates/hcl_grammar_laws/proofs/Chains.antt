@@ -1,44 +1,36 @@
 -- An operand and the operators that follow it, grouped by levels, are derived as the levels are; and
 -- whatever a level derives is such a group.
-use Rattle.std.proofs.Common.{◌≡◌, ℕ, zero, suc, ◌<◌, ◌==◌, Bool, true, false, List, [], ◌∷◌, ◌++◌, Option, Some, None, refl, sym, ap, ap₂, subst, ◌∙◌, inl, inr, arith}
+use Rattle.std.proofs.Common.{◌≡◌, ℕ, zero, suc, ◌<◌, ◌==◌, nat_lt, ltb-true, Bool, true, false, List, [], ◌∷◌, ◌++◌, Option, Some, None, refl, sym, ap, ap₂, subst, ◌∙◌, inl, inr, arith}
 use Rattle.std.proofs.lemmas.Bool.Decides.{eqb_tells}
 use Rattle.hcl_token.specs.declared.kind.Kind.{Kind}
-use Rattle.hcl_token.specs.declared.kind.Kind.TheVariants as k
 use Rattle.hcl_grammar.specs.declared.tree.BinaryOperator.{BinaryOperator}
+use Rattle.hcl_grammar.specs.declared.tree.BinaryOperator.TheVariants as operator
 use Rattle.hcl_grammar.specs.declared.tree.Expr.{Expr}
 use Rattle.hcl_grammar.specs.declared.tree.Operation.{Operation}
 use Rattle.hcl_grammar.specs.Grammar.{IsLevel, lowest, level, IsOperations, no_operations, operation, IsUnary}
 use Rattle.hcl_grammar.specs.Lookahead.{NextIs}
 use Rattle.hcl_grammar.specs.Nodes as node
-use Rattle.hcl_grammar.specs.Operators.{binary_operator, levels}
-use Rattle.hcl_grammar.specs.Pure.NodeMakers.{operator_level, chain_end, split_level, group}
+use Rattle.hcl_grammar.specs.Operators.{operator_between, operator_level, with_level, binary_operator, levels}
+use Rattle.hcl_grammar.specs.Pure.NodeMakers.{chain_end, split_level, group}
 use Rattle.hcl_grammar.specs.Tokens.{Token, next_index, after_next}
 use Rattle.hcl_grammar_laws.proofs.Placed.{placed_unary}
 
 -- ---- the level of an operator
 
+below_levels : (op : BinaryOperator) → nat_lt (operator_level op) levels ≡ true
+below_levels operator.Or = refl
+below_levels _ = refl
+
 abbrev HasItsLevel : Option (ℕ × BinaryOperator) → Type 0
 HasItsLevel None = Unit {0}
 HasItsLevel (Some o) = (operator_level o.1 ≡ o.0) × (o.0 < levels)
 
-table : (t : Kind) → HasItsLevel (binary_operator t)
-table k.Star = (refl, omega arith)
-table k.Slash = (refl, omega arith)
-table k.Percent = (refl, omega arith)
-table k.Plus = (refl, omega arith)
-table k.Minus = (refl, omega arith)
-table k.Greater = (refl, omega arith)
-table k.GreaterEqual = (refl, omega arith)
-table k.Less = (refl, omega arith)
-table k.LessEqual = (refl, omega arith)
-table k.DoubleEqual = (refl, omega arith)
-table k.NotEqual = (refl, omega arith)
-table k.And = (refl, omega arith)
-table k.Or = (refl, omega arith)
-table _ = tt
+has_its_level : (x : Option BinaryOperator) → HasItsLevel (with_level x)
+has_its_level None = tt
+has_its_level (Some op) = (refl, ltb-true (operator_level op) levels (below_levels op))
 
 pub its_level : (t : Kind) (o : ℕ × BinaryOperator) → binary_operator t ≡ Some o → (operator_level o.1 ≡ o.0) × (o.0 < levels)
-its_level t o e = subst HasItsLevel e (table t)
+its_level t o e = subst HasItsLevel e (has_its_level (operator_between t))
 
 -- ---- a list of operators, split at those of level n
 

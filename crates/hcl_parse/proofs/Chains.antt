@@ -6,9 +6,9 @@ use Rattle.hcl_grammar.specs.declared.tree.BinaryOperator.TheVariants as operato
 use Rattle.hcl_grammar.specs.declared.tree.Expr.{Expr}
 use Rattle.hcl_grammar.specs.declared.tree.Operation.{Operation}
 use Rattle.hcl_grammar.specs.Nodes as node
-use Rattle.hcl_grammar.specs.Operators.{levels}
+use Rattle.hcl_grammar.specs.Operators.{operator_level, levels}
 use Rattle.hcl_parse.specs.Chains.{before, after, first_level}
-use Rattle.hcl_grammar.specs.Pure.NodeMakers.{operator_level, chain_end, split_level, group}
+use Rattle.hcl_grammar.specs.Pure.NodeMakers.{chain_end, split_level, group}
 
 -- ---- the tests of a level
 
@@ -36,19 +36,8 @@ place l n = by (nat_lt l n) refl (l == n) refl
     by false e false f = upper e (le-ltb l (suc n) (above l n (ltb-false l n e) f)) f
 
 below_levels : (op : BinaryOperator) → nat_lt (operator_level op) levels ≡ true
-below_levels operator.Times = refl
-below_levels operator.Divide = refl
-below_levels operator.Modulo = refl
-below_levels operator.Plus = refl
-below_levels operator.Minus = refl
-below_levels operator.Greater = refl
-below_levels operator.GreaterEqual = refl
-below_levels operator.Less = refl
-below_levels operator.LessEqual = refl
-below_levels operator.Equal = refl
-below_levels operator.NotEqual = refl
-below_levels operator.And = refl
 below_levels operator.Or = refl
+below_levels _ = refl
 
 -- ---- a list, up to a level and from there on
 

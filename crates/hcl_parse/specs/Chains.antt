@@ -1,8 +1,7 @@
 -- For proofs: a chain of operators, as its levels are read from a list, one in another.
 use Rattle.std.specs.Prelude.{ℕ, nat_lt, if◌then◌else◌, List, [], ◌∷◌}
 use Rattle.hcl_grammar.specs.declared.tree.Operation.{Operation}
-use Rattle.hcl_grammar.specs.Operators.{levels}
-use Rattle.hcl_grammar.specs.Pure.NodeMakers.{operator_level}
+use Rattle.hcl_grammar.specs.Operators.{operator_level, levels}
 
 -- the operators up to the first that is not of a level below n
 abbrev pub before : ℕ → List Operation → List Operation

@@ -15,7 +15,7 @@ use crate::plain::{Unread, eat_plain_expr};
 use crate::tails::{has_tail, more_tails, post};
 use crate::terms::is_called;
 use hcl_grammar::fault::TokenFault;
-use hcl_grammar::operators::{binary_operator, unary_operator};
+use hcl_grammar::operators::{operator_between, unary_operator};
 use hcl_grammar::tree::{BinaryOperator, UnaryOperator};
 use hcl_reader::{Next, Reader, same_kind};
 use hcl_token::Kind;
@@ -28,8 +28,8 @@ fn eat_operator(reader: &Reader<'_, '_>, at: &mut u32) -> Option<BinaryOperator>
 {
     let (number, next) = reader.next_token(*at);
     match next {
-        Some(kind) => match binary_operator(kind) {
-            Some((_level, found)) => {
+        Some(kind) => match operator_between(kind) {
+            Some(found) => {
                 *at = number + 1;
                 Some(found)
             }
@@ -189,7 +189,7 @@ fn ends(reader: &Reader<'_, '_>, at: u32) -> bool
     ensures other { result ≡ true → tokens.next_is reader.now k.Question at ≡ false }
 {
     match reader.next_kind(at) {
-        Some(kind) => binary_operator(kind).is_none() && !same_kind(kind, Kind::Question),
+        Some(kind) => operator_between(kind).is_none() && !same_kind(kind, Kind::Question),
         None => true,
     }
 }

@@ -8,14 +8,12 @@ ghost use Rattle.hcl_grammar.specs.Nodes as node;
 ghost use Rattle.hcl_parse.specs.Chains.{before, after, first_level};
 ghost use Rattle.hcl_grammar.specs.Pure.NodeMakers as spec;
 
-use hcl_grammar::tree::{BinaryOperator, Expr, ExprKind, Operation};
+use hcl_grammar::operators::{LEVELS, operator_level};
+use hcl_grammar::tree::{Expr, ExprKind, Operation};
 use hcl_grammar::{Boxed, Items, nodes};
 use std::alloc::{AllocError, Global};
 use std::collections::VecDeque;
 use std::marker::Model;
-
-/// How many levels there are.
-const LEVELS: u32 = 6;
 
 /// A queue. Contracts see the list of its elements alone.
 #[derive(Drop)]
@@ -74,23 +72,6 @@ fn first_level(operations: &Queue<Operation>) -> u32
     match operations.elements.front() {
         Some(first) => operator_level(first.operator),
         None => LEVELS,
-    }
-}
-
-/// Returns the level of an operator: level 0 binds closest.
-fn operator_level(operator: BinaryOperator) -> u32
-    ensures { result ≡ spec.operator_level operator }
-{
-    match operator {
-        BinaryOperator::Times | BinaryOperator::Divide | BinaryOperator::Modulo => 0,
-        BinaryOperator::Plus | BinaryOperator::Minus => 1,
-        BinaryOperator::Greater
-        | BinaryOperator::GreaterEqual
-        | BinaryOperator::Less
-        | BinaryOperator::LessEqual => 2,
-        BinaryOperator::Equal | BinaryOperator::NotEqual => 3,
-        BinaryOperator::And => 4,
-        BinaryOperator::Or => 5,
     }
 }
 

@@ -2,13 +2,13 @@
 -- operand is an empty list, however the chain is grouped.
 use Rattle.std.proofs.Common.{◌≡◌, ℕ, zero, suc, ◌&&◌, ◌==◌, Bool, true, false, if◌then◌else◌, List, [], ◌∷◌, ◌++◌, map, refl, sym, ap₂, subst}
 use Rattle.hcl_grammar.specs.Nodes as node
-use Rattle.hcl_grammar.specs.Operators.{levels}
+use Rattle.hcl_grammar.specs.Operators.{operator_level, levels}
 use Rattle.hcl_grammar.specs.declared.tree.BinaryOperator.{BinaryOperator}
 use Rattle.hcl_grammar.specs.declared.tree.Expr.{Expr}
 use Rattle.hcl_grammar.specs.declared.tree.ExprKind.TheVariants as form
 use Rattle.hcl_grammar.specs.declared.tree.Operation.{Operation}
 use Rattle.hcl_grammar_laws.proofs.Opens.{open_chain}
-use Rattle.hcl_grammar.specs.Pure.NodeMakers.{operator_level, chain_end, split_level, group, no_operator}
+use Rattle.hcl_grammar.specs.Pure.NodeMakers.{chain_end, split_level, group, no_operator}
 use Rattle.hcl_token.specs.Tokens.{Pair}
 use Rattle.tf_glance.proofs.Expressions.{Listed, listed_more, FreeExpr, NotList, NotText, ExprOf, expr_free, not_list, not_text}
 use Rattle.tf_glance.proofs.Free.{AreFree, none, more}

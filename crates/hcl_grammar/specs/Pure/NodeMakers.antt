@@ -1,8 +1,6 @@
 -- The makers of the nodes of a tree.
 use Rattle.std.specs.Prelude.{◌≡◌, ℕ, zero, suc, ◌==◌, if◌then◌else◌, List, [], ◌∷◌, ◌++◌, refl}
 use Rattle.hcl_grammar.specs.declared.tree.Attribute.{Attribute}
-use Rattle.hcl_grammar.specs.declared.tree.BinaryOperator.{BinaryOperator}
-use Rattle.hcl_grammar.specs.declared.tree.BinaryOperator.TheVariants as operator
 use Rattle.hcl_grammar.specs.declared.tree.Body.{Body}
 use Rattle.hcl_grammar.specs.declared.tree.Content.{Content}
 use Rattle.hcl_grammar.specs.declared.tree.Content.TheVariants as content
@@ -23,24 +21,8 @@ use Rattle.hcl_grammar.specs.declared.tree.Template.{Template}
 use Rattle.hcl_grammar.specs.declared.tree.Term.{Term}
 use Rattle.hcl_grammar.specs.declared.tree.Tree.{Tree}
 use Rattle.hcl_grammar.specs.Nodes as node
-use Rattle.hcl_grammar.specs.Operators.{levels}
+use Rattle.hcl_grammar.specs.Operators.{operator_level, levels}
 use Rattle.hcl_grammar.specs.Pure.Makers.{Types, Makers}
-
--- the level of an operator between two operands: level 0 binds closest
-abbrev pub operator_level : BinaryOperator → ℕ
-operator_level operator.Times = 0
-operator_level operator.Divide = 0
-operator_level operator.Modulo = 0
-operator_level operator.Plus = 1
-operator_level operator.Minus = 1
-operator_level operator.Greater = 2
-operator_level operator.GreaterEqual = 2
-operator_level operator.Less = 2
-operator_level operator.LessEqual = 2
-operator_level operator.Equal = 3
-operator_level operator.NotEqual = 3
-operator_level operator.And = 4
-operator_level operator.Or = 5
 
 -- the place after the operators that follow a place, each with its second operand
 abbrev pub chain_end : ℕ → List Operation → ℕ
