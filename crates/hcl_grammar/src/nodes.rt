@@ -2,12 +2,10 @@
 //!
 //! `first` is the number of a node's first token, `past` the number after its last.
 
-ghost use Rattle.std.specs.Prelude.{◌≡◌, [], Ok, Some, IfOk};
+ghost use Rattle.std.specs.Prelude.{◌≡◌, [], Some, IfOk};
 ghost use Rattle.hcl_grammar.specs.declared.tree.Content.TheVariants as content;
 ghost use Rattle.hcl_grammar.specs.Nodes as nodes;
-ghost use Rattle.hcl_grammar.specs.Pure.Reading.{Reads};
 
-use crate::fault::TokenFault;
 use crate::tree::{
     Attribute, BinaryOperator, Block, Body, Call, Content, Elem, Expr, ExprKind, ForDirective,
     ForObject, ForTuple, IfDirective, Intro, Label, Member, Operation, Part, Primary, Tail,
@@ -48,30 +46,6 @@ pub fn elem(key: Expr, value: Expr) -> Elem
     ensures { result ≡ nodes.elem key value }
 {
     Elem { key, value }
-}
-
-/// Returns an operand followed by operators; with none, the operand alone.
-///
-/// # Errors
-///
-/// Returns `Memory` if memory runs out. It takes none if there is no operator.
-pub fn binary(
-    alloc: Global,
-    first: u32,
-    past: u32,
-    head: Expr,
-    links: Items<Operation>,
-) -> Result<Expr, TokenFault>
-    ensures node { Reads (Ok (nodes.binary first past head links, past)) result past }
-    ensures alone { links ≡ [] → result ≡ Ok head }
-{
-    if links.is_empty() {
-        Ok(head)
-    } else {
-        let head = Boxed::new(alloc, head)?;
-        let links = Boxed::new(alloc, links)?;
-        Ok(expr(first, past, ExprKind::Binary(head, links)))
-    }
 }
 
 /// Returns a term without tails, as an expression.
