@@ -31,33 +31,21 @@ from_there ts m i = omega arith
 module _ {types : Types} (a : Makers types) (ts : List Token) where
   open types use {Expr, Operations, Term, Tail, Tails, Template, Parts}
 
+  under_is : (depth : ℕ) → p.under a ts depth ≡ p.at_depth a ts depth (p.deeper a ts depth) (p.twice a ts depth)
+  unfolding p.under
+  under_is zero = refl
+  under_is (suc zero) = refl
+  under_is (suc (suc depth)) = refl
+
   module _ (depth : ℕ) (m : Bool) where
     pub expr_is : (i : ℕ) → (p.under a ts depth).expr m Whole i ≡ p.whole a ts depth (p.deeper a ts depth) m i
-    unfolding p.under
-    expr_is i = by depth
-      where
-        by : (d : ℕ) → (p.under a ts d).expr m Whole i ≡ p.whole a ts d (p.deeper a ts d) m i
-        by zero = refl
-        by (suc zero) = refl
-        by (suc (suc d)) = refl
+    expr_is i = ap (λ (u : p.Deeper types). u.expr m Whole i) (under_is depth)
 
     pub operand_is : (i : ℕ) → (p.under a ts depth).expr m Operand i ≡ p.unary a ts depth (p.deeper a ts depth) m i
-    unfolding p.under
-    operand_is i = by depth
-      where
-        by : (d : ℕ) → (p.under a ts d).expr m Operand i ≡ p.unary a ts d (p.deeper a ts d) m i
-        by zero = refl
-        by (suc zero) = refl
-        by (suc (suc d)) = refl
+    operand_is i = ap (λ (u : p.Deeper types). u.expr m Operand i) (under_is depth)
 
     pub parts_is : (i : ℕ) → (p.under a ts depth).parts m i ≡ p.parts_from a ts depth (p.deeper a ts depth) (p.twice a ts depth) m (length ts) a.no_parts i
-    unfolding p.under
-    parts_is i = by depth
-      where
-        by : (d : ℕ) → (p.under a ts d).parts m i ≡ p.parts_from a ts d (p.deeper a ts d) (p.twice a ts d) m (length ts) a.no_parts i
-        by zero = refl
-        by (suc zero) = refl
-        by (suc (suc d)) = refl
+    parts_is i = ap (λ (u : p.Deeper types). u.parts m i) (under_is depth)
 
   module _ (depth : ℕ) (inner : p.Deeper types) (m : Bool) where
     pub no_tails : (n : ℕ) (found : Tails) (j : ℕ) → p.tail_of a ts depth inner m j ≡ Ok (None, j) → p.tails_from a ts depth inner m n found j ≡ Ok (found, j)

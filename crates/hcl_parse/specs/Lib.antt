@@ -1,4 +1,5 @@
 pub mod Nothing
+pub mod Made
 pub mod Alike
 pub mod Laws
 pub mod Rules

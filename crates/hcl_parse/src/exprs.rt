@@ -9,7 +9,7 @@ ghost use Rattle.hcl_reader.specs.ReaderRules as tokens;
 ghost use Rattle.hcl_parse.specs.Rules as spec;
 ghost use Rattle.hcl_parse.specs.Rules.{Yields};
 
-use crate::builder::Builder;
+use crate::builder::{Builder, Taken, Tokens};
 use crate::opens::enter;
 use crate::plain::{Unread, eat_plain_expr};
 use crate::tails::{has_tail, more_tails, post};
@@ -23,7 +23,7 @@ use hcl_token::Kind;
 /// Takes a binary operator, of whatever level, if one comes next.
 #[inline(always)]
 #[tactic(auto, unfolding(hcl_grammar::specs::Pure::Steps::eat_operator, hcl_grammar::specs::Tokens::after_next))]
-fn eat_operator(reader: &Reader<'_, '_>, at: &mut u32) -> Option<BinaryOperator>
+fn eat_operator(reader: &Reader, at: &mut u32) -> Option<BinaryOperator>
     ensures { spec.eat_operator reader.now at.old ≡ Ok (result, at.new) }
 {
     let (number, next) = reader.next_token(*at);
@@ -42,11 +42,7 @@ fn eat_operator(reader: &Reader<'_, '_>, at: &mut u32) -> Option<BinaryOperator>
 /// Takes an `Expr`.
 #[cycle(nest)]
 #[inline(always)]
-pub fn expr<S: Builder>(
-    builder: &S,
-    reader: &Reader<'_, '_>,
-    at: &mut u32,
-) -> Result<S::Expr, TokenFault>
+pub fn expr<S: Builder>(builder: &S, reader: &Reader, at: &mut u32) -> Taken<S::Expr>
     ensures { Yields S.may_run_out
         (spec.expr (S.make builder.now) reader.now at.old) result at.new }
 {
@@ -59,10 +55,10 @@ pub fn expr<S: Builder>(
 #[inline(always)]
 pub fn expr_next<S: Builder>(
     builder: &S,
-    reader: &Reader<'_, '_>,
+    reader: &Reader,
     next: Next,
     at: &mut u32,
-) -> Result<S::Expr, TokenFault>
+) -> Taken<S::Expr>
     requires number { next.0 ≡ tokens.next_index reader.now at.old }
     requires kind { next.1 ≡ tokens.next_kind reader.now at.old }
     requires fits { OnSome next.1 (next.0 + 1 < 2 ^ 32) }
@@ -83,11 +79,7 @@ pub fn expr_next<S: Builder>(
 
 /// Takes an `Expr`, where `eat_plain_expr` takes none.
 #[cycle(nest)]
-pub fn general_expr<S: Builder>(
-    builder: &S,
-    reader: &Reader<'_, '_>,
-    at: &mut u32,
-) -> Result<S::Expr, TokenFault>
+pub fn general_expr<S: Builder>(builder: &S, reader: &Reader, at: &mut u32) -> Taken<S::Expr>
     ensures { Yields S.may_run_out
         (spec.expr (S.make builder.now) reader.now at.old) result at.new }
 {
@@ -100,14 +92,14 @@ pub fn general_expr<S: Builder>(
 #[inline(never)]
 pub fn expr_after_term<S: Builder>(
     builder: &S,
-    reader: &Reader<'_, '_>,
+    reader: &Reader,
     first: u32,
     turns: u32,
     end: u32,
     head: S::Term,
     tails: S::Tails,
     at: &mut u32,
-) -> Result<S::Expr, TokenFault>
+) -> Taken<S::Expr>
     requires { spec.is_called reader.now end ≡ false
         → spec.expr (S.make builder.now) reader.now at.old
         ≡ spec.rest_of_expr (S.make builder.now) reader.now turns first head tails end }
@@ -128,21 +120,21 @@ pub fn expr_after_term<S: Builder>(
 #[inline(always)]
 fn rest_of_expr<S: Builder>(
     builder: &S,
-    reader: &Reader<'_, '_>,
+    reader: &Reader,
     next: Option<Kind>,
     first: u32,
     turns: u32,
     head: S::Term,
     tails: S::Tails,
     at: &mut u32,
-) -> Result<S::Expr, TokenFault>
+) -> Taken<S::Expr>
     requires { next ≡ tokens.next_kind reader.now at.old }
     ensures { Yields S.may_run_out
         (spec.rest_of_expr (S.make builder.now) reader.now
         turns first head tails at.old) result at.new }
 {
     if !has_tail::<S>(builder, reader, next, *at) {
-        let alone = builder.postfix(reader.alloc(), first, *at, head, tails)?;
+        let alone = builder.postfix(Tokens { first, past: *at }, head, tails)?;
         return chain::<S>(builder, reader, first, alone, at);
     }
     let operand = more_tails::<S>(builder, reader, first, turns, head, tails, at)?;
@@ -152,11 +144,7 @@ fn rest_of_expr<S: Builder>(
 /// Takes the `Unary` after a `-` or `!`.
 #[cycle(nest)]
 #[inline(always)]
-fn operand<S: Builder>(
-    builder: &S,
-    reader: &Reader<'_, '_>,
-    at: &mut u32,
-) -> Result<S::Expr, TokenFault>
+fn operand<S: Builder>(builder: &S, reader: &Reader, at: &mut u32) -> Taken<S::Expr>
     ensures { Yields S.may_run_out
         (spec.operand (S.make builder.now) reader.now at.old) result at.new }
 {
@@ -168,23 +156,23 @@ fn operand<S: Builder>(
 #[inline(never)]
 fn unary_with<S: Builder>(
     builder: &S,
-    reader: &Reader<'_, '_>,
+    reader: &Reader,
     first: u32,
     kind: Kind,
     operator: UnaryOperator,
     at: &mut u32,
-) -> Result<S::Expr, TokenFault>
+) -> Taken<S::Expr>
     ensures { Yields S.may_run_out
         (spec.unary_with (S.make builder.now) reader.now first kind operator at.old) result at.new }
 {
     let inner = enter::<S>(builder, reader, first, at)?;
     let operand = operand::<S>(builder, &inner, at)?;
-    Ok(builder.unary(reader.alloc(), first, *at, operator, operand)?)
+    Ok(builder.unary(Tokens { first, past: *at }, operator, operand)?)
 }
 
 /// Returns whether an operand is a whole `Expr`: neither an operator comes next nor `?`.
 #[tactic(auto, unfolding(hcl_grammar::specs::Pure::Steps::eat_operator, hcl_grammar::specs::Pure::Reading::next_is))]
-fn ends(reader: &Reader<'_, '_>, at: u32) -> bool
+fn ends(reader: &Reader, at: u32) -> bool
     ensures quiet { result ≡ true → spec.eat_operator reader.now at ≡ Ok (None, at) }
     ensures other { result ≡ true → tokens.next_is reader.now k.Question at ≡ false }
 {
@@ -198,11 +186,7 @@ fn ends(reader: &Reader<'_, '_>, at: u32) -> bool
 #[cycle(nest)]
 #[inline(never)]
 #[tactic(auto, unfolding(hcl_grammar::specs::Pure::Parser::whole))]
-fn whole<S: Builder>(
-    builder: &S,
-    reader: &Reader<'_, '_>,
-    at: &mut u32,
-) -> Result<S::Expr, TokenFault>
+fn whole<S: Builder>(builder: &S, reader: &Reader, at: &mut u32) -> Taken<S::Expr>
     ensures { Yields S.may_run_out
         (spec.whole (S.make builder.now) reader.now at.old) result at.new }
 {
@@ -216,11 +200,11 @@ fn whole<S: Builder>(
 #[inline(always)]
 fn after_operand<S: Builder>(
     builder: &S,
-    reader: &Reader<'_, '_>,
+    reader: &Reader,
     first: u32,
     head: S::Expr,
     at: &mut u32,
-) -> Result<S::Expr, TokenFault>
+) -> Taken<S::Expr>
     ensures { Yields S.may_run_out
         (spec.after_operand (S.make builder.now) reader.now first head at.old) result at.new }
 {
@@ -237,31 +221,27 @@ fn after_operand<S: Builder>(
 #[tactic(auto, unfolding(hcl_grammar::specs::Pure::Parser::chain))]
 fn chain<S: Builder>(
     builder: &S,
-    reader: &Reader<'_, '_>,
+    reader: &Reader,
     first: u32,
     head: S::Expr,
     at: &mut u32,
-) -> Result<S::Expr, TokenFault>
+) -> Taken<S::Expr>
     ensures { Yields S.may_run_out
         (spec.after_operand (S.make builder.now) reader.now first head at.old) result at.new }
 {
     let found = operations::<S>(builder, reader, at)?;
-    let condition = builder.chain(reader.alloc(), head, found)?;
+    let condition = builder.chain(head, found)?;
     conditional::<S>(builder, reader, first, condition, at)
 }
 
 /// Takes the operators that come next, each with the `Unary` after it.
 #[cycle(nest)]
 #[inline(never)]
-fn operations<S: Builder>(
-    builder: &S,
-    reader: &Reader<'_, '_>,
-    at: &mut u32,
-) -> Result<S::Operations, TokenFault>
+fn operations<S: Builder>(builder: &S, reader: &Reader, at: &mut u32) -> Taken<S::Operations>
     ensures { Yields S.may_run_out
         (spec.operations (S.make builder.now) reader.now at.old) result at.new }
 {
-    let mut found = builder.no_operations(reader.alloc());
+    let mut found = builder.no_operations();
     for _turn in 0..reader.len() {
         let Some(operator) = eat_operator(reader, at) else {
             return Ok(found);
@@ -278,11 +258,11 @@ fn operations<S: Builder>(
 #[tactic(auto, unfolding(hcl_grammar::specs::Pure::Parser::conditional))]
 fn conditional<S: Builder>(
     builder: &S,
-    reader: &Reader<'_, '_>,
+    reader: &Reader,
     first: u32,
     condition: S::Expr,
     at: &mut u32,
-) -> Result<S::Expr, TokenFault>
+) -> Taken<S::Expr>
     ensures { Yields S.may_run_out
         (spec.conditional (S.make builder.now) reader.now first condition at.old) result at.new }
 {
@@ -295,9 +275,7 @@ fn conditional<S: Builder>(
     reader.expect(Kind::Colon, at)?;
     let else_branch = expr::<S>(builder, &inner, at)?;
     Ok(builder.conditional(
-        reader.alloc(),
-        first,
-        *at,
+        Tokens { first, past: *at },
         condition,
         then_branch,
         else_branch,
@@ -308,11 +286,7 @@ fn conditional<S: Builder>(
 #[cycle(nest)]
 #[inline(always)]
 #[tactic(auto, unfolding(hcl_grammar::specs::Pure::Parser::unary, hcl_grammar::specs::Tokens::after_next))]
-fn unary<S: Builder>(
-    builder: &S,
-    reader: &Reader<'_, '_>,
-    at: &mut u32,
-) -> Result<S::Expr, TokenFault>
+fn unary<S: Builder>(builder: &S, reader: &Reader, at: &mut u32) -> Taken<S::Expr>
     ensures { Yields S.may_run_out
         (spec.unary (S.make builder.now) reader.now at.old) result at.new }
 {

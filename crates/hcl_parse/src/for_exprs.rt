@@ -3,20 +3,15 @@
 ghost use Rattle.hcl_parse.specs.Rules as spec;
 ghost use Rattle.hcl_parse.specs.Rules.{Yields};
 
-use crate::builder::Builder;
+use crate::builder::{Builder, Taken, Tokens};
 use crate::exprs::expr;
-use hcl_grammar::fault::TokenFault;
 use hcl_reader::Reader;
 use hcl_token::Kind;
 
 /// Takes an `Intro`: `"for" Identifier ("," Identifier)? "in" Expr`.
 #[cycle(nest)]
 #[tactic(auto, unfolding(hcl_grammar::specs::Pure::Parser::intro))]
-pub fn intro<S: Builder>(
-    builder: &S,
-    reader: &Reader<'_, '_>,
-    at: &mut u32,
-) -> Result<S::Intro, TokenFault>
+pub fn intro<S: Builder>(builder: &S, reader: &Reader, at: &mut u32) -> Taken<S::Intro>
     ensures { Yields S.may_run_out
         (spec.intro (S.make builder.now) reader.now at.old) result at.new }
 {
@@ -28,7 +23,7 @@ pub fn intro<S: Builder>(
     let second = inside.second_name(at)?;
     inside.expect_word(b"in", at)?;
     let collection = expr::<S>(builder, &inside, at)?;
-    Ok(builder.intro(first, *at, name, second, collection))
+    Ok(builder.intro(Tokens { first, past: *at }, name, second, collection))
 }
 
 /// Takes the condition of a `For`, if it has one, and the bracket that closes it.
@@ -36,10 +31,10 @@ pub fn intro<S: Builder>(
 #[tactic(auto, unfolding(hcl_grammar::specs::Pure::Parser::condition))]
 fn condition<S: Builder>(
     builder: &S,
-    reader: &Reader<'_, '_>,
+    reader: &Reader,
     close: Kind,
     at: &mut u32,
-) -> Result<Option<S::Expr>, TokenFault>
+) -> Taken<Option<S::Expr>>
     ensures { Yields S.may_run_out
         (spec.condition (S.make builder.now) reader.now close at.old) result at.new }
 {
@@ -58,10 +53,10 @@ fn condition<S: Builder>(
 #[tactic(auto, unfolding(hcl_grammar::specs::Pure::Parser::for_tuple))]
 pub fn for_tuple<S: Builder>(
     builder: &S,
-    reader: &Reader<'_, '_>,
+    reader: &Reader,
     first: u32,
     at: &mut u32,
-) -> Result<S::Term, TokenFault>
+) -> Taken<S::Term>
     ensures { Yields S.may_run_out
         (spec.for_tuple (S.make builder.now) reader.now first at.old) result at.new }
 {
@@ -70,7 +65,7 @@ pub fn for_tuple<S: Builder>(
     inside.expect(Kind::Colon, at)?;
     let value = expr::<S>(builder, &inside, at)?;
     let met = condition::<S>(builder, &inside, Kind::CloseBracket, at)?;
-    Ok(builder.for_tuple(reader.alloc(), first, *at, begin, value, met)?)
+    Ok(builder.for_tuple(Tokens { first, past: *at }, begin, value, met)?)
 }
 
 /// Takes the rest of a `For` in braces, after its key.
@@ -78,12 +73,12 @@ pub fn for_tuple<S: Builder>(
 #[tactic(auto, unfolding(hcl_grammar::specs::Pure::Parser::for_value))]
 fn for_value<S: Builder>(
     builder: &S,
-    reader: &Reader<'_, '_>,
+    reader: &Reader,
     first: u32,
     begin: S::Intro,
     key: S::Expr,
     at: &mut u32,
-) -> Result<S::Term, TokenFault>
+) -> Taken<S::Term>
     ensures { Yields S.may_run_out
         (spec.for_value (S.make builder.now) reader.now first begin key at.old) result at.new }
 {
@@ -92,7 +87,7 @@ fn for_value<S: Builder>(
     let value = expr::<S>(builder, &inside, at)?;
     let grouped = inside.eat(Kind::Ellipsis, at);
     let met = condition::<S>(builder, &inside, Kind::CloseBrace, at)?;
-    Ok(builder.for_object(reader.alloc(), first, *at, begin, key, value, grouped, met)?)
+    Ok(builder.for_object(Tokens { first, past: *at }, begin, key, value, grouped, met)?)
 }
 
 /// Takes the rest of a `For` in braces, after its `{`, which is token `first`.
@@ -100,10 +95,10 @@ fn for_value<S: Builder>(
 #[tactic(auto, unfolding(hcl_grammar::specs::Pure::Parser::for_object))]
 pub fn for_object<S: Builder>(
     builder: &S,
-    reader: &Reader<'_, '_>,
+    reader: &Reader,
     first: u32,
     at: &mut u32,
-) -> Result<S::Term, TokenFault>
+) -> Taken<S::Term>
     ensures { Yields S.may_run_out
         (spec.for_object (S.make builder.now) reader.now first at.old) result at.new }
 {

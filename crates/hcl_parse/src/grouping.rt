@@ -8,10 +8,11 @@ ghost use Rattle.hcl_grammar.specs.Nodes as node;
 ghost use Rattle.hcl_parse.specs.Chains.{before, after, first_level};
 ghost use Rattle.hcl_grammar.specs.Pure.NodeMakers as spec;
 
+use crate::builder::Made;
 use hcl_grammar::operators::{LEVELS, operator_level};
 use hcl_grammar::tree::{Expr, ExprKind, Operation};
 use hcl_grammar::{Boxed, Items, nodes};
-use std::alloc::{AllocError, Global};
+use std::alloc::Global;
 use std::collections::VecDeque;
 use std::marker::Model;
 
@@ -57,7 +58,7 @@ impl<T: Drop> Queue<T> {
     /// # Errors
     ///
     /// Returns `AllocError` if memory runs out.
-    pub fn push(&mut self, element: T) -> Result<(), AllocError>
+    pub fn push(&mut self, element: T) -> Made<()>
         ensures { OnOk result (self.new ≡ self.old ++ element ∷ []) }
     {
         self.elements.push_back(element)?;
@@ -76,13 +77,7 @@ fn first_level(operations: &Queue<Operation>) -> u32
 }
 
 /// Returns an operand followed by operators of one level; with none, the operand alone.
-fn binary(
-    alloc: Global,
-    first: u32,
-    past: u32,
-    head: Expr,
-    links: Items<Operation>,
-) -> Result<Expr, AllocError>
+fn binary(alloc: Global, first: u32, past: u32, head: Expr, links: Items<Operation>) -> Made<Expr>
     ensures { IfOk result (λ e. e ≡ node.binary first past head links) }
 {
     if links.is_empty() {
@@ -96,12 +91,7 @@ fn binary(
 /// Takes the operators of the levels below `level` that follow an operand, and returns them with
 /// it, and the place after them.
 #[cycle(climb)]
-fn climb(
-    alloc: Global,
-    level: u32,
-    head: Expr,
-    rest: &mut Queue<Operation>,
-) -> Result<(Expr, u32), AllocError>
+fn climb(alloc: Global, level: u32, head: Expr, rest: &mut Queue<Operation>) -> Made<(Expr, u32)>
     ensures made { IfOk result (λ r. r.0 ≡ spec.group level head (before level rest.old)) }
     ensures past { IfOk result (λ r. r.1 ≡ spec.chain_end head.past (before level rest.old)) }
     ensures left { OnOk result (rest.new ≡ after level rest.old) }
@@ -126,7 +116,7 @@ fn links(
     level: u32,
     past: u32,
     rest: &mut Queue<Operation>,
-) -> Result<(Items<Operation>, u32), AllocError>
+) -> Made<(Items<Operation>, u32)>
     requires { before level rest.old ≡ [] }
     ensures made { IfOk result (λ r.
         r.0 ≡ (spec.split_level level (spec.group level) (before (suc level) rest.old)).1) }
@@ -150,7 +140,7 @@ fn links(
 }
 
 /// Returns an operand with the operators that follow it, grouped by levels.
-pub fn group(alloc: Global, head: Expr, operations: Queue<Operation>) -> Result<Expr, AllocError>
+pub fn group(alloc: Global, head: Expr, operations: Queue<Operation>) -> Made<Expr>
     ensures { IfOk result (λ e. e ≡ spec.group operators.levels head operations) }
 {
     let mut rest = operations;

@@ -17,7 +17,7 @@ mod templates;
 mod terms;
 
 pub use bodies::{file, member};
-pub use builder::Builder;
+pub use builder::{Builder, Made, Taken, Tokens};
 pub use exprs::expr;
 pub use nodes::Nodes;
 pub use nothing::Nothing;

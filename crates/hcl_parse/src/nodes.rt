@@ -1,22 +1,26 @@
 //! A builder that makes the nodes of the tree.
 
-ghost use Rattle.std.specs.Prelude.{◌≡◌, true, IfOk, IfErr};
+ghost use Rattle.std.specs.Prelude.{◌≡◌, true, IfOk};
 ghost use Rattle.hcl_grammar.specs.Pure.NodeMakers.{nodes};
+ghost use Rattle.hcl_parse.specs.Made.{IsMade};
 
-use crate::builder::Builder;
+use crate::builder::{Builder, Made, Tokens};
 use crate::grouping::{Queue, group};
 use hcl_grammar::tree::{
     Attribute, BinaryOperator, Body, Content, Elem, Expr, ExprKind, Intro, Label, Member,
     Operation, Part, Primary, Tail, Template, Term, Tree, UnaryOperator,
 };
 use hcl_grammar::{Boxed, Items, nodes};
-use std::alloc::{AllocError, Global};
+use std::alloc::Global;
 
 /// Makes the nodes of the tree.
-pub struct Nodes;
+pub struct Nodes {
+    /// The allocator of nodes.
+    pub alloc: Global,
+}
 
 /// Puts an expression into a box, if there is one.
-fn boxed_option(alloc: Global, expr: Option<Expr>) -> Result<Option<Boxed<Expr>>, AllocError>
+fn boxed_option(alloc: Global, expr: Option<Expr>) -> Made<Option<Boxed<Expr>>>
     ensures { IfOk result (λ o. o ≡ expr) }
 {
     match expr {
@@ -73,33 +77,26 @@ impl Builder for Nodes {
     #[inline]
     fn conditional(
         &self,
-        alloc: Global,
-        first: u32,
-        past: u32,
+        at: Tokens,
         condition: Self::Expr,
         then_branch: Self::Expr,
         else_branch: Self::Expr,
-    ) -> Result<Self::Expr, AllocError> {
-        let condition = Boxed::new(alloc, condition)?;
-        let then_branch = Boxed::new(alloc, then_branch)?;
-        let else_branch = Boxed::new(alloc, else_branch)?;
+    ) -> Made<Self::Expr> {
+        let condition = Boxed::new(self.alloc, condition)?;
+        let then_branch = Boxed::new(self.alloc, then_branch)?;
+        let else_branch = Boxed::new(self.alloc, else_branch)?;
         let kind = ExprKind::Conditional(condition, then_branch, else_branch);
-        Ok(nodes::expr(first, past, kind))
+        Ok(nodes::expr(at.first, at.past, kind))
     }
 
     #[inline]
-    fn chain(
-        &self,
-        alloc: Global,
-        head: Self::Expr,
-        operations: Self::Operations,
-    ) -> Result<Self::Expr, AllocError> {
-        group(alloc, head, operations)
+    fn chain(&self, head: Self::Expr, operations: Self::Operations) -> Made<Self::Expr> {
+        group(self.alloc, head, operations)
     }
 
     #[inline]
-    fn no_operations(&self, alloc: Global) -> Self::Operations {
-        Queue::new(alloc)
+    fn no_operations(&self) -> Self::Operations {
+        Queue::new(self.alloc)
     }
 
     #[inline]
@@ -108,52 +105,38 @@ impl Builder for Nodes {
         operations: &mut Self::Operations,
         operator: BinaryOperator,
         operand: Self::Expr,
-    ) -> Result<(), AllocError> {
+    ) -> Made<()> {
         operations.push(nodes::operation(operator, operand))
     }
 
     #[inline]
-    fn unary(
-        &self,
-        alloc: Global,
-        first: u32,
-        past: u32,
-        operator: UnaryOperator,
-        operand: Self::Expr,
-    ) -> Result<Self::Expr, AllocError> {
-        let operand = Boxed::new(alloc, operand)?;
-        Ok(nodes::expr(first, past, ExprKind::Unary(operator, operand)))
+    fn unary(&self, at: Tokens, operator: UnaryOperator, operand: Self::Expr) -> Made<Self::Expr> {
+        let operand = Boxed::new(self.alloc, operand)?;
+        Ok(nodes::expr(at.first, at.past, ExprKind::Unary(operator, operand)))
     }
 
     #[inline]
-    fn postfix(
-        &self,
-        alloc: Global,
-        first: u32,
-        past: u32,
-        head: Self::Term,
-        tails: Self::Tails,
-    ) -> Result<Self::Expr, AllocError> {
+    fn postfix(&self, at: Tokens, head: Self::Term, tails: Self::Tails) -> Made<Self::Expr> {
         if tails.is_empty() {
-            return Ok(nodes::term_expr(first, past, head));
+            return Ok(nodes::term_expr(at.first, at.past, head));
         }
-        let head = Boxed::new(alloc, head)?;
-        let tails = Boxed::new(alloc, tails)?;
-        Ok(nodes::postfix(first, past, head, tails))
+        let head = Boxed::new(self.alloc, head)?;
+        let tails = Boxed::new(self.alloc, tails)?;
+        Ok(nodes::postfix(at.first, at.past, head, tails))
     }
 
     #[inline]
-    fn term_expr(&self, first: u32, past: u32, head: Self::Term) -> Self::Expr {
-        nodes::term_expr(first, past, head)
+    fn term_expr(&self, at: Tokens, head: Self::Term) -> Self::Expr {
+        nodes::term_expr(at.first, at.past, head)
     }
 
     #[inline]
-    fn no_tails(&self, alloc: Global) -> Self::Tails {
-        Items::new(alloc)
+    fn no_tails(&self) -> Self::Tails {
+        Items::new(self.alloc)
     }
 
     #[inline]
-    fn add_tail(&self, tails: &mut Self::Tails, tail: Self::Tail) -> Result<(), AllocError> {
+    fn add_tail(&self, tails: &mut Self::Tails, tail: Self::Tail) -> Made<()> {
         tails.push(tail)
     }
 
@@ -178,83 +161,69 @@ impl Builder for Nodes {
     }
 
     #[inline]
-    fn index(&self, alloc: Global, key: Self::Expr) -> Result<Self::Tail, AllocError> {
-        Ok(Tail::Index(Boxed::new(alloc, key)?))
+    fn index(&self, key: Self::Expr) -> Made<Self::Tail> {
+        Ok(Tail::Index(Boxed::new(self.alloc, key)?))
     }
 
     #[inline]
-    fn number(&self, first: u32, past: u32) -> Self::Term {
-        nodes::term(first, past, Primary::Number)
+    fn number(&self, at: Tokens) -> Self::Term {
+        nodes::term(at.first, at.past, Primary::Number)
     }
 
     #[inline]
-    fn identifier(&self, first: u32, past: u32) -> Self::Term {
-        nodes::term(first, past, Primary::Identifier)
+    fn identifier(&self, at: Tokens) -> Self::Term {
+        nodes::term(at.first, at.past, Primary::Identifier)
     }
 
     #[inline]
     fn call(
         &self,
-        alloc: Global,
-        first: u32,
-        past: u32,
+        at: Tokens,
         names: Self::Names,
         arguments: Self::Exprs,
         expand_final: bool,
-    ) -> Result<Self::Term, AllocError> {
-        let kind = nodes::call(alloc, names, arguments, expand_final)?;
-        Ok(nodes::term(first, past, kind))
+    ) -> Made<Self::Term> {
+        let kind = nodes::call(self.alloc, names, arguments, expand_final)?;
+        Ok(nodes::term(at.first, at.past, kind))
     }
 
     #[inline]
-    fn first_name(&self, alloc: Global, number: u32) -> Result<Self::Names, AllocError> {
-        let mut names = Items::new(alloc);
+    fn first_name(&self, number: u32) -> Made<Self::Names> {
+        let mut names = Items::new(self.alloc);
         names.push(number)?;
         Ok(names)
     }
 
     #[inline]
-    fn add_name(&self, names: &mut Self::Names, number: u32) -> Result<(), AllocError> {
+    fn add_name(&self, names: &mut Self::Names, number: u32) -> Made<()> {
         names.push(number)
     }
 
     #[inline]
-    fn no_exprs(&self, alloc: Global) -> Self::Exprs {
-        Items::new(alloc)
+    fn no_exprs(&self) -> Self::Exprs {
+        Items::new(self.alloc)
     }
 
     #[inline]
-    fn add_expr(&self, exprs: &mut Self::Exprs, expr: Self::Expr) -> Result<(), AllocError> {
+    fn add_expr(&self, exprs: &mut Self::Exprs, expr: Self::Expr) -> Made<()> {
         exprs.push(expr)
     }
 
     #[inline]
-    fn tuple(
-        &self,
-        alloc: Global,
-        first: u32,
-        past: u32,
-        exprs: Self::Exprs,
-    ) -> Result<Self::Term, AllocError> {
-        let exprs = Boxed::new(alloc, exprs)?;
-        Ok(nodes::term(first, past, Primary::Tuple(exprs)))
+    fn tuple(&self, at: Tokens, exprs: Self::Exprs) -> Made<Self::Term> {
+        let exprs = Boxed::new(self.alloc, exprs)?;
+        Ok(nodes::term(at.first, at.past, Primary::Tuple(exprs)))
     }
 
     #[inline]
-    fn object(
-        &self,
-        alloc: Global,
-        first: u32,
-        past: u32,
-        elements: Self::Elements,
-    ) -> Result<Self::Term, AllocError> {
-        let elements = Boxed::new(alloc, elements)?;
-        Ok(nodes::term(first, past, Primary::Object(elements)))
+    fn object(&self, at: Tokens, elements: Self::Elements) -> Made<Self::Term> {
+        let elements = Boxed::new(self.alloc, elements)?;
+        Ok(nodes::term(at.first, at.past, Primary::Object(elements)))
     }
 
     #[inline]
-    fn no_elements(&self, alloc: Global) -> Self::Elements {
-        Items::new(alloc)
+    fn no_elements(&self) -> Self::Elements {
+        Items::new(self.alloc)
     }
 
     #[inline]
@@ -263,109 +232,84 @@ impl Builder for Nodes {
         elements: &mut Self::Elements,
         key: Self::Expr,
         value: Self::Expr,
-    ) -> Result<(), AllocError> {
+    ) -> Made<()> {
         elements.push(nodes::elem(key, value))
     }
 
     #[inline]
     fn intro(
         &self,
-        first: u32,
-        past: u32,
+        at: Tokens,
         name: u32,
         second_name: Option<u32>,
         collection: Self::Expr,
     ) -> Self::Intro {
-        nodes::intro(first, past, name, second_name, collection)
+        nodes::intro(at.first, at.past, name, second_name, collection)
     }
 
     #[inline]
     fn for_tuple(
         &self,
-        alloc: Global,
-        first: u32,
-        past: u32,
+        at: Tokens,
         intro: Self::Intro,
         value: Self::Expr,
         condition: Option<Self::Expr>,
-    ) -> Result<Self::Term, AllocError>
-        ensures made { IfOk result (λ s. s ≡ nodes.for_tuple first past intro value condition) }
-        ensures memory { IfErr result (λ _. true ≡ true) }
+    ) -> Made<Self::Term>
+        ensures { IsMade true result (nodes.for_tuple at.first at.past intro value condition) }
     {
-        let condition = boxed_option(alloc, condition)?;
-        let kind = nodes::for_tuple(alloc, intro, value, condition)?;
-        Ok(nodes::term(first, past, kind))
+        let condition = boxed_option(self.alloc, condition)?;
+        let kind = nodes::for_tuple(self.alloc, intro, value, condition)?;
+        Ok(nodes::term(at.first, at.past, kind))
     }
 
     #[inline]
     fn for_object(
         &self,
-        alloc: Global,
-        first: u32,
-        past: u32,
+        at: Tokens,
         intro: Self::Intro,
         key: Self::Expr,
         value: Self::Expr,
         grouped: bool,
         condition: Option<Self::Expr>,
-    ) -> Result<Self::Term, AllocError>
-        ensures made { IfOk result
-            (λ s. s ≡ nodes.for_object first past intro key value grouped condition) }
-        ensures memory { IfErr result (λ _. true ≡ true) }
+    ) -> Made<Self::Term>
+        ensures { IsMade true result
+            (nodes.for_object at.first at.past intro key value grouped condition) }
     {
-        let condition = boxed_option(alloc, condition)?;
-        let kind = nodes::for_object(alloc, intro, key, value, grouped, condition)?;
-        Ok(nodes::term(first, past, kind))
+        let condition = boxed_option(self.alloc, condition)?;
+        let kind = nodes::for_object(self.alloc, intro, key, value, grouped, condition)?;
+        Ok(nodes::term(at.first, at.past, kind))
     }
 
     #[inline]
-    fn quoted(
-        &self,
-        alloc: Global,
-        first: u32,
-        past: u32,
-        template: Self::Template,
-    ) -> Result<Self::Term, AllocError> {
-        let template = Boxed::new(alloc, template)?;
-        Ok(nodes::term(first, past, Primary::Quoted(template)))
+    fn quoted(&self, at: Tokens, template: Self::Template) -> Made<Self::Term> {
+        let template = Boxed::new(self.alloc, template)?;
+        Ok(nodes::term(at.first, at.past, Primary::Quoted(template)))
     }
 
     #[inline]
-    fn heredoc(
-        &self,
-        alloc: Global,
-        first: u32,
-        past: u32,
-        template: Self::Template,
-    ) -> Result<Self::Term, AllocError> {
-        let template = Boxed::new(alloc, template)?;
-        Ok(nodes::term(first, past, Primary::Heredoc(template)))
+    fn heredoc(&self, at: Tokens, template: Self::Template) -> Made<Self::Term> {
+        let template = Boxed::new(self.alloc, template)?;
+        Ok(nodes::term(at.first, at.past, Primary::Heredoc(template)))
     }
 
     #[inline]
-    fn parens(
-        &self,
-        alloc: Global,
-        first: u32,
-        past: u32,
-        expr: Self::Expr,
-    ) -> Result<Self::Term, AllocError> {
-        let expr = Boxed::new(alloc, expr)?;
-        Ok(nodes::term(first, past, Primary::Parens(expr)))
+    fn parens(&self, at: Tokens, expr: Self::Expr) -> Made<Self::Term> {
+        let expr = Boxed::new(self.alloc, expr)?;
+        Ok(nodes::term(at.first, at.past, Primary::Parens(expr)))
     }
 
     #[inline]
-    fn template(&self, first: u32, past: u32, parts: Self::Parts) -> Self::Template {
-        nodes::template(first, past, parts)
+    fn template(&self, at: Tokens, parts: Self::Parts) -> Self::Template {
+        nodes::template(at.first, at.past, parts)
     }
 
     #[inline]
-    fn no_parts(&self, alloc: Global) -> Self::Parts {
-        Items::new(alloc)
+    fn no_parts(&self) -> Self::Parts {
+        Items::new(self.alloc)
     }
 
     #[inline]
-    fn add_part(&self, parts: &mut Self::Parts, part: Self::Part) -> Result<(), AllocError> {
+    fn add_part(&self, parts: &mut Self::Parts, part: Self::Part) -> Made<()> {
         parts.push(part)
     }
 
@@ -375,84 +319,75 @@ impl Builder for Nodes {
     }
 
     #[inline]
-    fn interpolation(&self, alloc: Global, expr: Self::Expr) -> Result<Self::Part, AllocError> {
-        Ok(Part::Interp(Boxed::new(alloc, expr)?))
+    fn interpolation(&self, expr: Self::Expr) -> Made<Self::Part> {
+        Ok(Part::Interp(Boxed::new(self.alloc, expr)?))
     }
 
     #[inline]
     fn if_directive(
         &self,
-        alloc: Global,
-        first: u32,
-        past: u32,
+        at: Tokens,
         condition: Self::Expr,
         then_branch: Self::Template,
         else_branch: Option<Self::Template>,
-    ) -> Result<Self::Part, AllocError>
-        ensures made { IfOk result
-            (λ s. s ≡ nodes.if_directive first past condition then_branch else_branch) }
-        ensures memory { IfErr result (λ _. true ≡ true) }
+    ) -> Made<Self::Part>
+        ensures { IsMade true result
+            (nodes.if_directive at.first at.past condition then_branch else_branch) }
     {
-        nodes::if_part(alloc, first, past, condition, then_branch, else_branch)
+        nodes::if_part(
+            self.alloc,
+            at.first,
+            at.past,
+            condition,
+            then_branch,
+            else_branch,
+        )
     }
 
     #[inline]
     fn for_directive(
         &self,
-        alloc: Global,
-        first: u32,
-        past: u32,
+        at: Tokens,
         intro: Self::Intro,
         body: Self::Template,
-    ) -> Result<Self::Part, AllocError> {
-        nodes::for_part(alloc, first, past, intro, body)
+    ) -> Made<Self::Part> {
+        nodes::for_part(self.alloc, at.first, at.past, intro, body)
     }
 
     #[inline]
-    fn attribute(
-        &self,
-        alloc: Global,
-        first: u32,
-        past: u32,
-        value: Self::Expr,
-    ) -> Result<Self::Attribute, AllocError> {
-        let value = Boxed::new(alloc, value)?;
-        Ok(nodes::attribute(first, past, value))
+    fn attribute(&self, at: Tokens, value: Self::Expr) -> Made<Self::Attribute> {
+        let value = Boxed::new(self.alloc, value)?;
+        Ok(nodes::attribute(at.first, at.past, value))
     }
 
     #[inline]
-    fn label(&self, first: u32, past: u32, name: Option<u32>) -> Self::Label {
-        nodes::label(first, past, name)
+    fn label(&self, at: Tokens, name: Option<u32>) -> Self::Label {
+        nodes::label(at.first, at.past, name)
     }
 
     #[inline]
-    fn no_labels(&self, alloc: Global) -> Self::Labels {
-        Items::new(alloc)
+    fn no_labels(&self) -> Self::Labels {
+        Items::new(self.alloc)
     }
 
     #[inline]
-    fn add_label(&self, labels: &mut Self::Labels, label: Self::Label) -> Result<(), AllocError> {
+    fn add_label(&self, labels: &mut Self::Labels, label: Self::Label) -> Made<()> {
         labels.push(label)
     }
 
     #[inline]
-    fn one_line(
-        &self,
-        alloc: Global,
-        attribute: Option<Self::Attribute>,
-    ) -> Result<Self::Content, AllocError>
-        ensures made { IfOk result (λ s. s ≡ nodes.one_line attribute) }
-        ensures memory { IfErr result (λ _. true ≡ true) }
+    fn one_line(&self, attribute: Option<Self::Attribute>) -> Made<Self::Content>
+        ensures { IsMade true result (nodes.one_line attribute) }
     {
         match attribute {
-            Some(attribute) => nodes::one_line(alloc, attribute),
+            Some(attribute) => nodes::one_line(self.alloc, attribute),
             None => Ok(Content::OneLine(None)),
         }
     }
 
     #[inline]
-    fn block_body(&self, alloc: Global, body: Self::Body) -> Result<Self::Content, AllocError> {
-        nodes::block_body(alloc, body)
+    fn block_body(&self, body: Self::Body) -> Made<Self::Content> {
+        nodes::block_body(self.alloc, body)
     }
 
     #[inline]
@@ -461,33 +396,23 @@ impl Builder for Nodes {
     }
 
     #[inline]
-    fn block(
-        &self,
-        first: u32,
-        past: u32,
-        labels: Self::Labels,
-        content: Self::Content,
-    ) -> Self::Member {
-        nodes::block(first, past, labels, content)
+    fn block(&self, at: Tokens, labels: Self::Labels, content: Self::Content) -> Self::Member {
+        nodes::block(at.first, at.past, labels, content)
     }
 
     #[inline]
-    fn no_members(&self, alloc: Global) -> Self::Members {
-        Items::new(alloc)
+    fn no_members(&self) -> Self::Members {
+        Items::new(self.alloc)
     }
 
     #[inline]
-    fn add_member(
-        &self,
-        members: &mut Self::Members,
-        member: Self::Member,
-    ) -> Result<(), AllocError> {
+    fn add_member(&self, members: &mut Self::Members, member: Self::Member) -> Made<()> {
         members.push(member)
     }
 
     #[inline]
-    fn body(&self, first: u32, past: u32, members: Self::Members) -> Self::Body {
-        nodes::body(first, past, members)
+    fn body(&self, at: Tokens, members: Self::Members) -> Self::Body {
+        nodes::body(at.first, at.past, members)
     }
 
     #[inline]

@@ -1,11 +1,11 @@
 //! A builder that makes nothing.
 
-ghost use Rattle.std.specs.Prelude.{◌≡◌, false, true, IfOk, IfErr};
+ghost use Rattle.std.specs.Prelude.{false};
+ghost use Rattle.hcl_parse.specs.Made.{IsMade};
 ghost use Rattle.hcl_parse.specs.Nothing.{nothing};
 
-use crate::builder::Builder;
+use crate::builder::{Builder, Made, Tokens};
 use hcl_grammar::tree::{BinaryOperator, UnaryOperator};
-use std::alloc::{AllocError, Global};
 
 /// Makes nothing, and takes no memory.
 pub struct Nothing;
@@ -58,209 +58,147 @@ impl Builder for Nothing {
     #[inline(always)]
     fn conditional(
         &self,
-        _alloc: Global,
-        _first: u32,
-        _past: u32,
-        _condition: Self::Expr,
-        _then_branch: Self::Expr,
-        _else_branch: Self::Expr,
-    ) -> Result<Self::Expr, AllocError> {
+        _at: Tokens,
+        _condition: (),
+        _then_branch: (),
+        _else_branch: (),
+    ) -> Made<()> {
         Ok(())
     }
 
     #[inline(always)]
-    fn chain(
-        &self,
-        _alloc: Global,
-        _head: Self::Expr,
-        _operations: Self::Operations,
-    ) -> Result<Self::Expr, AllocError> {
+    fn chain(&self, _head: (), _operations: ()) -> Made<()> {
         Ok(())
     }
 
     #[inline(always)]
-    fn no_operations(&self, _alloc: Global) -> Self::Operations {
+    fn no_operations(&self) -> () {
         ()
     }
 
     #[inline(always)]
     fn add_operation(
         &self,
-        _operations: &mut Self::Operations,
+        _operations: &mut (),
         _operator: BinaryOperator,
-        _operand: Self::Expr,
-    ) -> Result<(), AllocError> {
+        _operand: (),
+    ) -> Made<()> {
         Ok(())
     }
 
     #[inline(always)]
-    fn unary(
-        &self,
-        _alloc: Global,
-        _first: u32,
-        _past: u32,
-        _operator: UnaryOperator,
-        _operand: Self::Expr,
-    ) -> Result<Self::Expr, AllocError> {
+    fn unary(&self, _at: Tokens, _operator: UnaryOperator, _operand: ()) -> Made<()> {
         Ok(())
     }
 
     #[inline(always)]
-    fn postfix(
-        &self,
-        _alloc: Global,
-        _first: u32,
-        _past: u32,
-        _head: Self::Term,
-        _tails: Self::Tails,
-    ) -> Result<Self::Expr, AllocError> {
+    fn postfix(&self, _at: Tokens, _head: (), _tails: ()) -> Made<()> {
         Ok(())
     }
 
     #[inline(always)]
-    fn term_expr(&self, _first: u32, _past: u32, _head: Self::Term) -> Self::Expr {
+    fn term_expr(&self, _at: Tokens, _head: ()) -> () {
         ()
     }
 
     #[inline(always)]
-    fn no_tails(&self, _alloc: Global) -> Self::Tails {
+    fn no_tails(&self) -> () {
         ()
     }
 
     #[inline(always)]
-    fn add_tail(&self, _tails: &mut Self::Tails, _tail: Self::Tail) -> Result<(), AllocError> {
+    fn add_tail(&self, _tails: &mut (), _tail: ()) -> Made<()> {
         Ok(())
     }
 
     #[inline(always)]
-    fn name_tail(&self, _number: u32) -> Self::Tail {
+    fn name_tail(&self, _number: u32) -> () {
         ()
     }
 
     #[inline(always)]
-    fn legacy_index(&self, _number: u32) -> Self::Tail {
+    fn legacy_index(&self, _number: u32) -> () {
         ()
     }
 
     #[inline(always)]
-    fn attribute_splat(&self) -> Self::Tail {
+    fn attribute_splat(&self) -> () {
         ()
     }
 
     #[inline(always)]
-    fn full_splat(&self) -> Self::Tail {
+    fn full_splat(&self) -> () {
         ()
     }
 
     #[inline(always)]
-    fn index(&self, _alloc: Global, _key: Self::Expr) -> Result<Self::Tail, AllocError> {
+    fn index(&self, _key: ()) -> Made<()> {
         Ok(())
     }
 
     #[inline(always)]
-    fn number(&self, _first: u32, _past: u32) -> Self::Term {
+    fn number(&self, _at: Tokens) -> () {
         ()
     }
 
     #[inline(always)]
-    fn identifier(&self, _first: u32, _past: u32) -> Self::Term {
+    fn identifier(&self, _at: Tokens) -> () {
         ()
     }
 
     #[inline(always)]
-    fn call(
-        &self,
-        _alloc: Global,
-        _first: u32,
-        _past: u32,
-        _names: Self::Names,
-        _arguments: Self::Exprs,
-        _expand_final: bool,
-    ) -> Result<Self::Term, AllocError> {
+    fn call(&self, _at: Tokens, _names: (), _arguments: (), _expand_final: bool) -> Made<()> {
         Ok(())
     }
 
     #[inline(always)]
-    fn first_name(&self, _alloc: Global, _number: u32) -> Result<Self::Names, AllocError> {
+    fn first_name(&self, _number: u32) -> Made<()> {
         Ok(())
     }
 
     #[inline(always)]
-    fn add_name(&self, _names: &mut Self::Names, _number: u32) -> Result<(), AllocError> {
+    fn add_name(&self, _names: &mut (), _number: u32) -> Made<()> {
         Ok(())
     }
 
     #[inline(always)]
-    fn no_exprs(&self, _alloc: Global) -> Self::Exprs {
+    fn no_exprs(&self) -> () {
         ()
     }
 
     #[inline(always)]
-    fn add_expr(&self, _exprs: &mut Self::Exprs, _expr: Self::Expr) -> Result<(), AllocError> {
+    fn add_expr(&self, _exprs: &mut (), _expr: ()) -> Made<()> {
         Ok(())
     }
 
     #[inline(always)]
-    fn tuple(
-        &self,
-        _alloc: Global,
-        _first: u32,
-        _past: u32,
-        _exprs: Self::Exprs,
-    ) -> Result<Self::Term, AllocError> {
+    fn tuple(&self, _at: Tokens, _exprs: ()) -> Made<()> {
         Ok(())
     }
 
     #[inline(always)]
-    fn object(
-        &self,
-        _alloc: Global,
-        _first: u32,
-        _past: u32,
-        _elements: Self::Elements,
-    ) -> Result<Self::Term, AllocError> {
+    fn object(&self, _at: Tokens, _elements: ()) -> Made<()> {
         Ok(())
     }
 
     #[inline(always)]
-    fn no_elements(&self, _alloc: Global) -> Self::Elements {
+    fn no_elements(&self) -> () {
         ()
     }
 
     #[inline(always)]
-    fn add_element(
-        &self,
-        _elements: &mut Self::Elements,
-        _key: Self::Expr,
-        _value: Self::Expr,
-    ) -> Result<(), AllocError> {
+    fn add_element(&self, _elements: &mut (), _key: (), _value: ()) -> Made<()> {
         Ok(())
     }
 
     #[inline(always)]
-    fn intro(
-        &self,
-        _first: u32,
-        _past: u32,
-        _name: u32,
-        _second_name: Option<u32>,
-        _collection: Self::Expr,
-    ) -> Self::Intro {
+    fn intro(&self, _at: Tokens, _name: u32, _second_name: Option<u32>, _collection: ()) -> () {
         ()
     }
 
     #[inline(always)]
-    fn for_tuple(
-        &self,
-        alloc: Global,
-        first: u32,
-        past: u32,
-        intro: Self::Intro,
-        value: Self::Expr,
-        condition: Option<Self::Expr>,
-    ) -> Result<Self::Term, AllocError>
-        ensures made { IfOk result (λ s. s ≡ nothing.for_tuple first past intro value condition) }
-        ensures memory { IfErr result (λ _. false ≡ true) }
+    fn for_tuple(&self, at: Tokens, intro: (), value: (), condition: Option<()>) -> Made<()>
+        ensures { IsMade false result (nothing.for_tuple at.first at.past intro value condition) }
     {
         Ok(())
     }
@@ -268,189 +206,137 @@ impl Builder for Nothing {
     #[inline(always)]
     fn for_object(
         &self,
-        alloc: Global,
-        first: u32,
-        past: u32,
-        intro: Self::Intro,
-        key: Self::Expr,
-        value: Self::Expr,
+        at: Tokens,
+        intro: (),
+        key: (),
+        value: (),
         grouped: bool,
-        condition: Option<Self::Expr>,
-    ) -> Result<Self::Term, AllocError>
-        ensures made { IfOk result
-            (λ s. s ≡ nothing.for_object first past intro key value grouped condition) }
-        ensures memory { IfErr result (λ _. false ≡ true) }
+        condition: Option<()>,
+    ) -> Made<()>
+        ensures { IsMade false result
+            (nothing.for_object at.first at.past intro key value grouped condition) }
     {
         Ok(())
     }
 
     #[inline(always)]
-    fn quoted(
-        &self,
-        _alloc: Global,
-        _first: u32,
-        _past: u32,
-        _template: Self::Template,
-    ) -> Result<Self::Term, AllocError> {
+    fn quoted(&self, _at: Tokens, _template: ()) -> Made<()> {
         Ok(())
     }
 
     #[inline(always)]
-    fn heredoc(
-        &self,
-        _alloc: Global,
-        _first: u32,
-        _past: u32,
-        _template: Self::Template,
-    ) -> Result<Self::Term, AllocError> {
+    fn heredoc(&self, _at: Tokens, _template: ()) -> Made<()> {
         Ok(())
     }
 
     #[inline(always)]
-    fn parens(
-        &self,
-        _alloc: Global,
-        _first: u32,
-        _past: u32,
-        _expr: Self::Expr,
-    ) -> Result<Self::Term, AllocError> {
+    fn parens(&self, _at: Tokens, _expr: ()) -> Made<()> {
         Ok(())
     }
 
     #[inline(always)]
-    fn template(&self, _first: u32, _past: u32, _parts: Self::Parts) -> Self::Template {
+    fn template(&self, _at: Tokens, _parts: ()) -> () {
         ()
     }
 
     #[inline(always)]
-    fn no_parts(&self, _alloc: Global) -> Self::Parts {
+    fn no_parts(&self) -> () {
         ()
     }
 
     #[inline(always)]
-    fn add_part(&self, _parts: &mut Self::Parts, _part: Self::Part) -> Result<(), AllocError> {
+    fn add_part(&self, _parts: &mut (), _part: ()) -> Made<()> {
         Ok(())
     }
 
     #[inline(always)]
-    fn literal(&self, _number: u32) -> Self::Part {
+    fn literal(&self, _number: u32) -> () {
         ()
     }
 
     #[inline(always)]
-    fn interpolation(&self, _alloc: Global, _expr: Self::Expr) -> Result<Self::Part, AllocError> {
+    fn interpolation(&self, _expr: ()) -> Made<()> {
         Ok(())
     }
 
     #[inline(always)]
     fn if_directive(
         &self,
-        alloc: Global,
-        first: u32,
-        past: u32,
-        condition: Self::Expr,
-        then_branch: Self::Template,
-        else_branch: Option<Self::Template>,
-    ) -> Result<Self::Part, AllocError>
-        ensures made { IfOk result
-            (λ s. s ≡ nothing.if_directive first past condition then_branch else_branch) }
-        ensures memory { IfErr result (λ _. false ≡ true) }
+        at: Tokens,
+        condition: (),
+        then_branch: (),
+        else_branch: Option<()>,
+    ) -> Made<()>
+        ensures { IsMade false result
+            (nothing.if_directive at.first at.past condition then_branch else_branch) }
     {
         Ok(())
     }
 
     #[inline(always)]
-    fn for_directive(
-        &self,
-        _alloc: Global,
-        _first: u32,
-        _past: u32,
-        _intro: Self::Intro,
-        _body: Self::Template,
-    ) -> Result<Self::Part, AllocError> {
+    fn for_directive(&self, _at: Tokens, _intro: (), _body: ()) -> Made<()> {
         Ok(())
     }
 
     #[inline(always)]
-    fn attribute(
-        &self,
-        _alloc: Global,
-        _first: u32,
-        _past: u32,
-        _value: Self::Expr,
-    ) -> Result<Self::Attribute, AllocError> {
+    fn attribute(&self, _at: Tokens, _value: ()) -> Made<()> {
         Ok(())
     }
 
     #[inline(always)]
-    fn label(&self, _first: u32, _past: u32, _name: Option<u32>) -> Self::Label {
+    fn label(&self, _at: Tokens, _name: Option<u32>) -> () {
         ()
     }
 
     #[inline(always)]
-    fn no_labels(&self, _alloc: Global) -> Self::Labels {
+    fn no_labels(&self) -> () {
         ()
     }
 
     #[inline(always)]
-    fn add_label(&self, _labels: &mut Self::Labels, _label: Self::Label) -> Result<(), AllocError> {
+    fn add_label(&self, _labels: &mut (), _label: ()) -> Made<()> {
         Ok(())
     }
 
     #[inline(always)]
-    fn one_line(
-        &self,
-        alloc: Global,
-        attribute: Option<Self::Attribute>,
-    ) -> Result<Self::Content, AllocError>
-        ensures made { IfOk result (λ s. s ≡ nothing.one_line attribute) }
-        ensures memory { IfErr result (λ _. false ≡ true) }
+    fn one_line(&self, attribute: Option<()>) -> Made<()>
+        ensures { IsMade false result (nothing.one_line attribute) }
     {
         Ok(())
     }
 
     #[inline(always)]
-    fn block_body(&self, _alloc: Global, _body: Self::Body) -> Result<Self::Content, AllocError> {
+    fn block_body(&self, _body: ()) -> Made<()> {
         Ok(())
     }
 
     #[inline(always)]
-    fn attribute_member(&self, _attribute: Self::Attribute) -> Self::Member {
+    fn attribute_member(&self, _attribute: ()) -> () {
         ()
     }
 
     #[inline(always)]
-    fn block(
-        &self,
-        _first: u32,
-        _past: u32,
-        _labels: Self::Labels,
-        _content: Self::Content,
-    ) -> Self::Member {
+    fn block(&self, _at: Tokens, _labels: (), _content: ()) -> () {
         ()
     }
 
     #[inline(always)]
-    fn no_members(&self, _alloc: Global) -> Self::Members {
+    fn no_members(&self) -> () {
         ()
     }
 
     #[inline(always)]
-    fn add_member(
-        &self,
-        _members: &mut Self::Members,
-        _member: Self::Member,
-    ) -> Result<(), AllocError> {
+    fn add_member(&self, _members: &mut (), _member: ()) -> Made<()> {
         Ok(())
     }
 
     #[inline(always)]
-    fn body(&self, _first: u32, _past: u32, _members: Self::Members) -> Self::Body {
+    fn body(&self, _at: Tokens, _members: ()) -> () {
         ()
     }
 
     #[inline(always)]
-    fn tree(&self, _past: u32, _body: Self::Body) -> Self::Tree {
+    fn tree(&self, _past: u32, _body: ()) -> () {
         ()
     }
 }

@@ -2,8 +2,7 @@
 
 ghost use Rattle.hcl_parse.specs.Rules as spec;
 
-use crate::builder::Builder;
-use hcl_grammar::fault::TokenFault;
+use crate::builder::{Builder, Taken};
 use hcl_reader::Reader;
 
 /// Opens a construct at this token, if one more may nest.
@@ -13,7 +12,7 @@ pub fn enter<'s, 't, S: Builder>(
     reader: &Reader<'s, 't>,
     opening: u32,
     at: &mut u32,
-) -> Result<Reader<'s, 't>, TokenFault>
+) -> Taken<Reader<'s, 't>>
     ensures { spec.Opens (S.make builder.now) reader.now opening at.old result at.new }
 {
     reader.enter(opening, at)
@@ -26,7 +25,7 @@ pub fn enter_two<'s, 't, S: Builder>(
     reader: &Reader<'s, 't>,
     opening: u32,
     at: &mut u32,
-) -> Result<(Reader<'s, 't>, Reader<'s, 't>), TokenFault>
+) -> Taken<(Reader<'s, 't>, Reader<'s, 't>)>
     ensures { spec.OpensTwo (S.make builder.now) reader.now opening at.old result at.new }
 {
     reader.enter_two(opening, at)

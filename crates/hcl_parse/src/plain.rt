@@ -9,11 +9,10 @@ ghost use Rattle.hcl_reader.specs.ReaderRules as tokens;
 ghost use Rattle.hcl_parse.specs.Rules as spec;
 ghost use Rattle.hcl_parse.specs.Tried.{IsRead, IsTried};
 
-use crate::builder::Builder;
+use crate::builder::{Builder, Made, Tokens};
 use crate::opens::enter;
 use hcl_reader::{Next, Reader, same_kind};
 use hcl_token::Kind;
-use std::alloc::AllocError;
 
 /// What of an `Expr` was not taken.
 #[derive(Drop)]
@@ -49,7 +48,7 @@ pub struct Read<T, L> {
 /// Returns whether a term before this place is known to be a whole `Expr`: what comes next ends it.
 #[inline(always)]
 #[tactic(auto, unfolding(hcl_grammar::specs::Pure::Steps::eat_operator, hcl_grammar::specs::Pure::Parser::tail_of, hcl_grammar::specs::Pure::Reading::next_is, hcl_grammar::specs::Tokens::same_kind))]
-fn ends_expr<S: Builder>(builder: &S, reader: &Reader<'_, '_>, at: u32) -> bool
+fn ends_expr<S: Builder>(builder: &S, reader: &Reader, at: u32) -> bool
     ensures operator { result ≡ true → spec.eat_operator reader.now at ≡ Ok (None, at) }
     ensures question { result ≡ true → tokens.next_is reader.now k.Question at ≡ false }
     ensures tail { result ≡ true → spec.tail (S.make builder.now) reader.now at ≡ Ok (None, at) }
@@ -73,7 +72,7 @@ fn ends_expr<S: Builder>(builder: &S, reader: &Reader<'_, '_>, at: u32) -> bool
 /// Takes a `Tail` with a dot, if one comes next: `"." (Identifier|"*") | DotIndex`.
 #[inline(always)]
 #[tactic(auto, unfolding(hcl_grammar::specs::Pure::Parser::tail_of, hcl_grammar::specs::Pure::Parser::dot_tail, hcl_grammar::specs::Pure::Reading::next_is, hcl_grammar::specs::Pure::Reading::after_if_next, hcl_grammar::specs::Pure::Reading::expect, hcl_grammar::specs::Tokens::after_next, hcl_grammar::specs::Tokens::same_kind))]
-fn eat_dotted<S: Builder>(builder: &S, reader: &Reader<'_, '_>, at: &mut usize) -> Option<S::Tail>
+fn eat_dotted<S: Builder>(builder: &S, reader: &Reader, at: &mut usize) -> Option<S::Tail>
     ensures taken { IfSome result (λ t.
         spec.tail (S.make builder.now) reader.now at.old ≡ Ok (Some t, at.new)) }
     ensures called { OnSome result (spec.is_called reader.now at.old ≡ false) }
@@ -112,16 +111,16 @@ fn eat_dotted<S: Builder>(builder: &S, reader: &Reader<'_, '_>, at: &mut usize) 
 #[inline(always)]
 fn eat_all_dotted<S: Builder>(
     builder: &S,
-    reader: &Reader<'_, '_>,
+    reader: &Reader,
     first: u32,
     at: &mut u32,
-) -> Result<Read<S::Term, S::Tails>, AllocError>
+) -> Made<Read<S::Term, S::Tails>>
     ensures read { IfOk result (λ r. IsRead (S.make builder.now) reader.now first k.Identifier
         r.turns r.head r.tails at.old at.new) }
     ensures memory { IfErr result (λ _. S.may_run_out ≡ true) }
 {
-    let head = builder.identifier(first, *at);
-    let mut tails = builder.no_tails(reader.alloc());
+    let head = builder.identifier(Tokens { first, past: *at });
+    let mut tails = builder.no_tails();
     let most = reader.len();
     let mut place = *at as usize;
     for turn in 0..most {
@@ -150,10 +149,10 @@ fn eat_all_dotted<S: Builder>(
 #[tactic(auto, unfolding(hcl_grammar::specs::Tokens::after_next))]
 fn eat_text<S: Builder>(
     builder: &S,
-    reader: &Reader<'_, '_>,
+    reader: &Reader,
     first: u32,
     at: &mut u32,
-) -> Result<Option<S::Term>, AllocError>
+) -> Made<Option<S::Term>>
     ensures read { IfOk result (λ o. IfSome o (λ head.
         spec.quoted (S.make builder.now) reader.now first at.old ≡ Ok (head, at.new))) }
     ensures memory { IfErr result (λ _. S.may_run_out ≡ true) }
@@ -161,26 +160,27 @@ fn eat_text<S: Builder>(
     let from = *at;
     match enter::<S>(builder, reader, first, at) {
         Ok(_inner) => {
-            let (number, next) = reader.next_token(from);
-            match next {
+            let (next, kind) = reader.next_token(from);
+            match kind {
                 Some(Kind::QuoteClose) => {
-                    *at = number + 1;
-                    let parts = builder.no_parts(reader.alloc());
-                    let template = builder.template(from, from, parts);
-                    let head = builder.quoted(reader.alloc(), first, *at, template)?;
+                    *at = next + 1;
+                    let past = from;
+                    let parts = builder.no_parts();
+                    let template = builder.template(Tokens { first: from, past }, parts);
+                    let head = builder.quoted(Tokens { first, past: *at }, template)?;
                     Ok(Some(head))
                 }
                 Some(Kind::QuoteLit) => {
-                    let to = number + 1;
-                    let (second, close) = reader.next_token(to);
+                    let past = next + 1;
+                    let (second, close) = reader.next_token(past);
                     match close {
                         Some(Kind::QuoteClose) => {
                             *at = second + 1;
-                            let mut parts = builder.no_parts(reader.alloc());
-                            let literal = builder.literal(number);
+                            let mut parts = builder.no_parts();
+                            let literal = builder.literal(next);
                             builder.add_part(&mut parts, literal)?;
-                            let template = builder.template(number, to, parts);
-                            let head = builder.quoted(reader.alloc(), first, *at, template)?;
+                            let template = builder.template(Tokens { first: next, past }, parts);
+                            let head = builder.quoted(Tokens { first, past: *at }, template)?;
                             Ok(Some(head))
                         }
                         _ => Ok(None),
@@ -197,11 +197,11 @@ fn eat_text<S: Builder>(
 #[inline(always)]
 fn eat_term<S: Builder>(
     builder: &S,
-    reader: &Reader<'_, '_>,
+    reader: &Reader,
     first: u32,
     kind: Kind,
     at: &mut u32,
-) -> Result<Option<Read<S::Term, S::Tails>>, AllocError>
+) -> Made<Option<Read<S::Term, S::Tails>>>
     ensures first { IfOk result (λ o. OnSome o (operators.unary_operator kind ≡ None)) }
     ensures read { IfOk result (λ o. IfSome o (λ r.
         IsRead (S.make builder.now) reader.now first kind r.turns r.head r.tails at.old at.new)) }
@@ -213,7 +213,8 @@ fn eat_term<S: Builder>(
             Ok(Some(read))
         }
         Kind::Number => {
-            let (head, tails) = (builder.number(first, *at), builder.no_tails(reader.alloc()));
+            let head = builder.number(Tokens { first, past: *at });
+            let tails = builder.no_tails();
             Ok(Some(Read {
                 turns: reader.len(),
                 head,
@@ -222,7 +223,7 @@ fn eat_term<S: Builder>(
         }
         Kind::QuoteOpen => match eat_text::<S>(builder, reader, first, at)? {
             Some(head) => {
-                let tails = builder.no_tails(reader.alloc());
+                let tails = builder.no_tails();
                 Ok(Some(Read {
                     turns: reader.len(),
                     head,
@@ -240,10 +241,10 @@ fn eat_term<S: Builder>(
 #[inline(always)]
 pub fn eat_plain_expr<S: Builder>(
     builder: &S,
-    reader: &Reader<'_, '_>,
+    reader: &Reader,
     next: Next,
     at: &mut u32,
-) -> Result<Unread<S::Expr, S::Term, S::Tails>, AllocError>
+) -> Made<Unread<S::Expr, S::Term, S::Tails>>
     requires number { next.0 ≡ tokens.next_index reader.now at.old }
     requires kind { next.1 ≡ tokens.next_kind reader.now at.old }
     requires fits { OnSome next.1 (next.0 + 1 < 2 ^ 32) }
@@ -266,7 +267,7 @@ pub fn eat_plain_expr<S: Builder>(
                         });
                     }
                     *at = end;
-                    let made = builder.postfix(reader.alloc(), first, end, head, tails)?;
+                    let made = builder.postfix(Tokens { first, past: end }, head, tails)?;
                     Ok(Unread::Nothing(made))
                 }
                 None => Ok(Unread::All),

@@ -5,10 +5,10 @@ ghost use Rattle.hcl_grammar.specs.Pure.Reading.{Reads};
 ghost use Rattle.hcl_parse.specs.BodyRules as spec;
 ghost use Rattle.hcl_parse.specs.Roots.{Ends};
 
+use crate::builder::Taken;
 use crate::nodes::Nodes;
 use crate::nothing::Nothing;
 use crate::{bodies, laws};
-use hcl_grammar::fault::TokenFault;
 use hcl_grammar::tree::{Member, Tree};
 use hcl_reader::Reader;
 
@@ -17,10 +17,11 @@ use hcl_reader::Reader;
 /// # Errors
 ///
 /// The first error, reading from left to right; `Memory` if an allocation fails before that.
-pub fn parse(reader: &Reader<'_, '_>, at: &mut u32) -> Result<Tree, TokenFault>
+pub fn parse(reader: &Reader, at: &mut u32) -> Taken<Tree>
     ensures { Reads (spec.file nodes reader.now at.old) result at.new }
 {
-    bodies::file::<Nodes>(&Nodes, reader, at)
+    let alloc = reader.alloc();
+    bodies::file::<Nodes>(&Nodes { alloc }, reader, at)
 }
 
 /// Takes an attribute or a block, if one comes next, and returns its node.
@@ -28,10 +29,11 @@ pub fn parse(reader: &Reader<'_, '_>, at: &mut u32) -> Result<Tree, TokenFault>
 /// # Errors
 ///
 /// The first error, reading from left to right; `Memory` if an allocation fails before that.
-pub fn next_member(reader: &Reader<'_, '_>, at: &mut u32) -> Result<Option<Member>, TokenFault>
+pub fn next_member(reader: &Reader, at: &mut u32) -> Taken<Option<Member>>
     ensures { Reads (spec.member nodes reader.now at.old) result at.new }
 {
-    bodies::member::<Nodes>(&Nodes, reader, at)
+    let alloc = reader.alloc();
+    bodies::member::<Nodes>(&Nodes { alloc }, reader, at)
 }
 
 /// Takes a whole text, and makes nothing of it.
@@ -39,7 +41,7 @@ pub fn next_member(reader: &Reader<'_, '_>, at: &mut u32) -> Result<Option<Membe
 /// # Errors
 ///
 /// The first error, reading from left to right. Memory does not run out, since none is taken.
-pub fn check(reader: &Reader<'_, '_>, at: &mut u32) -> Result<(), TokenFault>
+pub fn check(reader: &Reader, at: &mut u32) -> Taken<()>
     ensures { Ends (spec.file nodes reader.now at.old) result at.new }
 {
     laws::both_end_alike();

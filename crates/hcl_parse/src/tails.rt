@@ -6,7 +6,7 @@ ghost use Rattle.hcl_grammar.specs.Pure.Reading.{ReadsExactly};
 ghost use Rattle.hcl_parse.specs.Rules as spec;
 ghost use Rattle.hcl_parse.specs.Rules.{Yields};
 
-use crate::builder::Builder;
+use crate::builder::{Builder, Taken, Tokens};
 use crate::exprs::expr;
 use crate::opens::enter;
 use crate::terms::term;
@@ -16,11 +16,7 @@ use hcl_token::Kind;
 
 /// Takes the rest of a `Tail`, after its `.`: a name, or `*`.
 #[tactic(auto, unfolding(hcl_grammar::specs::Pure::Parser::dot_tail, hcl_grammar::specs::Pure::Reading::next_is, hcl_grammar::specs::Pure::Reading::after_if_next, hcl_grammar::specs::Pure::Reading::expect, hcl_grammar::specs::Tokens::after_next))]
-fn dot_tail<S: Builder>(
-    builder: &S,
-    reader: &Reader<'_, '_>,
-    at: &mut u32,
-) -> Result<S::Tail, TokenFault>
+fn dot_tail<S: Builder>(builder: &S, reader: &Reader, at: &mut u32) -> Taken<S::Tail>
     ensures { ReadsExactly (spec.dot_tail (S.make builder.now) reader.now at.old) result at.new }
 {
     let (number, next) = reader.next_token(*at);
@@ -45,10 +41,10 @@ fn dot_tail<S: Builder>(
 #[tactic(auto, unfolding(hcl_grammar::specs::Pure::Parser::bracket_tail))]
 fn bracket_tail<S: Builder>(
     builder: &S,
-    reader: &Reader<'_, '_>,
+    reader: &Reader,
     first: u32,
     at: &mut u32,
-) -> Result<S::Tail, TokenFault>
+) -> Taken<S::Tail>
     ensures { Yields S.may_run_out
         (spec.bracket_tail (S.make builder.now) reader.now first at.old) result at.new }
 {
@@ -59,17 +55,13 @@ fn bracket_tail<S: Builder>(
     }
     let key = expr::<S>(builder, &inner, at)?;
     inner.expect(Kind::CloseBracket, at)?;
-    Ok(builder.index(reader.alloc(), key)?)
+    Ok(builder.index(key)?)
 }
 
 /// Takes a `Tail`, if one comes next.
 #[cycle(nest)]
 #[tactic(auto, unfolding(hcl_grammar::specs::Pure::Parser::tail_of, hcl_grammar::specs::Tokens::after_next))]
-fn tail<S: Builder>(
-    builder: &S,
-    reader: &Reader<'_, '_>,
-    at: &mut u32,
-) -> Result<Option<S::Tail>, TokenFault>
+fn tail<S: Builder>(builder: &S, reader: &Reader, at: &mut u32) -> Taken<Option<S::Tail>>
     ensures { Yields S.may_run_out
         (spec.tail (S.make builder.now) reader.now at.old) result at.new }
 {
@@ -93,12 +85,7 @@ fn tail<S: Builder>(
 
 /// Returns whether a `Tail` comes next. The next token is `next`.
 #[tactic(auto, unfolding(hcl_grammar::specs::Pure::Parser::tail_of))]
-pub fn has_tail<S: Builder>(
-    builder: &S,
-    reader: &Reader<'_, '_>,
-    next: Option<Kind>,
-    at: u32,
-) -> bool
+pub fn has_tail<S: Builder>(builder: &S, reader: &Reader, next: Option<Kind>, at: u32) -> bool
     requires { next ≡ tokens.next_kind reader.now at }
     ensures { result ≡ false → spec.tail (S.make builder.now) reader.now at ≡ Ok (None, at) }
 {
@@ -113,11 +100,11 @@ pub fn has_tail<S: Builder>(
 #[inline(never)]
 pub fn each_tail<S: Builder>(
     builder: &S,
-    reader: &Reader<'_, '_>,
+    reader: &Reader,
     turns: u32,
     found: S::Tails,
     at: &mut u32,
-) -> Result<S::Tails, TokenFault>
+) -> Taken<S::Tails>
     ensures { Yields S.may_run_out
         (spec.tails_from (S.make builder.now) reader.now turns found at.old) result at.new }
 {
@@ -138,18 +125,18 @@ pub fn each_tail<S: Builder>(
 #[tactic(auto, unfolding(hcl_grammar::specs::Pure::Parser::post_by))]
 pub fn post<S: Builder>(
     builder: &S,
-    reader: &Reader<'_, '_>,
+    reader: &Reader,
     first: u32,
     kind: Kind,
     at: &mut u32,
-) -> Result<S::Expr, TokenFault>
+) -> Taken<S::Expr>
     ensures { Yields S.may_run_out
         (spec.post (S.make builder.now) reader.now first kind at.old) result at.new }
 {
     let head = term::<S>(builder, reader, first, kind, at)?;
     let next = reader.next_kind(*at);
     if !has_tail::<S>(builder, reader, next, *at) {
-        return Ok(builder.term_expr(first, *at, head));
+        return Ok(builder.term_expr(Tokens { first, past: *at }, head));
     }
     with_tails::<S>(builder, reader, first, head, at)
 }
@@ -159,16 +146,16 @@ pub fn post<S: Builder>(
 #[inline(always)]
 fn with_tails<S: Builder>(
     builder: &S,
-    reader: &Reader<'_, '_>,
+    reader: &Reader,
     first: u32,
     head: S::Term,
     at: &mut u32,
-) -> Result<S::Expr, TokenFault>
+) -> Taken<S::Expr>
     ensures { Yields S.may_run_out (let n = length reader.now.tokens in
         spec.with_tails (S.make builder.now) reader.now n first head
         (S.make builder.now).no_tails at.old) result at.new }
 {
-    let tails = builder.no_tails(reader.alloc());
+    let tails = builder.no_tails();
     more_tails::<S>(builder, reader, first, reader.len(), head, tails, at)
 }
 
@@ -178,17 +165,17 @@ fn with_tails<S: Builder>(
 #[tactic(auto, unfolding(hcl_grammar::specs::Pure::Parser::with_tails))]
 pub fn more_tails<S: Builder>(
     builder: &S,
-    reader: &Reader<'_, '_>,
+    reader: &Reader,
     first: u32,
     turns: u32,
     head: S::Term,
     tails: S::Tails,
     at: &mut u32,
-) -> Result<S::Expr, TokenFault>
+) -> Taken<S::Expr>
     ensures { Yields S.may_run_out
         (spec.with_tails (S.make builder.now) reader.now
         turns first head tails at.old) result at.new }
 {
     let all = each_tail::<S>(builder, reader, turns, tails, at)?;
-    Ok(builder.postfix(reader.alloc(), first, *at, head, all)?)
+    Ok(builder.postfix(Tokens { first, past: *at }, head, all)?)
 }

@@ -9,18 +9,17 @@ ghost use Rattle.hcl_reader.specs.ReaderRules as tokens;
 ghost use Rattle.hcl_parse.specs.Rules as spec;
 ghost use Rattle.hcl_parse.specs.Rules.{Yields};
 
-use crate::builder::Builder;
+use crate::builder::{Builder, Taken, Tokens};
 use crate::exprs::expr;
 use crate::for_exprs::intro;
 use crate::opens::enter_two;
 use crate::terms::enclosed;
-use hcl_grammar::fault::TokenFault;
 use hcl_reader::Reader;
 use hcl_token::Kind;
 
 /// Takes a directive that is one word: `DirectiveOpen word SeqClose`.
 #[tactic(auto, unfolding(hcl_grammar::specs::Pure::Steps::keyword_directive))]
-fn keyword_directive(reader: &Reader<'_, '_>, word: &[u8], at: &mut u32) -> Result<(), TokenFault>
+fn keyword_directive(reader: &Reader, word: &[u8], at: &mut u32) -> Taken<()>
     ensures { ReadsExactly (tokens.keyword_directive reader.now word.now at.old) result at.new }
 {
     let braces = reader.in_brackets();
@@ -31,7 +30,7 @@ fn keyword_directive(reader: &Reader<'_, '_>, word: &[u8], at: &mut u32) -> Resu
 
 /// Takes the next token, if this word follows it.
 #[tactic(auto, unfolding(hcl_grammar::specs::Tokens::after_next))]
-fn eat_directive_open(reader: &Reader<'_, '_>, word: &[u8], at: &mut u32) -> bool
+fn eat_directive_open(reader: &Reader, word: &[u8], at: &mut u32) -> bool
     ensures found { result
         ≡ reading.next_is_word reader.now.tokens true word.now
         (tokens.after_next reader.now at.old) }
@@ -54,18 +53,14 @@ fn eat_directive_open(reader: &Reader<'_, '_>, word: &[u8], at: &mut u32) -> boo
 /// Takes `Parts`, in a construct that was opened.
 #[cycle(nest)]
 #[tactic(auto, unfolding(hcl_grammar::specs::Pure::Parser::template))]
-pub fn template<S: Builder>(
-    builder: &S,
-    reader: &Reader<'_, '_>,
-    at: &mut u32,
-) -> Result<S::Template, TokenFault>
+pub fn template<S: Builder>(builder: &S, reader: &Reader, at: &mut u32) -> Taken<S::Template>
     ensures { Yields S.may_run_out
         (spec.template (S.make builder.now) reader.now at.old) result at.new }
 {
     let from = *at;
     let found = parts::<S>(builder, reader, at)?;
     let first = reader.first_token_in(from, *at);
-    Ok(builder.template(first, *at, found))
+    Ok(builder.template(Tokens { first, past: *at }, found))
 }
 
 /// Takes the rest of an `Interp`, after its opening, which is token `first`.
@@ -73,15 +68,15 @@ pub fn template<S: Builder>(
 #[tactic(auto, unfolding(hcl_grammar::specs::Pure::Parser::interpolation))]
 fn interpolation<S: Builder>(
     builder: &S,
-    reader: &Reader<'_, '_>,
+    reader: &Reader,
     first: u32,
     at: &mut u32,
-) -> Result<S::Part, TokenFault>
+) -> Taken<S::Part>
     ensures { Yields S.may_run_out
         (spec.interpolation (S.make builder.now) reader.now first at.old) result at.new }
 {
     let value = enclosed::<S>(builder, reader, Kind::SeqClose, first, at)?;
-    Ok(builder.interpolation(reader.alloc(), value)?)
+    Ok(builder.interpolation(value)?)
 }
 
 /// Takes what follows the parts of an `IfDir`: its `else` with parts, if it has one, and `endif`.
@@ -89,9 +84,9 @@ fn interpolation<S: Builder>(
 #[tactic(auto, unfolding(hcl_grammar::specs::Pure::Parser::else_and_endif))]
 fn else_and_endif<S: Builder>(
     builder: &S,
-    reader: &Reader<'_, '_>,
+    reader: &Reader,
     at: &mut u32,
-) -> Result<Option<S::Template>, TokenFault>
+) -> Taken<Option<S::Template>>
     ensures { Yields S.may_run_out
         (spec.else_and_endif (S.make builder.now) reader.now at.old) result at.new }
 {
@@ -111,10 +106,10 @@ fn else_and_endif<S: Builder>(
 #[tactic(auto, unfolding(hcl_grammar::specs::Pure::Parser::if_directive, hcl_grammar::specs::Pure::Reading::expect_word))]
 fn if_directive<S: Builder>(
     builder: &S,
-    reader: &Reader<'_, '_>,
+    reader: &Reader,
     first: u32,
     at: &mut u32,
-) -> Result<S::Part, TokenFault>
+) -> Taken<S::Part>
     requires { reading.next_is_word reader.now.tokens true (codes "if") at.old ≡ true }
     ensures { Yields S.may_run_out
         (spec.if_directive (S.make builder.now) reader.now first at.old) result at.new }
@@ -126,9 +121,7 @@ fn if_directive<S: Builder>(
     let then_branch = template::<S>(builder, &inner, at)?;
     let else_branch = else_and_endif::<S>(builder, &inner, at)?;
     Ok(builder.if_directive(
-        reader.alloc(),
-        first,
-        *at,
+        Tokens { first, past: *at },
         condition,
         then_branch,
         else_branch,
@@ -140,10 +133,10 @@ fn if_directive<S: Builder>(
 #[tactic(auto, unfolding(hcl_grammar::specs::Pure::Parser::for_directive))]
 fn for_directive<S: Builder>(
     builder: &S,
-    reader: &Reader<'_, '_>,
+    reader: &Reader,
     first: u32,
     at: &mut u32,
-) -> Result<S::Part, TokenFault>
+) -> Taken<S::Part>
     ensures { Yields S.may_run_out
         (spec.for_directive (S.make builder.now) reader.now first at.old) result at.new }
 {
@@ -152,7 +145,7 @@ fn for_directive<S: Builder>(
     braces.expect(Kind::SeqClose, at)?;
     let body = template::<S>(builder, &inner, at)?;
     keyword_directive(&inner, b"endfor", at)?;
-    Ok(builder.for_directive(reader.alloc(), first, *at, begin, body)?)
+    Ok(builder.for_directive(Tokens { first, past: *at }, begin, body)?)
 }
 
 /// Takes an `IfDir` or a `ForDir`, if one comes next.
@@ -161,10 +154,10 @@ fn for_directive<S: Builder>(
 #[tactic(auto, unfolding(hcl_grammar::specs::Pure::Parser::directive))]
 fn directive<S: Builder>(
     builder: &S,
-    reader: &Reader<'_, '_>,
+    reader: &Reader,
     first: u32,
     at: &mut u32,
-) -> Result<Option<S::Part>, TokenFault>
+) -> Taken<Option<S::Part>>
     ensures { Yields S.may_run_out
         (spec.directive (S.make builder.now) reader.now first at.old) result at.new }
 {
@@ -181,11 +174,7 @@ fn directive<S: Builder>(
 #[cycle(nest)]
 #[inline(always)]
 #[tactic(auto, unfolding(hcl_grammar::specs::Pure::Parser::part_of, hcl_grammar::specs::Tokens::after_next))]
-fn part<S: Builder>(
-    builder: &S,
-    reader: &Reader<'_, '_>,
-    at: &mut u32,
-) -> Result<Option<S::Part>, TokenFault>
+fn part<S: Builder>(builder: &S, reader: &Reader, at: &mut u32) -> Taken<Option<S::Part>>
     ensures { Yields S.may_run_out
         (spec.part (S.make builder.now) reader.now at.old) result at.new }
 {
@@ -207,15 +196,11 @@ fn part<S: Builder>(
 /// Takes `Parts`, one by one.
 #[cycle(nest)]
 #[inline(always)]
-fn each_part<S: Builder>(
-    builder: &S,
-    reader: &Reader<'_, '_>,
-    at: &mut u32,
-) -> Result<S::Parts, TokenFault>
+fn each_part<S: Builder>(builder: &S, reader: &Reader, at: &mut u32) -> Taken<S::Parts>
     ensures { Yields S.may_run_out (spec.parts_from (S.make builder.now) reader.now
         (length reader.now.tokens) (S.make builder.now).no_parts at.old) result at.new }
 {
-    let mut found = builder.no_parts(reader.alloc());
+    let mut found = builder.no_parts();
     for _turn in 0..reader.len() {
         let Some(more) = part::<S>(builder, reader, at)? else {
             return Ok(found);
@@ -228,11 +213,7 @@ fn each_part<S: Builder>(
 /// Takes `Parts`.
 #[cycle(nest)]
 #[inline(always)]
-fn parts<S: Builder>(
-    builder: &S,
-    reader: &Reader<'_, '_>,
-    at: &mut u32,
-) -> Result<S::Parts, TokenFault>
+fn parts<S: Builder>(builder: &S, reader: &Reader, at: &mut u32) -> Taken<S::Parts>
     ensures { Yields S.may_run_out
         (spec.parts (S.make builder.now) reader.now at.old) result at.new }
 {

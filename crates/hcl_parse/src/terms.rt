@@ -7,7 +7,7 @@ ghost use Rattle.hcl_grammar.specs.Pure.Reading.{ReadsExactly};
 ghost use Rattle.hcl_parse.specs.Rules as spec;
 ghost use Rattle.hcl_parse.specs.Rules.{Yields};
 
-use crate::builder::Builder;
+use crate::builder::{Builder, Taken, Tokens};
 use crate::exprs::{expr, expr_next};
 use crate::for_exprs::{for_object, for_tuple};
 use crate::opens::enter;
@@ -17,16 +17,11 @@ use hcl_reader::{Next, Reader, same_kind};
 use hcl_token::Kind;
 
 /// Takes the names of a function after the first: `("::" Identifier)*`.
-fn names<S: Builder>(
-    builder: &S,
-    reader: &Reader<'_, '_>,
-    first: u32,
-    at: &mut u32,
-) -> Result<S::Names, TokenFault>
+fn names<S: Builder>(builder: &S, reader: &Reader, first: u32, at: &mut u32) -> Taken<S::Names>
     ensures { Yields S.may_run_out
         (spec.names (S.make builder.now) reader.now first at.old) result at.new }
 {
-    let mut found = builder.first_name(reader.alloc(), first)?;
+    let mut found = builder.first_name(first)?;
     for _turn in 0..reader.len() {
         if !reader.eat(Kind::DoubleColon, at) {
             return Ok(found);
@@ -40,16 +35,12 @@ fn names<S: Builder>(
 
 /// Takes the arguments of a `Call` and the `)` after them.
 #[cycle(nest)]
-fn arguments<S: Builder>(
-    builder: &S,
-    reader: &Reader<'_, '_>,
-    at: &mut u32,
-) -> Result<(S::Exprs, bool), TokenFault>
+fn arguments<S: Builder>(builder: &S, reader: &Reader, at: &mut u32) -> Taken<(S::Exprs, bool)>
     ensures { Yields S.may_run_out
         (spec.arguments (S.make builder.now) reader.now at.old) result at.new }
 {
     let inside = reader.in_brackets();
-    let mut found = builder.no_exprs(reader.alloc());
+    let mut found = builder.no_exprs();
     for _turn in 0..inside.len() {
         let next = inside.next_token(*at);
         if inside.eat_next(next, Kind::CloseParen, at) {
@@ -72,16 +63,12 @@ fn arguments<S: Builder>(
 
 /// Takes the items of a `Tuple`, and its `]`.
 #[cycle(nest)]
-fn tuple_items<S: Builder>(
-    builder: &S,
-    reader: &Reader<'_, '_>,
-    at: &mut u32,
-) -> Result<S::Exprs, TokenFault>
+fn tuple_items<S: Builder>(builder: &S, reader: &Reader, at: &mut u32) -> Taken<S::Exprs>
     ensures { Yields S.may_run_out
         (spec.tuple_items (S.make builder.now) reader.now at.old) result at.new }
 {
     let inside = reader.in_brackets();
-    let mut found = builder.no_exprs(reader.alloc());
+    let mut found = builder.no_exprs();
     for _turn in 0..inside.len() {
         let next = inside.next_token(*at);
         if inside.eat_next(next, Kind::CloseBracket, at) {
@@ -101,17 +88,12 @@ fn tuple_items<S: Builder>(
 /// Takes the rest of a `Tuple`, after its `[`, which is token `first`.
 #[cycle(nest)]
 #[tactic(auto, unfolding(hcl_grammar::specs::Pure::Parser::tuple))]
-fn tuple<S: Builder>(
-    builder: &S,
-    reader: &Reader<'_, '_>,
-    first: u32,
-    at: &mut u32,
-) -> Result<S::Term, TokenFault>
+fn tuple<S: Builder>(builder: &S, reader: &Reader, first: u32, at: &mut u32) -> Taken<S::Term>
     ensures { Yields S.may_run_out
         (spec.tuple (S.make builder.now) reader.now first at.old) result at.new }
 {
     let found = tuple_items::<S>(builder, reader, at)?;
-    Ok(builder.tuple(reader.alloc(), first, *at, found)?)
+    Ok(builder.tuple(Tokens { first, past: *at }, found)?)
 }
 
 /// Takes an `Elem`, and adds it to those that were found. Its first token is `next`.
@@ -120,11 +102,11 @@ fn tuple<S: Builder>(
 #[tactic(auto, unfolding(hcl_grammar::specs::Pure::Parser::element))]
 fn element<S: Builder>(
     builder: &S,
-    reader: &Reader<'_, '_>,
+    reader: &Reader,
     next: Next,
     found: S::Elements,
     at: &mut u32,
-) -> Result<S::Elements, TokenFault>
+) -> Taken<S::Elements>
     requires number { next.0 ≡ tokens.next_index (outside_brackets reader.now) at.old }
     requires kind { next.1 ≡ tokens.next_kind (outside_brackets reader.now) at.old }
     requires fits { OnSome next.1 (next.0 + 1 < 2 ^ 32) }
@@ -143,7 +125,7 @@ fn element<S: Builder>(
 /// Takes the `=` or `:` after a key.
 #[inline(always)]
 #[tactic(auto, unfolding(hcl_grammar::specs::Pure::Steps::equals_or_colon))]
-fn equals_or_colon(reader: &Reader<'_, '_>, at: &mut u32) -> Result<(), TokenFault>
+fn equals_or_colon(reader: &Reader, at: &mut u32) -> Taken<()>
     ensures { ReadsExactly (spec.equals_or_colon reader.now at.old) result at.new }
 {
     let lines = reader.outside_brackets();
@@ -156,16 +138,12 @@ fn equals_or_colon(reader: &Reader<'_, '_>, at: &mut u32) -> Result<(), TokenFau
 
 /// Takes the elements of an `Object` and the `}` after them: `(Elem (Sep Elem)* Sep?)?`.
 #[cycle(nest)]
-fn elements<S: Builder>(
-    builder: &S,
-    reader: &Reader<'_, '_>,
-    at: &mut u32,
-) -> Result<S::Elements, TokenFault>
+fn elements<S: Builder>(builder: &S, reader: &Reader, at: &mut u32) -> Taken<S::Elements>
     ensures { Yields S.may_run_out
         (spec.elements (S.make builder.now) reader.now at.old) result at.new }
 {
     let lines = reader.outside_brackets();
-    let mut found = builder.no_elements(reader.alloc());
+    let mut found = builder.no_elements();
     for _turn in 0..lines.len() {
         let next = lines.next_token(*at);
         if lines.eat_next(next, Kind::CloseBrace, at) {
@@ -182,18 +160,13 @@ fn elements<S: Builder>(
 /// Takes the rest of an `Object`, after its `{`, which is token `first`.
 #[cycle(nest)]
 #[tactic(auto, unfolding(hcl_grammar::specs::Pure::Parser::object))]
-fn object<S: Builder>(
-    builder: &S,
-    reader: &Reader<'_, '_>,
-    first: u32,
-    at: &mut u32,
-) -> Result<S::Term, TokenFault>
+fn object<S: Builder>(builder: &S, reader: &Reader, first: u32, at: &mut u32) -> Taken<S::Term>
     ensures { Yields S.may_run_out
         (spec.object (S.make builder.now) reader.now first at.old) result at.new }
 {
     reader.skip_newlines(at)?;
     let found = elements::<S>(builder, reader, at)?;
-    Ok(builder.object(reader.alloc(), first, *at, found)?)
+    Ok(builder.object(Tokens { first, past: *at }, found)?)
 }
 
 /// Takes the rest of a `Tuple`, or of a `For` in brackets, after its `[`, which is token `first`.
@@ -202,10 +175,10 @@ fn object<S: Builder>(
 #[tactic(auto, unfolding(hcl_grammar::specs::Pure::Parser::tuple_or_for))]
 fn tuple_or_for<S: Builder>(
     builder: &S,
-    reader: &Reader<'_, '_>,
+    reader: &Reader,
     first: u32,
     at: &mut u32,
-) -> Result<S::Term, TokenFault>
+) -> Taken<S::Term>
     ensures { Yields S.may_run_out
         (spec.tuple_or_for (S.make builder.now) reader.now first at.old) result at.new }
 {
@@ -223,10 +196,10 @@ fn tuple_or_for<S: Builder>(
 #[tactic(auto, unfolding(hcl_grammar::specs::Pure::Parser::object_or_for))]
 fn object_or_for<S: Builder>(
     builder: &S,
-    reader: &Reader<'_, '_>,
+    reader: &Reader,
     first: u32,
     at: &mut u32,
-) -> Result<S::Term, TokenFault>
+) -> Taken<S::Term>
     ensures { Yields S.may_run_out
         (spec.object_or_for (S.make builder.now) reader.now first at.old) result at.new }
 {
@@ -245,11 +218,11 @@ fn object_or_for<S: Builder>(
 #[tactic(auto, unfolding(hcl_grammar::specs::Pure::Parser::enclosed))]
 pub fn enclosed<S: Builder>(
     builder: &S,
-    reader: &Reader<'_, '_>,
+    reader: &Reader,
     close: Kind,
     first: u32,
     at: &mut u32,
-) -> Result<S::Expr, TokenFault>
+) -> Taken<S::Expr>
     ensures { Yields S.may_run_out
         (spec.enclosed (S.make builder.now) reader.now close first at.old) result at.new }
 {
@@ -263,67 +236,47 @@ pub fn enclosed<S: Builder>(
 #[cycle(nest)]
 #[inline(always)]
 #[tactic(auto, unfolding(hcl_grammar::specs::Pure::Parser::parens))]
-fn parens<S: Builder>(
-    builder: &S,
-    reader: &Reader<'_, '_>,
-    first: u32,
-    at: &mut u32,
-) -> Result<S::Term, TokenFault>
+fn parens<S: Builder>(builder: &S, reader: &Reader, first: u32, at: &mut u32) -> Taken<S::Term>
     ensures { Yields S.may_run_out
         (spec.parens (S.make builder.now) reader.now first at.old) result at.new }
 {
     let value = enclosed::<S>(builder, reader, Kind::CloseParen, first, at)?;
-    Ok(builder.parens(reader.alloc(), first, *at, value)?)
+    Ok(builder.parens(Tokens { first, past: *at }, value)?)
 }
 
 /// Takes the rest of a `Quoted`, after its quote.
 #[cycle(nest)]
 #[inline(never)]
 #[tactic(auto, unfolding(hcl_grammar::specs::Pure::Parser::quoted))]
-fn quoted<S: Builder>(
-    builder: &S,
-    reader: &Reader<'_, '_>,
-    first: u32,
-    at: &mut u32,
-) -> Result<S::Term, TokenFault>
+fn quoted<S: Builder>(builder: &S, reader: &Reader, first: u32, at: &mut u32) -> Taken<S::Term>
     ensures { Yields S.may_run_out
         (spec.quoted (S.make builder.now) reader.now first at.old) result at.new }
 {
     let inner = enter::<S>(builder, reader, first, at)?;
     let made = template::<S>(builder, &inner, at)?;
     inner.expect(Kind::QuoteClose, at)?;
-    Ok(builder.quoted(reader.alloc(), first, *at, made)?)
+    Ok(builder.quoted(Tokens { first, past: *at }, made)?)
 }
 
 /// Takes the rest of a `Heredoc`, after its opening.
 #[cycle(nest)]
 #[inline(never)]
 #[tactic(auto, unfolding(hcl_grammar::specs::Pure::Parser::heredoc))]
-fn heredoc<S: Builder>(
-    builder: &S,
-    reader: &Reader<'_, '_>,
-    first: u32,
-    at: &mut u32,
-) -> Result<S::Term, TokenFault>
+fn heredoc<S: Builder>(builder: &S, reader: &Reader, first: u32, at: &mut u32) -> Taken<S::Term>
     ensures { Yields S.may_run_out
         (spec.heredoc (S.make builder.now) reader.now first at.old) result at.new }
 {
     let inner = enter::<S>(builder, reader, first, at)?;
     let made = template::<S>(builder, &inner, at)?;
     inner.expect(Kind::HereClose, at)?;
-    Ok(builder.heredoc(reader.alloc(), first, *at, made)?)
+    Ok(builder.heredoc(Tokens { first, past: *at }, made)?)
 }
 
 /// Takes the rest of a `Call`, after the first name of the function.
 #[cycle(nest)]
 #[inline(never)]
 #[tactic(auto, unfolding(hcl_grammar::specs::Pure::Parser::call))]
-fn call<S: Builder>(
-    builder: &S,
-    reader: &Reader<'_, '_>,
-    first: u32,
-    at: &mut u32,
-) -> Result<S::Term, TokenFault>
+fn call<S: Builder>(builder: &S, reader: &Reader, first: u32, at: &mut u32) -> Taken<S::Term>
     ensures { Yields S.may_run_out
         (spec.call (S.make builder.now) reader.now first at.old) result at.new }
 {
@@ -332,14 +285,14 @@ fn call<S: Builder>(
     reader.expect(Kind::OpenParen, at)?;
     let inner = enter::<S>(builder, reader, opening, at)?;
     let (given, expand_final) = arguments::<S>(builder, &inner, at)?;
-    Ok(builder.call(reader.alloc(), first, *at, found, given, expand_final)?)
+    Ok(builder.call(Tokens { first, past: *at }, found, given, expand_final)?)
 }
 
 /// Returns whether `(` or `::` comes next, so that the identifier before it is a function's name.
 /// The next token is `next`.
 #[inline(always)]
 #[tactic(auto, unfolding(hcl_grammar::specs::Pure::Reading::next_is))]
-pub fn is_called(reader: &Reader<'_, '_>, next: Option<Kind>, at: u32) -> bool
+pub fn is_called(reader: &Reader, next: Option<Kind>, at: u32) -> bool
     requires { next ≡ tokens.next_kind reader.now at }
     ensures { result ≡ spec.is_called reader.now at }
 {
@@ -355,10 +308,10 @@ pub fn is_called(reader: &Reader<'_, '_>, next: Option<Kind>, at: u32) -> bool
 #[tactic(auto, unfolding(hcl_grammar::specs::Pure::Parser::identifier_or_call))]
 fn identifier_or_call<S: Builder>(
     builder: &S,
-    reader: &Reader<'_, '_>,
+    reader: &Reader,
     first: u32,
     at: &mut u32,
-) -> Result<S::Term, TokenFault>
+) -> Taken<S::Term>
     ensures { Yields S.may_run_out
         (spec.identifier_or_call (S.make builder.now) reader.now first at.old) result at.new }
 {
@@ -366,7 +319,7 @@ fn identifier_or_call<S: Builder>(
     if is_called(reader, next, *at) {
         call::<S>(builder, reader, first, at)
     } else {
-        Ok(builder.identifier(first, *at))
+        Ok(builder.identifier(Tokens { first, past: *at }))
     }
 }
 
@@ -375,16 +328,16 @@ fn identifier_or_call<S: Builder>(
 #[inline(always)]
 pub fn term<S: Builder>(
     builder: &S,
-    reader: &Reader<'_, '_>,
+    reader: &Reader,
     first: u32,
     kind: Kind,
     at: &mut u32,
-) -> Result<S::Term, TokenFault>
+) -> Taken<S::Term>
     ensures { Yields S.may_run_out
         (spec.term (S.make builder.now) reader.now first kind at.old) result at.new }
 {
     match kind {
-        Kind::Number => Ok(builder.number(first, *at)),
+        Kind::Number => Ok(builder.number(Tokens { first, past: *at })),
         Kind::Identifier => identifier_or_call::<S>(builder, reader, first, at),
         Kind::OpenBracket => tuple_or_for::<S>(builder, reader, first, at),
         Kind::OpenBrace => object_or_for::<S>(builder, reader, first, at),

@@ -1,6 +1,7 @@
 //! The builder of summaries, with a method for each node.
 
-ghost use Rattle.std.specs.Prelude.{◌≡◌, true, IfOk, IfErr};
+ghost use Rattle.std.specs.Prelude.{true};
+ghost use Rattle.hcl_parse.specs.Made.{IsMade};
 ghost use Rattle.tf_glance.specs.Inner.SummaryMakers.{summaries};
 
 use crate::members::Summaries;
@@ -9,8 +10,8 @@ use crate::summary::{
     is_clean_option, is_clean_template_option, joined, no_content, plain_if, quoted, tuple,
 };
 use hcl_grammar::tree::{BinaryOperator, UnaryOperator};
-use hcl_parse::Builder;
-use std::alloc::{AllocError, Global};
+use hcl_parse::{Builder, Made, Tokens};
+use std::alloc::AllocError;
 use tf_rules::{is_spelled, token_text};
 
 impl<'s, 't> Builder for Summaries<'s, 't> {
@@ -61,28 +62,21 @@ impl<'s, 't> Builder for Summaries<'s, 't> {
     #[inline(always)]
     fn conditional(
         &self,
-        _alloc: Global,
-        _first: u32,
-        _past: u32,
+        _at: Tokens,
         condition: Self::Expr,
         then_branch: Self::Expr,
         else_branch: Self::Expr,
-    ) -> Result<Self::Expr, AllocError> {
+    ) -> Made<Self::Expr> {
         plain_if(condition.is_clean() && then_branch.is_clean() && else_branch.is_clean())
     }
 
     #[inline(always)]
-    fn chain(
-        &self,
-        _alloc: Global,
-        head: Self::Expr,
-        operations: Self::Operations,
-    ) -> Result<Self::Expr, AllocError> {
+    fn chain(&self, head: Self::Expr, operations: Self::Operations) -> Made<Self::Expr> {
         chain(head, operations)
     }
 
     #[inline(always)]
-    fn no_operations(&self, _alloc: Global) -> Self::Operations {
+    fn no_operations(&self) -> Self::Operations {
         Count::Zero
     }
 
@@ -92,7 +86,7 @@ impl<'s, 't> Builder for Summaries<'s, 't> {
         operations: &mut Self::Operations,
         _operator: BinaryOperator,
         operand: Self::Expr,
-    ) -> Result<(), AllocError> {
+    ) -> Made<()> {
         *operations = add_one(*operations, operand.is_clean_operand())?;
         Ok(())
     }
@@ -100,39 +94,30 @@ impl<'s, 't> Builder for Summaries<'s, 't> {
     #[inline(always)]
     fn unary(
         &self,
-        _alloc: Global,
-        _first: u32,
-        _past: u32,
+        _at: Tokens,
         _operator: UnaryOperator,
         operand: Self::Expr,
-    ) -> Result<Self::Expr, AllocError> {
+    ) -> Made<Self::Expr> {
         plain_if(operand.is_clean())
     }
 
     #[inline(always)]
-    fn postfix(
-        &self,
-        _alloc: Global,
-        _first: u32,
-        _past: u32,
-        head: Self::Term,
-        tails: Self::Tails,
-    ) -> Result<Self::Expr, AllocError> {
+    fn postfix(&self, _at: Tokens, head: Self::Term, tails: Self::Tails) -> Made<Self::Expr> {
         if tails { Ok(head) } else { Err(AllocError) }
     }
 
     #[inline(always)]
-    fn term_expr(&self, _first: u32, _past: u32, head: Self::Term) -> Self::Expr {
+    fn term_expr(&self, _at: Tokens, head: Self::Term) -> Self::Expr {
         head
     }
 
     #[inline(always)]
-    fn no_tails(&self, _alloc: Global) -> Self::Tails {
+    fn no_tails(&self) -> Self::Tails {
         true
     }
 
     #[inline(always)]
-    fn add_tail(&self, _tails: &mut Self::Tails, tail: Self::Tail) -> Result<(), AllocError> {
+    fn add_tail(&self, _tails: &mut Self::Tails, tail: Self::Tail) -> Made<()> {
         if !tail {
             return Err(AllocError);
         }
@@ -160,79 +145,65 @@ impl<'s, 't> Builder for Summaries<'s, 't> {
     }
 
     #[inline(always)]
-    fn index(&self, _alloc: Global, key: Self::Expr) -> Result<Self::Tail, AllocError> {
+    fn index(&self, key: Self::Expr) -> Made<Self::Tail> {
         Ok(key.is_clean())
     }
 
     #[inline(always)]
-    fn number(&self, _first: u32, _past: u32) -> Self::Term {
+    fn number(&self, _at: Tokens) -> Self::Term {
         Value::Plain
     }
 
     #[inline(always)]
-    fn identifier(&self, _first: u32, _past: u32) -> Self::Term {
+    fn identifier(&self, _at: Tokens) -> Self::Term {
         Value::Plain
     }
 
     #[inline(always)]
     fn call(
         &self,
-        _alloc: Global,
-        _first: u32,
-        _past: u32,
+        _at: Tokens,
         names: Self::Names,
         arguments: Self::Exprs,
         expand_final: bool,
-    ) -> Result<Self::Term, AllocError> {
+    ) -> Made<Self::Term> {
         plain_if(arguments.is_clean() && !(names && arguments.is_two() && !expand_final))
     }
 
     #[inline(always)]
-    fn first_name(&self, _alloc: Global, number: u32) -> Result<Self::Names, AllocError> {
+    fn first_name(&self, number: u32) -> Made<Self::Names> {
         Ok(is_spelled(token_text(self.scanned, number), b"lookup"))
     }
 
     #[inline(always)]
-    fn add_name(&self, names: &mut Self::Names, _number: u32) -> Result<(), AllocError> {
+    fn add_name(&self, names: &mut Self::Names, _number: u32) -> Made<()> {
         *names = false;
         Ok(())
     }
 
     #[inline(always)]
-    fn no_exprs(&self, _alloc: Global) -> Self::Exprs {
+    fn no_exprs(&self) -> Self::Exprs {
         Count::Zero
     }
 
     #[inline(always)]
-    fn add_expr(&self, exprs: &mut Self::Exprs, expr: Self::Expr) -> Result<(), AllocError> {
+    fn add_expr(&self, exprs: &mut Self::Exprs, expr: Self::Expr) -> Made<()> {
         *exprs = add_one(*exprs, expr.is_clean())?;
         Ok(())
     }
 
     #[inline(always)]
-    fn tuple(
-        &self,
-        _alloc: Global,
-        _first: u32,
-        _past: u32,
-        exprs: Self::Exprs,
-    ) -> Result<Self::Term, AllocError> {
+    fn tuple(&self, _at: Tokens, exprs: Self::Exprs) -> Made<Self::Term> {
         Ok(tuple(exprs))
     }
 
     #[inline(always)]
-    fn object(
-        &self,
-        _alloc: Global,
-        _first: u32,
-        _past: u32,
-        elements: Self::Elements,
-    ) -> Result<Self::Term, AllocError> {
+    fn object(&self, _at: Tokens, elements: Self::Elements) -> Made<Self::Term> {
         plain_if(elements)
     }
 
     #[inline(always)]
-    fn no_elements(&self, _alloc: Global) -> Self::Elements {
+    fn no_elements(&self) -> Self::Elements {
         true
     }
 
@@ -242,7 +213,7 @@ impl<'s, 't> Builder for Summaries<'s, 't> {
         elements: &mut Self::Elements,
         key: Self::Expr,
         value: Self::Expr,
-    ) -> Result<(), AllocError> {
+    ) -> Made<()> {
         *elements = *elements && key.is_clean() && value.is_clean();
         Ok(())
     }
@@ -250,8 +221,7 @@ impl<'s, 't> Builder for Summaries<'s, 't> {
     #[inline(always)]
     fn intro(
         &self,
-        _first: u32,
-        _past: u32,
+        _at: Tokens,
         _name: u32,
         _second_name: Option<u32>,
         collection: Self::Expr,
@@ -262,17 +232,14 @@ impl<'s, 't> Builder for Summaries<'s, 't> {
     #[inline(always)]
     fn for_tuple(
         &self,
-        alloc: Global,
-        first: u32,
-        past: u32,
+        at: Tokens,
         intro: Self::Intro,
         value: Self::Expr,
         condition: Option<Self::Expr>,
-    ) -> Result<Self::Term, AllocError>
-        ensures made { IfOk result
-            (λ s. s ≡ (summaries self.now.scanned.now.pairs self.now.block_type).for_tuple first past intro
-            value condition) }
-        ensures memory { IfErr result (λ _. true ≡ true) }
+    ) -> Made<Self::Term>
+        ensures { IsMade true result
+            ((summaries self.now.scanned.now.pairs self.now.block_type).for_tuple at.first at.past
+            intro value condition) }
     {
         plain_if(intro && value.is_clean() && is_clean_option(condition))
     }
@@ -280,68 +247,47 @@ impl<'s, 't> Builder for Summaries<'s, 't> {
     #[inline(always)]
     fn for_object(
         &self,
-        alloc: Global,
-        first: u32,
-        past: u32,
+        at: Tokens,
         intro: Self::Intro,
         key: Self::Expr,
         value: Self::Expr,
         grouped: bool,
         condition: Option<Self::Expr>,
-    ) -> Result<Self::Term, AllocError>
-        ensures made { IfOk result
-            (λ s. s ≡ (summaries self.now.scanned.now.pairs self.now.block_type).for_object first past intro
-            key value grouped condition) }
-        ensures memory { IfErr result (λ _. true ≡ true) }
+    ) -> Made<Self::Term>
+        ensures { IsMade true result
+            ((summaries self.now.scanned.now.pairs self.now.block_type).for_object at.first at.past
+            intro key value grouped condition) }
     {
         plain_if(intro && key.is_clean() && value.is_clean() && is_clean_option(condition))
     }
 
     #[inline(always)]
-    fn quoted(
-        &self,
-        _alloc: Global,
-        _first: u32,
-        _past: u32,
-        template: Self::Template,
-    ) -> Result<Self::Term, AllocError> {
+    fn quoted(&self, _at: Tokens, template: Self::Template) -> Made<Self::Term> {
         quoted(template)
     }
 
     #[inline(always)]
-    fn heredoc(
-        &self,
-        _alloc: Global,
-        _first: u32,
-        _past: u32,
-        template: Self::Template,
-    ) -> Result<Self::Term, AllocError> {
+    fn heredoc(&self, _at: Tokens, template: Self::Template) -> Made<Self::Term> {
         plain_if(template.is_clean())
     }
 
     #[inline(always)]
-    fn parens(
-        &self,
-        _alloc: Global,
-        _first: u32,
-        _past: u32,
-        expr: Self::Expr,
-    ) -> Result<Self::Term, AllocError> {
+    fn parens(&self, _at: Tokens, expr: Self::Expr) -> Made<Self::Term> {
         plain_if(expr.is_clean())
     }
 
     #[inline(always)]
-    fn template(&self, _first: u32, _past: u32, parts: Self::Parts) -> Self::Template {
+    fn template(&self, _at: Tokens, parts: Self::Parts) -> Self::Template {
         parts
     }
 
     #[inline(always)]
-    fn no_parts(&self, _alloc: Global) -> Self::Parts {
+    fn no_parts(&self) -> Self::Parts {
         Pieces::Empty
     }
 
     #[inline(always)]
-    fn add_part(&self, parts: &mut Self::Parts, part: Self::Part) -> Result<(), AllocError> {
+    fn add_part(&self, parts: &mut Self::Parts, part: Self::Part) -> Made<()> {
         *parts = parts.with(part);
         Ok(())
     }
@@ -352,24 +298,21 @@ impl<'s, 't> Builder for Summaries<'s, 't> {
     }
 
     #[inline(always)]
-    fn interpolation(&self, _alloc: Global, expr: Self::Expr) -> Result<Self::Part, AllocError> {
+    fn interpolation(&self, expr: Self::Expr) -> Made<Self::Part> {
         interpolation(expr.is_clean())
     }
 
     #[inline(always)]
     fn if_directive(
         &self,
-        alloc: Global,
-        first: u32,
-        past: u32,
+        at: Tokens,
         condition: Self::Expr,
         then_branch: Self::Template,
         else_branch: Option<Self::Template>,
-    ) -> Result<Self::Part, AllocError>
-        ensures made { IfOk result
-            (λ s. s ≡ (summaries self.now.scanned.now.pairs self.now.block_type).if_directive first past
-            condition then_branch else_branch) }
-        ensures memory { IfErr result (λ _. true ≡ true) }
+    ) -> Made<Self::Part>
+        ensures { IsMade true result
+            ((summaries self.now.scanned.now.pairs self.now.block_type).if_directive at.first
+            at.past condition then_branch else_branch) }
     {
         directive(
             condition.is_clean() && then_branch.is_clean() && is_clean_template_option(else_branch),
@@ -379,51 +322,38 @@ impl<'s, 't> Builder for Summaries<'s, 't> {
     #[inline(always)]
     fn for_directive(
         &self,
-        _alloc: Global,
-        _first: u32,
-        _past: u32,
+        _at: Tokens,
         intro: Self::Intro,
         body: Self::Template,
-    ) -> Result<Self::Part, AllocError> {
+    ) -> Made<Self::Part> {
         directive(intro && body.is_clean())
     }
 
     #[inline(always)]
-    fn attribute(
-        &self,
-        _alloc: Global,
-        first: u32,
-        _past: u32,
-        value: Self::Expr,
-    ) -> Result<Self::Attribute, AllocError> {
-        self.attribute_content(first, value)
+    fn attribute(&self, at: Tokens, value: Self::Expr) -> Made<Self::Attribute> {
+        self.attribute_content(at.first, value)
     }
 
     #[inline(always)]
-    fn label(&self, _first: u32, _past: u32, name: Option<u32>) -> Self::Label {
+    fn label(&self, _at: Tokens, name: Option<u32>) -> Self::Label {
         name
     }
 
     #[inline(always)]
-    fn no_labels(&self, _alloc: Global) -> Self::Labels {
+    fn no_labels(&self) -> Self::Labels {
         Count::Zero
     }
 
     #[inline(always)]
-    fn add_label(&self, labels: &mut Self::Labels, label: Self::Label) -> Result<(), AllocError> {
+    fn add_label(&self, labels: &mut Self::Labels, label: Self::Label) -> Made<()> {
         *labels = add_one(*labels, self.is_clean_label(*labels, label))?;
         Ok(())
     }
 
     #[inline(always)]
-    fn one_line(
-        &self,
-        alloc: Global,
-        attribute: Option<Self::Attribute>,
-    ) -> Result<Self::Content, AllocError>
-        ensures made { IfOk result
-            (λ s. s ≡ (summaries self.now.scanned.now.pairs self.now.block_type).one_line attribute) }
-        ensures memory { IfErr result (λ _. true ≡ true) }
+    fn one_line(&self, attribute: Option<Self::Attribute>) -> Made<Self::Content>
+        ensures { IsMade true result
+            ((summaries self.now.scanned.now.pairs self.now.block_type).one_line attribute) }
     {
         match attribute {
             Some(content) => Ok(content),
@@ -432,7 +362,7 @@ impl<'s, 't> Builder for Summaries<'s, 't> {
     }
 
     #[inline(always)]
-    fn block_body(&self, _alloc: Global, body: Self::Body) -> Result<Self::Content, AllocError> {
+    fn block_body(&self, body: Self::Body) -> Made<Self::Content> {
         Ok(body)
     }
 
@@ -442,33 +372,23 @@ impl<'s, 't> Builder for Summaries<'s, 't> {
     }
 
     #[inline(always)]
-    fn block(
-        &self,
-        first: u32,
-        _past: u32,
-        labels: Self::Labels,
-        content: Self::Content,
-    ) -> Self::Member {
-        self.block_content(first, labels, content)
+    fn block(&self, at: Tokens, labels: Self::Labels, content: Self::Content) -> Self::Member {
+        self.block_content(at.first, labels, content)
     }
 
     #[inline(always)]
-    fn no_members(&self, _alloc: Global) -> Self::Members {
+    fn no_members(&self) -> Self::Members {
         no_content()
     }
 
     #[inline(always)]
-    fn add_member(
-        &self,
-        members: &mut Self::Members,
-        member: Self::Member,
-    ) -> Result<(), AllocError> {
+    fn add_member(&self, members: &mut Self::Members, member: Self::Member) -> Made<()> {
         *members = joined(*members, member)?;
         Ok(())
     }
 
     #[inline(always)]
-    fn body(&self, _first: u32, _past: u32, members: Self::Members) -> Self::Body {
+    fn body(&self, _at: Tokens, members: Self::Members) -> Self::Body {
         members
     }
 

@@ -163,7 +163,7 @@ exprs::operations-returns g t c =
 pub exprs::rest_of_expr-returns-then-not-has_tail : goal.exprs::rest_of_expr-returns-then-not-has_tail
 exprs::rest_of_expr-returns-then-not-has_tail g t c =
     let e = ends_tails (g.S.Builder.make c.args.builder.now) c.args.reader.now.tokens c.args.reader.now.depth (deeper (g.S.Builder.make c.args.builder.now) c.args.reader.now.tokens c.args.reader.now.depth) c.args.reader.now.skip_newlines c.args.turns c.args.first c.args.head c.args.tails c.args.at.now (c.has_tail.ensures c.if-not-has_tail.true) in
-    rw (e, ← (c.in_ok-alone.ensures {u = tt}).made) c.chain.ensures
+    rw (e, ← (c.in_ok-alone.ensures {u = tt})) c.chain.ensures
 
 -- ---- elements
 

@@ -22,7 +22,7 @@ loop-turn-preserved g c = (
       let here = c.args.reader.now in
       let tail : spec.tail (g.S.Builder.make c.args.builder.now) here c.loop-turn.place ≡ Ok (Some c.in-Some.tail, c.eat_dotted.new.at) = first_of (search rules, cc, grind (arith, common_steps)) in
       let before : spec.is_called here c.loop-turn.place ≡ false = first_of (search rules, cc, grind (arith, common_steps)) in
-      let made = (c.in_ok-add_tail-in-Some.ensures {u = tt}).made in
+      let made = c.in_ok-add_tail-in-Some.ensures {u = tt} in
       let e = one_left (λ n. spec.with_tails (g.S.Builder.make c.args.builder.now) here n c.args.first c.identifier-head.result c.loop-turn.tails c.loop-turn.place) c.loop-turn-test.true (c.loop-turn.invariant.0 before)
       ∙ with_one_tail (g.S.Builder.make c.args.builder.now) c.args.reader.now.tokens c.args.reader.now.depth (deeper (g.S.Builder.make c.args.builder.now) c.args.reader.now.tokens c.args.reader.now.depth) c.args.reader.now.skip_newlines _ c.args.first c.identifier-head.result c.loop-turn.tails c.in-Some.tail c.loop-turn.place c.eat_dotted.new.at tail in
       first_of (search rules, cc, grind (arith, common_steps)),

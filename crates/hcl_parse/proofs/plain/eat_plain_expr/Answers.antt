@@ -23,5 +23,5 @@ returns-in_ok-made-in-Some-2-clause-tried g c =
     let kind = sym c.requires.kind ∙ c.in-Some.is in
     let ended = c.if-not-ends_expr.false in
     let e = expr_is (g.S.Builder.make c.args.builder.now) c.args.reader.now.tokens c.args.reader.now.depth c.args.reader.now.skip_newlines c.args.at.now ∙ plain_whole (g.S.Builder.make c.args.builder.now) c.args.reader.now.tokens c.args.reader.now.depth (deeper (g.S.Builder.make c.args.builder.now) c.args.reader.now.tokens c.args.reader.now.depth) c.args.reader.now.skip_newlines f.turns c.args.at.now c.args.next.0 c.eat_term.new.at c.in-Some.kind f.head f.tails c.requires.number kind first (read (c.ends_expr.ensures.called ended)) (c.ends_expr.ensures.tail ended) (c.ends_expr.ensures.operator ended) (c.ends_expr.ensures.question ended) in
-    let made = (c.in_ok-made-in-Some-2.ensures {u = tt}).made in
+    let made = c.in_ok-made-in-Some-2.ensures {u = tt} in
     e ∙ ap (λ x. Ok (x, c.eat_term.new.at)) (sym made)
