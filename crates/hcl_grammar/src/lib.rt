@@ -1,5 +1,5 @@
-//! The syntax tree of a text, the functions that make its nodes, and the grammar of the HCL native
-//! syntax: which tree is derived over which tokens.
+//! The syntax tree of a text, and the grammar of the HCL native syntax: which tree is derived over
+//! which tokens.
 //!
 //! `Boxed` owns one value and `Items` many; contracts see the value and the list, so a tree of them
 //! is plain data.
@@ -10,7 +10,6 @@ mod boxed;
 pub mod fault;
 pub mod goal;
 mod items;
-pub mod nodes;
 pub mod operators;
 pub mod tree;
 

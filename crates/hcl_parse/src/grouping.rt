@@ -8,10 +8,11 @@ ghost use Rattle.hcl_grammar.specs.Nodes as node;
 ghost use Rattle.hcl_parse.specs.Chains.{before, after, first_level};
 ghost use Rattle.hcl_grammar.specs.Pure.NodeMakers as spec;
 
-use crate::builder::Made;
+use crate::builder::{Made, Tokens};
+use crate::nodes::{expr, operation};
 use hcl_grammar::operators::{LEVELS, operator_level};
 use hcl_grammar::tree::{Expr, ExprKind, Operation};
-use hcl_grammar::{Boxed, Items, nodes};
+use hcl_grammar::{Boxed, Items};
 use std::alloc::Global;
 use std::collections::VecDeque;
 use std::marker::Model;
@@ -77,15 +78,15 @@ fn first_level(operations: &Queue<Operation>) -> u32
 }
 
 /// Returns an operand followed by operators of one level; with none, the operand alone.
-fn binary(alloc: Global, first: u32, past: u32, head: Expr, links: Items<Operation>) -> Made<Expr>
-    ensures { IfOk result (λ e. e ≡ node.binary first past head links) }
+fn binary(alloc: Global, at: Tokens, head: Expr, links: Items<Operation>) -> Made<Expr>
+    ensures { IfOk result (λ e. e ≡ node.binary at.first at.past head links) }
 {
     if links.is_empty() {
         return Ok(head);
     }
     let head = Boxed::new(alloc, head)?;
     let links = Boxed::new(alloc, links)?;
-    Ok(nodes::expr(first, past, ExprKind::Binary(head, links)))
+    Ok(expr(at, ExprKind::Binary(head, links)))
 }
 
 /// Takes the operators of the levels below `level` that follow an operand, and returns them with
@@ -104,7 +105,7 @@ fn climb(alloc: Global, level: u32, head: Expr, rest: &mut Queue<Operation>) -> 
     let first = head.first;
     let (lower, past) = climb(alloc, level - 1, head, rest)?;
     let (links, past) = links(alloc, level - 1, past, rest)?;
-    let made = binary(alloc, first, past, lower, links)?;
+    let made = binary(alloc, Tokens { first, past }, lower, links)?;
     Ok((made, past))
 }
 
@@ -130,7 +131,7 @@ fn links(
         match rest.pop() {
             Some(next) => {
                 let (operand, after) = climb(alloc, level, next.operand, rest)?;
-                found.push(nodes::operation(next.operator, operand))?;
+                found.push(operation(next.operator, operand))?;
                 end = after;
             }
             None => return Ok((found, end)),

@@ -1,22 +1,59 @@
 //! A builder that makes the nodes of the tree.
 
-ghost use Rattle.std.specs.Prelude.{◌≡◌, true, IfOk};
+ghost use Rattle.std.specs.Prelude.{◌≡◌, [], true, IfOk};
+ghost use Rattle.hcl_grammar.specs.Nodes as node;
 ghost use Rattle.hcl_grammar.specs.Pure.NodeMakers.{nodes};
 ghost use Rattle.hcl_parse.specs.Made.{IsMade};
 
 use crate::builder::{Builder, Made, Tokens};
 use crate::grouping::{Queue, group};
 use hcl_grammar::tree::{
-    Attribute, BinaryOperator, Body, Content, Elem, Expr, ExprKind, Intro, Label, Member,
-    Operation, Part, Primary, Tail, Template, Term, Tree, UnaryOperator,
+    Attribute, BinaryOperator, Block, Body, Call, Content, Elem, Expr, ExprKind, ForDirective,
+    ForObject, ForTuple, IfDirective, Intro, Label, Member, Operation, Part, Primary, Tail,
+    Template, Term, Tree, UnaryOperator,
 };
-use hcl_grammar::{Boxed, Items, nodes};
+use hcl_grammar::{Boxed, Items};
 use std::alloc::Global;
 
 /// Makes the nodes of the tree.
+#[derive(Drop)]
 pub struct Nodes {
     /// The allocator of nodes.
     pub alloc: Global,
+}
+
+/// Returns an expression.
+#[inline(always)]
+#[tactic(auto, unfolding(hcl_grammar::specs::Nodes::expr))]
+pub fn expr(at: Tokens, kind: ExprKind) -> Expr
+    ensures { result ≡ node.expr at.first at.past kind }
+{
+    Expr {
+        first: at.first,
+        past: at.past,
+        kind,
+    }
+}
+
+/// Returns a term.
+#[inline(always)]
+#[tactic(auto, unfolding(hcl_grammar::specs::Nodes::term))]
+fn term(at: Tokens, kind: Primary) -> Term
+    ensures { result ≡ node.term at.first at.past kind }
+{
+    Term {
+        first: at.first,
+        past: at.past,
+        kind,
+    }
+}
+
+/// Returns an operator with its second operand.
+#[tactic(auto, unfolding(hcl_grammar::specs::Nodes::operation))]
+pub fn operation(operator: BinaryOperator, operand: Expr) -> Operation
+    ensures { result ≡ node.operation operator operand }
+{
+    Operation { operator, operand }
 }
 
 /// Puts an expression into a box, if there is one.
@@ -86,7 +123,7 @@ impl Builder for Nodes {
         let then_branch = Boxed::new(self.alloc, then_branch)?;
         let else_branch = Boxed::new(self.alloc, else_branch)?;
         let kind = ExprKind::Conditional(condition, then_branch, else_branch);
-        Ok(nodes::expr(at.first, at.past, kind))
+        Ok(expr(at, kind))
     }
 
     #[inline]
@@ -106,28 +143,28 @@ impl Builder for Nodes {
         operator: BinaryOperator,
         operand: Self::Expr,
     ) -> Made<()> {
-        operations.push(nodes::operation(operator, operand))
+        operations.push(operation(operator, operand))
     }
 
     #[inline]
     fn unary(&self, at: Tokens, operator: UnaryOperator, operand: Self::Expr) -> Made<Self::Expr> {
         let operand = Boxed::new(self.alloc, operand)?;
-        Ok(nodes::expr(at.first, at.past, ExprKind::Unary(operator, operand)))
+        Ok(expr(at, ExprKind::Unary(operator, operand)))
     }
 
     #[inline]
     fn postfix(&self, at: Tokens, head: Self::Term, tails: Self::Tails) -> Made<Self::Expr> {
         if tails.is_empty() {
-            return Ok(nodes::term_expr(at.first, at.past, head));
+            return Ok(expr(at, ExprKind::Term(head)));
         }
         let head = Boxed::new(self.alloc, head)?;
         let tails = Boxed::new(self.alloc, tails)?;
-        Ok(nodes::postfix(at.first, at.past, head, tails))
+        Ok(expr(at, ExprKind::Postfix(head, tails)))
     }
 
     #[inline]
     fn term_expr(&self, at: Tokens, head: Self::Term) -> Self::Expr {
-        nodes::term_expr(at.first, at.past, head)
+        expr(at, ExprKind::Term(head))
     }
 
     #[inline]
@@ -167,15 +204,16 @@ impl Builder for Nodes {
 
     #[inline]
     fn number(&self, at: Tokens) -> Self::Term {
-        nodes::term(at.first, at.past, Primary::Number)
+        term(at, Primary::Number)
     }
 
     #[inline]
     fn identifier(&self, at: Tokens) -> Self::Term {
-        nodes::term(at.first, at.past, Primary::Identifier)
+        term(at, Primary::Identifier)
     }
 
     #[inline]
+    #[tactic(auto, unfolding(hcl_grammar::specs::Nodes::call))]
     fn call(
         &self,
         at: Tokens,
@@ -183,8 +221,12 @@ impl Builder for Nodes {
         arguments: Self::Exprs,
         expand_final: bool,
     ) -> Made<Self::Term> {
-        let kind = nodes::call(self.alloc, names, arguments, expand_final)?;
-        Ok(nodes::term(at.first, at.past, kind))
+        let call = Call {
+            names,
+            arguments,
+            expand_final,
+        };
+        Ok(term(at, Primary::Call(Boxed::new(self.alloc, call)?)))
     }
 
     #[inline]
@@ -212,13 +254,13 @@ impl Builder for Nodes {
     #[inline]
     fn tuple(&self, at: Tokens, exprs: Self::Exprs) -> Made<Self::Term> {
         let exprs = Boxed::new(self.alloc, exprs)?;
-        Ok(nodes::term(at.first, at.past, Primary::Tuple(exprs)))
+        Ok(term(at, Primary::Tuple(exprs)))
     }
 
     #[inline]
     fn object(&self, at: Tokens, elements: Self::Elements) -> Made<Self::Term> {
         let elements = Boxed::new(self.alloc, elements)?;
-        Ok(nodes::term(at.first, at.past, Primary::Object(elements)))
+        Ok(term(at, Primary::Object(elements)))
     }
 
     #[inline]
@@ -227,16 +269,18 @@ impl Builder for Nodes {
     }
 
     #[inline]
+    #[tactic(auto, unfolding(hcl_grammar::specs::Nodes::elem))]
     fn add_element(
         &self,
         elements: &mut Self::Elements,
         key: Self::Expr,
         value: Self::Expr,
     ) -> Made<()> {
-        elements.push(nodes::elem(key, value))
+        elements.push(Elem { key, value })
     }
 
     #[inline]
+    #[tactic(auto, unfolding(hcl_grammar::specs::Nodes::intro))]
     fn intro(
         &self,
         at: Tokens,
@@ -244,10 +288,17 @@ impl Builder for Nodes {
         second_name: Option<u32>,
         collection: Self::Expr,
     ) -> Self::Intro {
-        nodes::intro(at.first, at.past, name, second_name, collection)
+        Intro {
+            first: at.first,
+            past: at.past,
+            name,
+            second_name,
+            collection,
+        }
     }
 
     #[inline]
+    #[tactic(auto, unfolding(hcl_grammar::specs::Nodes::for_tuple))]
     fn for_tuple(
         &self,
         at: Tokens,
@@ -257,12 +308,20 @@ impl Builder for Nodes {
     ) -> Made<Self::Term>
         ensures { IsMade true result (nodes.for_tuple at.first at.past intro value condition) }
     {
-        let condition = boxed_option(self.alloc, condition)?;
-        let kind = nodes::for_tuple(self.alloc, intro, value, condition)?;
-        Ok(nodes::term(at.first, at.past, kind))
+        let filter = boxed_option(self.alloc, condition)?;
+        let comprehension = ForTuple {
+            intro,
+            value,
+            filter,
+        };
+        Ok(term(
+            at,
+            Primary::ForTuple(Boxed::new(self.alloc, comprehension)?),
+        ))
     }
 
     #[inline]
+    #[tactic(auto, unfolding(hcl_grammar::specs::Nodes::for_object))]
     fn for_object(
         &self,
         at: Tokens,
@@ -275,32 +334,46 @@ impl Builder for Nodes {
         ensures { IsMade true result
             (nodes.for_object at.first at.past intro key value grouped condition) }
     {
-        let condition = boxed_option(self.alloc, condition)?;
-        let kind = nodes::for_object(self.alloc, intro, key, value, grouped, condition)?;
-        Ok(nodes::term(at.first, at.past, kind))
+        let filter = boxed_option(self.alloc, condition)?;
+        let comprehension = ForObject {
+            intro,
+            key,
+            value,
+            grouped,
+            filter,
+        };
+        Ok(term(
+            at,
+            Primary::ForObject(Boxed::new(self.alloc, comprehension)?),
+        ))
     }
 
     #[inline]
     fn quoted(&self, at: Tokens, template: Self::Template) -> Made<Self::Term> {
         let template = Boxed::new(self.alloc, template)?;
-        Ok(nodes::term(at.first, at.past, Primary::Quoted(template)))
+        Ok(term(at, Primary::Quoted(template)))
     }
 
     #[inline]
     fn heredoc(&self, at: Tokens, template: Self::Template) -> Made<Self::Term> {
         let template = Boxed::new(self.alloc, template)?;
-        Ok(nodes::term(at.first, at.past, Primary::Heredoc(template)))
+        Ok(term(at, Primary::Heredoc(template)))
     }
 
     #[inline]
     fn parens(&self, at: Tokens, expr: Self::Expr) -> Made<Self::Term> {
         let expr = Boxed::new(self.alloc, expr)?;
-        Ok(nodes::term(at.first, at.past, Primary::Parens(expr)))
+        Ok(term(at, Primary::Parens(expr)))
     }
 
     #[inline]
+    #[tactic(auto, unfolding(hcl_grammar::specs::Nodes::template))]
     fn template(&self, at: Tokens, parts: Self::Parts) -> Self::Template {
-        nodes::template(at.first, at.past, parts)
+        Template {
+            first: at.first,
+            past: at.past,
+            parts,
+        }
     }
 
     #[inline]
@@ -324,6 +397,7 @@ impl Builder for Nodes {
     }
 
     #[inline]
+    #[tactic(auto, unfolding(hcl_grammar::specs::Nodes::if_part))]
     fn if_directive(
         &self,
         at: Tokens,
@@ -334,35 +408,54 @@ impl Builder for Nodes {
         ensures { IsMade true result
             (nodes.if_directive at.first at.past condition then_branch else_branch) }
     {
-        nodes::if_part(
-            self.alloc,
-            at.first,
-            at.past,
+        let Tokens { first, past } = at;
+        let directive = IfDirective {
+            first,
+            past,
             condition,
             then_branch,
             else_branch,
-        )
+        };
+        Ok(Part::If(Boxed::new(self.alloc, directive)?))
     }
 
     #[inline]
+    #[tactic(auto, unfolding(hcl_grammar::specs::Nodes::for_part))]
     fn for_directive(
         &self,
         at: Tokens,
         intro: Self::Intro,
         body: Self::Template,
     ) -> Made<Self::Part> {
-        nodes::for_part(self.alloc, at.first, at.past, intro, body)
+        let directive = ForDirective {
+            first: at.first,
+            past: at.past,
+            intro,
+            body,
+        };
+        Ok(Part::For(Boxed::new(self.alloc, directive)?))
     }
 
     #[inline]
+    #[tactic(auto, unfolding(hcl_grammar::specs::Nodes::attribute))]
     fn attribute(&self, at: Tokens, value: Self::Expr) -> Made<Self::Attribute> {
         let value = Boxed::new(self.alloc, value)?;
-        Ok(nodes::attribute(at.first, at.past, value))
+        Ok(Attribute {
+            first: at.first,
+            past: at.past,
+            name: at.first,
+            value,
+        })
     }
 
     #[inline]
+    #[tactic(auto, unfolding(hcl_grammar::specs::Nodes::label))]
     fn label(&self, at: Tokens, name: Option<u32>) -> Self::Label {
-        nodes::label(at.first, at.past, name)
+        Label {
+            first: at.first,
+            past: at.past,
+            name,
+        }
     }
 
     #[inline]
@@ -380,14 +473,14 @@ impl Builder for Nodes {
         ensures { IsMade true result (nodes.one_line attribute) }
     {
         match attribute {
-            Some(attribute) => nodes::one_line(self.alloc, attribute),
+            Some(attribute) => Ok(Content::OneLine(Some(Boxed::new(self.alloc, attribute)?))),
             None => Ok(Content::OneLine(None)),
         }
     }
 
     #[inline]
     fn block_body(&self, body: Self::Body) -> Made<Self::Content> {
-        nodes::block_body(self.alloc, body)
+        Ok(Content::Body(Boxed::new(self.alloc, body)?))
     }
 
     #[inline]
@@ -396,8 +489,16 @@ impl Builder for Nodes {
     }
 
     #[inline]
+    #[tactic(auto, unfolding(hcl_grammar::specs::Nodes::block))]
     fn block(&self, at: Tokens, labels: Self::Labels, content: Self::Content) -> Self::Member {
-        nodes::block(at.first, at.past, labels, content)
+        let Tokens { first, past } = at;
+        Member::Block(Block {
+            first,
+            past,
+            block_type: first,
+            labels,
+            content,
+        })
     }
 
     #[inline]
@@ -411,12 +512,22 @@ impl Builder for Nodes {
     }
 
     #[inline]
+    #[tactic(auto, unfolding(hcl_grammar::specs::Nodes::body))]
     fn body(&self, at: Tokens, members: Self::Members) -> Self::Body {
-        nodes::body(at.first, at.past, members)
+        Body {
+            first: at.first,
+            past: at.past,
+            members,
+        }
     }
 
     #[inline]
+    #[tactic(auto, unfolding(hcl_grammar::specs::Nodes::tree))]
     fn tree(&self, past: u32, body: Self::Body) -> Self::Tree {
-        nodes::tree(past, body)
+        Tree {
+            first: 0,
+            past,
+            body,
+        }
     }
 }
