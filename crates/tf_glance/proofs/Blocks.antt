@@ -11,12 +11,9 @@ use Rattle.hcl_grammar.specs.declared.tree.Label.{Label}
 use Rattle.hcl_grammar_laws.proofs.Opens.{open_block}
 use Rattle.hcl_token.specs.Tokens.{Pair}
 use Rattle.tf_glance.proofs.Bodies.{is_declaration, is_locals, AreSummarized, none_summarized, member_free, MemberOf, ContentOf}
-use Rattle.tf_glance.proofs.Expressions.{left, right, Counts, Listed, listed_more}
-use Rattle.tf_glance.proofs.Nothing.{Nothing, none, choose, unless, append}
+use Rattle.tf_glance.proofs.Expressions.{left, right, Listed, listed_more}
 use Rattle.tf_glance.specs.Inner.SummaryMakers.{block_type_of, names_after, is_clean_label, is_complete, block}
-use Rattle.tf_glance.specs.Inner.Summary.{is_clean_count, add_one}
-use Rattle.tf_glance.specs.declared.summary.Count.{Count}
-use Rattle.tf_glance.specs.declared.summary.Count.TheVariants as count
+use Rattle.tf_glance.specs.Inner.Summary.{add_one}
 use Rattle.tf_glance.specs.declared.summary.BodyContent.{BodyContent}
 use Rattle.tf_glance.specs.declared.block_type.BlockType.{BlockType}
 use Rattle.tf_glance.specs.declared.block_type.BlockType.TheVariants as block_type
@@ -31,7 +28,11 @@ use Rattle.tf_rules.specs.declared.finding.NameKind.{NameKind}
 use Rattle.tf_rules.specs.declared.finding.NameKind.TheVariants as kind
 use Rattle.tf_rules.specs.declared.rule.Rule.{Rule}
 use Rattle.tf_rules.specs.declared.rule.Rule.TheVariants.{NamingConvention, TypedVariables, DocumentedVariables, DocumentedOutputs}
+use Rattle.tf_rules.specs.Summaries.{is_clean_count, count_of}
 use Rattle.tf_rules.specs.declared.rule_set.RuleSet.{RuleSet}
+use Rattle.tf_rules.specs.declared.summary.Count.{Count}
+use Rattle.tf_rules.specs.declared.summary.Count.TheVariants as count
+use Rattle.tf_rules_laws.proofs.Nothing.{Nothing, none, choose, unless, append}
 
 -- ---- tests
 
@@ -90,52 +91,32 @@ module _ (pairs : List Pair) where
   snake : (l : Label) (o : Option ℕ) (k : NameKind) → l.name ≡ o → is_snake_case (name_text pairs o) ≡ true → Nothing (label_findings pairs k (Some l))
   snake l o k e h = record { is = rw (e, h) refl }
 
-  first_named : (n : Count) (ls : List Label) (o : Option ℕ) (l : Label) → LabelOf o l → Counts n ls → NamedAt 0 ls → (n ≡ count.Zero → is_snake_case (name_text pairs o) ≡ true) → NamedAt 0 (ls ++ l ∷ [])
-  first_named count.Suspect ls o l e c h s k = absurd c
-  first_named count.Zero [] o l e c h s k = snake l o k e (s refl)
-  first_named count.Zero (x ∷ ls) o l e c h s k = absurd c
-  first_named count.One [] o l e c h s k = absurd c
-  first_named count.One (x ∷ ls) o l e c h s k = h k
-  first_named count.Two [] o l e c h s k = absurd c
-  first_named count.Two (x ∷ ls) o l e c h s k = h k
-  first_named count.Many [] o l e c h s k = absurd c
-  first_named count.Many (x ∷ ls) o l e c h s k = h k
+  first_named : (n : Count) (ls : List Label) (o : Option ℕ) (l : Label) → LabelOf o l → n ≡ count_of ls → NamedAt 0 ls → (n ≡ count.Zero → is_snake_case (name_text pairs o) ≡ true) → NamedAt 0 (ls ++ l ∷ [])
+  first_named n [] o l e c h s k = snake l o k e (s c)
+  first_named n (x ∷ ls) o l e c h s k = h k
 
-  second_named : (n : Count) (ls : List Label) (o : Option ℕ) (l : Label) → LabelOf o l → Counts n ls → NamedAt 1 ls → (n ≡ count.One → is_snake_case (name_text pairs o) ≡ true) → NamedAt 1 (ls ++ l ∷ [])
-  second_named count.Suspect ls o l e c h s k = absurd c
-  second_named count.Zero [] o l e c h s k = none
-  second_named count.Zero (x ∷ ls) o l e c h s k = absurd c
-  second_named count.One [] o l e c h s k = absurd c
-  second_named count.One (x ∷ []) o l e c h s k = snake l o k e (s refl)
-  second_named count.One (x ∷ y ∷ ls) o l e c h s k = absurd c
-  second_named count.Two [] o l e c h s k = absurd c
-  second_named count.Two (x ∷ []) o l e c h s k = absurd c
-  second_named count.Two (x ∷ y ∷ ls) o l e c h s k = h k
-  second_named count.Many [] o l e c h s k = absurd c
-  second_named count.Many (x ∷ []) o l e c h s k = absurd c
-  second_named count.Many (x ∷ y ∷ ls) o l e c h s k = h k
+  second_named : (n : Count) (ls : List Label) (o : Option ℕ) (l : Label) → LabelOf o l → n ≡ count_of ls → NamedAt 1 ls → (n ≡ count.One → is_snake_case (name_text pairs o) ≡ true) → NamedAt 1 (ls ++ l ∷ [])
+  second_named n [] o l e c h s k = none
+  second_named n (x ∷ []) o l e c h s k = snake l o k e (s c)
+  second_named n (x ∷ y ∷ ls) o l e c h s k = h k
 
   snake_after : (assumed : BlockType) (n m : Count) (o : Option ℕ) → names_after assumed m ≡ true → is_clean_label pairs assumed n o ≡ true → n ≡ m → is_snake_case (name_text pairs o) ≡ true
   snake_after assumed n m o f w e = given (names_after assumed n) (is_snake_case (name_text pairs o)) w (ap (names_after assumed) e ∙ f)
 
-  named_more : (assumed : BlockType) (n : Count) (ls : List Label) (o : Option ℕ) (l : Label) → LabelOf o l → Counts n ls → AreNamed assumed ls → is_clean_label pairs assumed n o ≡ true → AreNamed assumed (ls ++ l ∷ [])
-  named_more block_type.Other n ls o l e c h w = tt
+  named_more : (assumed : BlockType) (n : Count) (ls : List Label) (o : Option ℕ) (l : Label) → LabelOf o l → n ≡ count_of ls → AreNamed assumed ls → is_clean_label pairs assumed n o ≡ true → AreNamed assumed (ls ++ l ∷ [])
   named_more block_type.Resource n ls o l e c h w = second_named n ls o l e c h (snake_after block_type.Resource n count.One o refl w)
   named_more block_type.Module n ls o l e c h w = first_named n ls o l e c h (snake_after block_type.Module n count.Zero o refl w)
   named_more block_type.Variable n ls o l e c h w = first_named n ls o l e c h (snake_after block_type.Variable n count.Zero o refl w)
   named_more block_type.Output n ls o l e c h w = first_named n ls o l e c h (snake_after block_type.Output n count.Zero o refl w)
-  named_more block_type.Locals n ls o l e c h w = tt
+  named_more _ n ls o l e c h w = tt
 
   none_named : (assumed : BlockType) → AreNamed assumed []
   none_named block_type.Other = tt
-  none_named block_type.Resource = λ k. none
-  none_named block_type.Module = λ k. none
-  none_named block_type.Variable = λ k. none
-  none_named block_type.Output = λ k. none
   none_named block_type.Locals = tt
+  none_named _ = λ k. none
 
   pub no_labels : (assumed : BlockType) → LabelsOf assumed count.Zero []
-  no_labels assumed = λ w. (tt, none_named assumed)
+  no_labels assumed = λ w. (refl, none_named assumed)
 
   pub labels : (assumed : BlockType) (n : Count) (ls : List Label) (o : Option ℕ) (l : Label) → LabelsOf assumed n ls → LabelOf o l → LabelsOf assumed (add_one n (is_clean_label pairs assumed n o)) (ls ++ l ∷ [])
   labels assumed n ls o l h e = listed_more (AreNamed assumed) n (is_clean_label pairs assumed n o) ls l h (λ c f w. named_more assumed n ls o l e c f w)
@@ -187,43 +168,23 @@ module _ (pairs : List Pair) where
 
       resource : (s : BlockType) → s ≡ assumed → is_complete block_type.Resource s x ≡ true → NamedAt 1 b.labels
       resource block_type.Resource e h = subst (λ (s : BlockType). AreNamed s b.labels) (sym e) names
-      resource block_type.Other e h = absurd (cc)
-      resource block_type.Module e h = absurd (cc)
-      resource block_type.Variable e h = absurd (cc)
-      resource block_type.Output e h = absurd (cc)
-      resource block_type.Locals e h = absurd (cc)
+      resource _ e h = absurd (cc)
 
       named_module : (s : BlockType) → s ≡ assumed → is_complete block_type.Module s x ≡ true → NamedAt 0 b.labels
       named_module block_type.Module e h = subst (λ (s : BlockType). AreNamed s b.labels) (sym e) names
-      named_module block_type.Other e h = absurd (cc)
-      named_module block_type.Resource e h = absurd (cc)
-      named_module block_type.Variable e h = absurd (cc)
-      named_module block_type.Output e h = absurd (cc)
-      named_module block_type.Locals e h = absurd (cc)
+      named_module _ e h = absurd (cc)
 
       variable : (s : BlockType) → s ≡ assumed → is_complete block_type.Variable s x ≡ true → NamedAt 0 b.labels × (has_attribute pairs (codes "type") (attributes b) ≡ true) × (is_undocumented pairs (attributes b) ≡ false)
       variable block_type.Variable e h = (subst (λ (s : BlockType). AreNamed s b.labels) (sym e) names, has.has_type (left x.typed x.described h), documents (ap is_declaration (sym e)) (right x.typed x.described h))
-      variable block_type.Other e h = absurd (cc)
-      variable block_type.Resource e h = absurd (cc)
-      variable block_type.Module e h = absurd (cc)
-      variable block_type.Output e h = absurd (cc)
-      variable block_type.Locals e h = absurd (cc)
+      variable _ e h = absurd (cc)
 
       output : (s : BlockType) → s ≡ assumed → is_complete block_type.Output s x ≡ true → NamedAt 0 b.labels × (is_undocumented pairs (attributes b) ≡ false)
       output block_type.Output e h = (subst (λ (s : BlockType). AreNamed s b.labels) (sym e) names, documents (ap is_declaration (sym e)) h)
-      output block_type.Other e h = absurd (cc)
-      output block_type.Resource e h = absurd (cc)
-      output block_type.Module e h = absurd (cc)
-      output block_type.Variable e h = absurd (cc)
-      output block_type.Locals e h = absurd (cc)
+      output _ e h = absurd (cc)
 
       locals : (s : BlockType) → s ≡ assumed → is_complete block_type.Locals s x ≡ true → flat_map (local_findings pairs) (attributes b) ≡ []
       locals block_type.Locals e h = has.named (ap is_locals (sym e))
-      locals block_type.Other e h = absurd (cc)
-      locals block_type.Resource e h = absurd (cc)
-      locals block_type.Module e h = absurd (cc)
-      locals block_type.Variable e h = absurd (cc)
-      locals block_type.Output e h = absurd (cc)
+      locals _ e h = absurd (cc)
 
       skip : {A : Type 0} (t : Bool) (y z : A) → t ≡ false → (if t then y else z) ≡ z
       skip true y z e = absurd (cc)

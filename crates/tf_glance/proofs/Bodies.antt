@@ -15,14 +15,12 @@ use Rattle.hcl_grammar.specs.declared.tree.Member.TheVariants as member_kind
 use Rattle.hcl_grammar_laws.proofs.Opens.{open_attribute, open_lines, open_line}
 use Rattle.hcl_parse.specs.Alike.{InSome}
 use Rattle.hcl_token.specs.Tokens.{Pair}
-use Rattle.tf_glance.proofs.Expressions.{left, right, ExprOf, clean_expr, clean_description}
+use Rattle.tf_glance.proofs.Expressions.{left, right, ExprOf, clean_description}
 use Rattle.tf_glance.proofs.Free.{IsFree, free, AreFree, none, more, one}
-use Rattle.tf_glance.proofs.Nothing as empty
 use Rattle.tf_glance.specs.Inner.SummaryMakers.{attribute, declaration, one_line}
 use Rattle.tf_glance.specs.Inner.Summary as summary
-use Rattle.tf_glance.specs.Inner.Summary.{is_clean, is_clean_description}
+use Rattle.tf_glance.specs.Inner.Summary.{is_clean_description}
 use Rattle.tf_glance.specs.declared.summary.BodyContent.{BodyContent}
-use Rattle.tf_glance.specs.declared.summary.Value.{Value}
 use Rattle.tf_glance.specs.declared.block_type.BlockType.{BlockType}
 use Rattle.tf_glance.specs.declared.block_type.BlockType.TheVariants as block_type
 use Rattle.tf_rules.specs.Attributes.{member_attributes, layer_attributes, is_attribute, is_empty_string, has_attribute, has_empty_attribute}
@@ -33,7 +31,10 @@ use Rattle.tf_rules.specs.SnakeCase.{is_snake_case}
 use Rattle.tf_rules.specs.Spelling.{token_text}
 use Rattle.tf_rules.specs.declared.finding.Finding.{Finding}
 use Rattle.tf_rules.specs.declared.role.Role.TheVariants.{AttributeValue}
+use Rattle.tf_rules.specs.Summaries.{is_clean}
 use Rattle.tf_rules.specs.declared.rule_set.RuleSet.{RuleSet}
+use Rattle.tf_rules.specs.declared.summary.Value.{Value}
+use Rattle.tf_rules_laws.proofs.Nothing as empty
 
 -- ---- tests
 
@@ -97,33 +98,31 @@ module _ (pairs : List Pair) where
       → AttributeOf assumed (declaration (bytes_eq (token_text pairs i) (codes "type")) (bytes_eq (token_text pairs i) (codes "description")) q) (node.attribute i j e)
   unfolding node.attribute
   declared assumed l i j q e h = λ w. (
-    clean_expr pairs q e h (left (is_clean q) _ w) AttributeValue,
+    (h (left (is_clean q) _ w)).0 AttributeValue,
     record {
       has_type = λ t. alone (bytes_eq (token_text pairs i) (codes "type")) t;
       has_description = λ t. alone (bytes_eq (token_text pairs i) (codes "description")) t;
-      none_empty = λ t. not_empty (bytes_eq (token_text pairs i) (codes "description")) (is_empty_string e) (is_clean_description q) (clean_description pairs q e h) (right (is_clean q) _ w);
+      none_empty = λ t. not_empty (bytes_eq (token_text pairs i) (codes "description")) (is_empty_string e) (is_clean_description q) (clean_description pairs q e h (left (is_clean q) _ w)) (right (is_clean q) _ w);
       named = λ t. absurd (cc);
     },
   )
 
   plain : (assumed : BlockType) → is_declaration assumed ≡ false → is_locals assumed ≡ false → (i j : ℕ) (q : Value) (e : Expr) → ExprOf pairs q e → AttributeOf assumed (record { clean = is_clean q; complete = true; typed = false; described = false }) (node.attribute i j e)
   unfolding node.attribute
-  plain assumed d l i j q e h = λ w. (clean_expr pairs q e h w AttributeValue, plain_summarized assumed _ d l)
+  plain assumed d l i j q e h = λ w. ((h w).0 AttributeValue, plain_summarized assumed _ d l)
 
   local : (i j : ℕ) (q : Value) (e : Expr) → ExprOf pairs q e → AttributeOf block_type.Locals (attribute pairs block_type.Locals i q) (node.attribute i j e)
   unfolding node.attribute
   local i j q e h = λ w. (
-    clean_expr pairs q e h (left (is_clean q) _ w) AttributeValue,
+    (h (left (is_clean q) _ w)).0 AttributeValue,
     record { has_type = λ t. absurd (cc); has_description = λ t. absurd (cc); none_empty = λ t. absurd (cc); named = λ t. local_named i (node.attribute i j e) refl (right (is_clean q) _ w) },
   )
 
   pub attributes : (assumed : BlockType) (i j : ℕ) (q : Value) (e : Expr) → ExprOf pairs q e → AttributeOf assumed (attribute pairs assumed i q) (node.attribute i j e)
-  attributes block_type.Other i j q e h = plain block_type.Other refl refl i j q e h
-  attributes block_type.Resource i j q e h = plain block_type.Resource refl refl i j q e h
-  attributes block_type.Module i j q e h = plain block_type.Module refl refl i j q e h
   attributes block_type.Variable i j q e h = declared block_type.Variable refl i j q e h
   attributes block_type.Output i j q e h = declared block_type.Output refl i j q e h
   attributes block_type.Locals i j q e h = local i j q e h
+  attributes assumed i j q e h = plain assumed refl refl i j q e h
 
   -- ---- members
 

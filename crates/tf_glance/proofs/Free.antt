@@ -4,12 +4,12 @@ use Rattle.std.proofs.lemmas.Grind.{flat_map-append}
 use Rattle.std.specs.List.{flat_map}
 use Rattle.hcl_token.specs.Tokens.{Pair}
 use Rattle.tf_findings.specs.TreeFindings.{AreTreeFindings}
-use Rattle.tf_glance.proofs.Nothing.{Nothing}
 use Rattle.tf_rules.specs.Findings.{valid_findings}
 use Rattle.tf_rules.specs.Preorder.{Node, IsPreorder, no_nodes, visit, children}
 use Rattle.tf_rules.specs.Rules.{node_findings}
 use Rattle.tf_rules.specs.declared.finding.Finding.{Finding}
 use Rattle.tf_rules.specs.declared.rule_set.RuleSet.{RuleSet}
+use Rattle.tf_rules_laws.proofs.Nothing.{Nothing}
 
 mutual
   pub data IsFree (pairs : List Pair) : Node → Type 0 where

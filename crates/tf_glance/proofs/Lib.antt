@@ -1,8 +1,7 @@
-pub mod Nothing
 pub mod Free
 pub mod Expressions
-pub mod Equality
-pub mod Lookup
+pub mod Chains
+pub mod Calls
 pub mod Templates
 pub mod Bodies
 pub mod Blocks

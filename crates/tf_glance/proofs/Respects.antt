@@ -12,16 +12,17 @@ use Rattle.hcl_grammar.specs.Pure.NodeMakers.{node_types, nodes}
 use Rattle.hcl_token.specs.Tokens.{Pair}
 use Rattle.tf_glance.proofs.Blocks.{LabelOf, LabelsOf, label, no_labels, labels, blocks}
 use Rattle.tf_glance.proofs.Bodies.{AttributeOf, MemberOf, MembersOf, BodyOf, ContentOf, attributes, attribute_member, no_members, members, body, block_body, line_body}
-use Rattle.tf_glance.proofs.Equality.{OperationsOf, operations, chain}
-use Rattle.tf_glance.proofs.Expressions.{left, right, ExprOf, TermOf, TailOf, TailsOf, ExprsOf, ElementsOf, IntroOf, clean_expr, made_expr, made_term, tail_free, tails_more, postfix, exprs, tuple, elements, intro, for_tuple, for_object}
+use Rattle.tf_glance.proofs.Chains.{OperationsOf, operations, chain}
+use Rattle.tf_glance.proofs.Expressions.{left, right, ExprOf, TermOf, TailOf, TailsOf, ExprsOf, ElementsOf, IntroOf, plain_expr, inner_term, known_tail, tails_more, postfix, exprs, tuple, elements, intro, for_tuple, for_object}
 use Rattle.tf_glance.proofs.Free.{none, more, one}
-use Rattle.tf_glance.proofs.Lookup.{NamesOf, first_name, names, call}
+use Rattle.tf_glance.proofs.Calls.{NamesOf, names, call}
 use Rattle.tf_glance.proofs.Templates.{PartOf, PartsOf, TemplateOf, parts, template, literal, interpolation, if_directive, for_directive, quoted, heredoc}
 use Rattle.tf_glance.specs.Inner.SummaryMakers.{summary_types, summaries}
-use Rattle.tf_glance.specs.Inner.Summary.{is_clean}
-use Rattle.tf_glance.specs.declared.summary.Value.{Value}
 use Rattle.tf_glance.specs.declared.block_type.BlockType.{BlockType}
+use Rattle.tf_rules.specs.Summaries.{is_clean}
 use Rattle.tf_rules.specs.declared.role.Role.TheVariants.{Parentheses, Index, Elsewhere}
+use Rattle.tf_rules.specs.declared.summary.Value.{Value}
+use Rattle.tf_rules_laws.proofs.Nothing as empty
 
 module _ (pairs : List Pair) (assumed : BlockType) where
   abbrev pub summarizes : Relations summary_types node_types
@@ -32,7 +33,7 @@ module _ (pairs : List Pair) (assumed : BlockType) where
     Term = TermOf pairs;
     Tail = TailOf pairs;
     Tails = TailsOf pairs;
-    Names = NamesOf pairs;
+    Names = NamesOf;
     Elements = ElementsOf pairs;
     Intro = IntroOf pairs;
     Template = TemplateOf pairs;
@@ -50,9 +51,9 @@ module _ (pairs : List Pair) (assumed : BlockType) where
 
   conditional : (i j : ℕ) (c : Value) (d : Expr) (x : Value) (y : Expr) (v : Value) (w : Expr) → ExprOf pairs c d → ExprOf pairs x y → ExprOf pairs v w
       → ExprOf pairs ((summaries pairs assumed).conditional i j c x v) (node.expr i j (form.Conditional d y w))
-  conditional i j c d x y v w e f g = made_expr pairs (is_clean c && (is_clean x && is_clean v)) i j (form.Conditional d y w) _ (open_conditional d y w) refl refl
+  conditional i j c d x y v w e f g = plain_expr pairs (is_clean c && (is_clean x && is_clean v)) i j (form.Conditional d y w) _ (open_conditional d y w) refl (λ rules. empty.none)
       (λ q role. let two = right (is_clean c) _ q in
-      (refl, more _ _ (clean_expr pairs c d e (left (is_clean c) _ q) Elsewhere) (more _ _ (clean_expr pairs x y f (left (is_clean x) _ two) Elsewhere) (one _ (clean_expr pairs v w g (right (is_clean x) _ two) Elsewhere)))))
+      more _ _ ((e (left (is_clean c) _ q)).0 Elsewhere) (more _ _ ((f (left (is_clean x) _ two)).0 Elsewhere) (one _ ((g (right (is_clean x) _ two)).0 Elsewhere))))
 
   legacy : (n : ℕ) → TailOf pairs false (variant.LegacyIndex n)
   legacy n q = absurd (cc)
@@ -62,26 +63,26 @@ module _ (pairs : List Pair) (assumed : BlockType) where
   respects = record {
     conditional = λ i j c d e x y f v w g. conditional i j c d x y v w e f g;
     chain = λ q e h n ls g. chain pairs q e n ls h g;
-    no_operations = λ w. (tt, tt);
+    no_operations = λ w. (refl, tt);
     add_operation = λ n ls h op q e g. operations pairs n ls op q e h g;
-    unary = λ i j op q e h. made_expr pairs (is_clean q) i j (form.Unary op e) _ (open_prefixed op e) refl refl (λ w role. (refl, one _ (clean_expr pairs q e h w Elsewhere)));
+    unary = λ i j op q e h. plain_expr pairs (is_clean q) i j (form.Unary op e) _ (open_prefixed op e) refl (λ rules. empty.none) (λ w role. one _ ((h w).0 Elsewhere));
     postfix = λ i j q t h b ts g. postfix pairs i j q t b ts h g;
     no_tails = λ w splat. none;
     add_tail = λ b ts h c t g w splat. tails_more pairs ts t splat (h (left b c w) splat) (λ s. g (right b c w) s);
-    name_tail = λ n w splat. tail_free pairs splat (variant.Name n) (rw (open_name n) refl) (rw (open_name n) none);
+    name_tail = λ n w. known_tail pairs (variant.Name n) _ (open_name n) (λ rules splat. empty.none) none;
     legacy_index = legacy;
-    attribute_splat = λ w splat. tail_free pairs splat variant.AttributeSplat (rw open_attribute_splat refl) (rw open_attribute_splat none);
-    full_splat = λ w splat. tail_free pairs splat variant.FullSplat (rw open_full_splat refl) (rw open_full_splat none);
-    index = λ q e h w splat. tail_free pairs splat (variant.Index e) (rw (open_index e) refl) (rw (open_index e) (one _ (clean_expr pairs q e h w Index)));
-    number = λ i j. made_term pairs true i j shape.Number _ open_number refl refl (λ w. (refl, refl, none));
-    identifier = λ i j. made_term pairs true i j shape.Identifier _ open_identifier refl refl (λ w. (refl, refl, none));
-    call = λ i j b ns h n es g grouped. call pairs i j b ns n es grouped h g;
-    first_name = λ n. first_name pairs n;
-    add_name = λ b ns h n. names pairs b ns n h;
-    no_exprs = λ w. (tt, λ role. none);
+    attribute_splat = λ w. known_tail pairs variant.AttributeSplat _ open_attribute_splat (λ rules splat. empty.none) none;
+    full_splat = λ w. known_tail pairs variant.FullSplat _ open_full_splat (λ rules splat. empty.none) none;
+    index = λ q e h w. known_tail pairs (variant.Index e) _ (open_index e) (λ rules splat. empty.none) (one _ ((h w).0 Index));
+    number = λ i j. inner_term pairs true i j shape.Number _ open_number refl (λ rules role. empty.none) (λ w. none);
+    identifier = λ i j. inner_term pairs true i j shape.Identifier _ open_identifier refl (λ rules role. empty.none) (λ w. none);
+    call = λ i j o ns h n es g more. call pairs i j o ns n es more h g;
+    first_name = λ n. (refl, refl);
+    add_name = λ o ns h n. names o ns n h;
+    no_exprs = λ w. (refl, λ role. none);
     add_expr = λ n es h q e g. exprs pairs n es q e h g;
     tuple = λ i j n es h. tuple pairs i j n es h;
-    object = λ i j b xs h. made_term pairs b i j (shape.Object xs) _ (open_object xs) refl refl (λ w. (refl, refl, h w));
+    object = λ i j b xs h. inner_term pairs b i j (shape.Object xs) _ (open_object xs) refl (λ rules role. empty.none) h;
     no_elements = λ w. none;
     add_element = λ b xs h k key f q e g. elements pairs b xs k key q e h f g;
     intro = λ i j n o q e h. intro pairs i j n o q e h;
@@ -89,7 +90,7 @@ module _ (pairs : List Pair) (assumed : BlockType) where
     for_object = λ i j b x f k key g q e h grouped o c d. for_object pairs i j b x k key q e grouped o c f g h d;
     quoted = λ i j q t h. quoted pairs i j q t h;
     heredoc = λ i j q t h. heredoc pairs i j q t h;
-    parens = λ i j q e h. made_term pairs (is_clean q) i j (shape.Parens e) _ (open_parens e) refl refl (λ w. (refl, refl, one _ (clean_expr pairs q e h w Parentheses)));
+    parens = λ i j q e h. inner_term pairs (is_clean q) i j (shape.Parens e) _ (open_parens e) refl (λ rules role. empty.none) (λ w. one _ ((h w).0 Parentheses));
     template = λ i j q ps h. template pairs i j q ps h;
     no_parts = λ w. (refl, none);
     add_part = λ q ps h p x g. parts pairs q ps p x h g;

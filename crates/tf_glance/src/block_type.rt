@@ -3,8 +3,8 @@
 ghost use Rattle.std.specs.Prelude.{◌≡◌};
 ghost use Rattle.tf_glance.specs.Inner.SummaryMakers as spec;
 
-use crate::summary::{BodyContent, Count};
-use tf_rules::is_spelled;
+use crate::summary::BodyContent;
+use tf_rules::{Count, is_spelled};
 
 /// The type of a block: the identifier that it begins with.
 #[derive(Clone, Copy)]

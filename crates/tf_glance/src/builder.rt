@@ -6,13 +6,13 @@ ghost use Rattle.tf_glance.specs.Inner.SummaryMakers.{summaries};
 
 use crate::members::Summaries;
 use crate::summary::{
-    BodyContent, Count, Piece, Pieces, Value, add_one, chain, directive, interpolation,
+    BodyContent, Piece, add_one, add_piece, chain, directive, interpolation, is_clean_operand,
     is_clean_option, is_clean_template_option, joined, no_content, plain_if, quoted, tuple,
 };
 use hcl_grammar::tree::{BinaryOperator, UnaryOperator};
 use hcl_parse::{Builder, Made, Tokens};
 use std::alloc::AllocError;
-use tf_rules::{is_spelled, token_text};
+use tf_rules::{Count, Pieces, Value, may_find_at_call};
 
 impl<'s, 't> Builder for Summaries<'s, 't> {
     type Expr = Value;
@@ -27,7 +27,7 @@ impl<'s, 't> Builder for Summaries<'s, 't> {
 
     type Tails = bool;
 
-    type Names = bool;
+    type Names = Option<u32>;
 
     type Elements = bool;
 
@@ -87,7 +87,7 @@ impl<'s, 't> Builder for Summaries<'s, 't> {
         _operator: BinaryOperator,
         operand: Self::Expr,
     ) -> Made<()> {
-        *operations = add_one(*operations, operand.is_clean_operand())?;
+        *operations = add_one(*operations, is_clean_operand(operand))?;
         Ok(())
     }
 
@@ -167,17 +167,18 @@ impl<'s, 't> Builder for Summaries<'s, 't> {
         arguments: Self::Exprs,
         expand_final: bool,
     ) -> Made<Self::Term> {
-        plain_if(arguments.is_clean() && !(names && arguments.is_two() && !expand_final))
+        let may_find = may_find_at_call(self.scanned, names, arguments, expand_final);
+        plain_if(arguments.is_clean() && !may_find)
     }
 
     #[inline(always)]
     fn first_name(&self, number: u32) -> Made<Self::Names> {
-        Ok(is_spelled(token_text(self.scanned, number), b"lookup"))
+        Ok(Some(number))
     }
 
     #[inline(always)]
     fn add_name(&self, names: &mut Self::Names, _number: u32) -> Made<()> {
-        *names = false;
+        *names = None;
         Ok(())
     }
 
@@ -288,7 +289,7 @@ impl<'s, 't> Builder for Summaries<'s, 't> {
 
     #[inline(always)]
     fn add_part(&self, parts: &mut Self::Parts, part: Self::Part) -> Made<()> {
-        *parts = parts.with(part);
+        *parts = add_piece(*parts, part);
         Ok(())
     }
 

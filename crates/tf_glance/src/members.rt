@@ -5,10 +5,10 @@ ghost use Rattle.std.specs.Str.{bytes_eq};
 ghost use Rattle.tf_glance.specs.Inner.SummaryMakers as spec;
 
 use crate::block_type::{BlockType, block_type_of};
-use crate::summary::{BodyContent, Count, Value};
+use crate::summary::{BodyContent, is_clean_description};
 use hcl_scan::Scanned;
 use std::alloc::AllocError;
-use tf_rules::{is_snake_case, is_spelled, name_text, token_text};
+use tf_rules::{Count, Value, is_snake_case, is_spelled, name_text, token_text};
 
 /// The builder that makes summaries, in a member that is assumed to be a block of this type. It takes
 /// no memory; `AllocError` says that a node is suspect, so that no more is read.
@@ -50,7 +50,7 @@ fn declaration(name: &[u8], value: Value) -> Result<BodyContent, AllocError>
         (bytes_eq name.now (codes "description")) value) }
 {
     let described = is_spelled(name, b"description");
-    let clean = value.is_clean() && (!described || value.is_clean_description());
+    let clean = value.is_clean() && (!described || is_clean_description(value));
     attribute_if(clean, is_spelled(name, b"type"), described)
 }
 

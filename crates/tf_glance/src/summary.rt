@@ -1,35 +1,13 @@
 //! Summaries of nodes: of each, whether it is clean or suspect, and what the rules on the nodes
-//! around it need. A node is clean if no rule finds anything in it, suspect if one may.
+//! around it need (those of tf_rules, and more). A node is clean if no rule finds anything in it,
+//! suspect if one may.
 
 ghost use Rattle.std.specs.Prelude.{◌≡◌, IfOk};
 ghost use Rattle.tf_glance.specs.Inner.Summary as spec;
+ghost use Rattle.tf_rules.specs.Summaries.{text_value};
 
 use std::alloc::AllocError;
-
-/// The summary of an expression, or of a term.
-#[derive(Clone, Copy)]
-pub enum Value {
-    /// A rule may find something in it.
-    Suspect,
-    /// Neither `[]` nor `""`.
-    Plain,
-    /// It may be `[]`.
-    EmptyList,
-    /// It may be `""`.
-    EmptyText,
-}
-
-/// How many there are, of operators, of expressions or of labels.
-#[derive(Clone, Copy)]
-pub enum Count {
-    /// A rule may find something in one.
-    Suspect,
-    Zero,
-    One,
-    Two,
-    /// More than two.
-    Many,
-}
+use tf_rules::{Count, Pieces, Value, may_find_at_operand, may_find_at_quoted};
 
 /// The summary of a part of a template.
 #[derive(Clone, Copy)]
@@ -39,18 +17,6 @@ pub enum Piece {
     /// It is no interpolation.
     Other,
     Interpolation,
-}
-
-/// The summary of the parts of a template.
-#[derive(Clone, Copy)]
-pub enum Pieces {
-    /// A rule may find something in one.
-    Suspect,
-    Empty,
-    /// One interpolation, and nothing else.
-    Sole,
-    /// Any other.
-    Mixed,
 }
 
 /// The summary of some attributes and blocks.
@@ -66,38 +32,22 @@ pub struct BodyContent {
     pub described: bool,
 }
 
-impl Value {
-    /// Whether no rule finds anything in it.
-    #[inline(always)]
-    pub fn is_clean(self) -> bool
-        ensures { result ≡ spec.is_clean self }
-    {
-        match self {
-            Value::Suspect => false,
-            _ => true,
-        }
-    }
+/// Whether no rule finds anything in it as an operand of an operator, or at the operator.
+#[inline(always)]
+pub fn is_clean_operand(operand: Value) -> bool
+    ensures { result ≡ spec.is_clean_operand operand }
+{
+    operand.is_clean() && !may_find_at_operand(operand)
+}
 
-    /// Whether no rule finds anything in it as an operand of an operator.
-    #[inline(always)]
-    pub fn is_clean_operand(self) -> bool
-        ensures { result ≡ spec.is_clean_operand self }
-    {
-        match self {
-            Value::Suspect | Value::EmptyList => false,
-            _ => true,
-        }
-    }
-
-    /// Whether no rule finds anything in it as a description.
-    #[inline(always)]
-    pub fn is_clean_description(self) -> bool
-        ensures { result ≡ spec.is_clean_description self }
-    {
-        match self {
-            Value::Suspect | Value::EmptyText => false,
-            _ => true,
-        }
+/// Whether no rule finds anything in it as a description.
+#[inline(always)]
+pub fn is_clean_description(value: Value) -> bool
+    ensures { result ≡ spec.is_clean_description value }
+{
+    match value {
+        Value::Suspect | Value::EmptyText => false,
+        _ => true,
     }
 }
 
@@ -128,41 +78,17 @@ pub fn plain_if(is_clean: bool) -> Result<Value, AllocError>
     }
 }
 
-impl Count {
-    /// Whether no rule finds anything in them.
-    #[inline(always)]
-    pub fn is_clean(self) -> bool
-        ensures { result ≡ spec.is_clean_count self }
-    {
-        match self {
-            Count::Suspect => false,
-            _ => true,
-        }
-    }
-
-    /// Whether there are two.
-    #[inline(always)]
-    pub fn is_two(self) -> bool
-        ensures { result ≡ spec.is_two self }
-    {
-        match self {
-            Count::Two => true,
-            _ => false,
-        }
-    }
-
-    /// Returns the number with one more.
-    #[inline(always)]
-    fn next(self) -> Count
-        ensures { result ≡ spec.next_count self }
-    {
-        match self {
-            Count::Suspect => Count::Suspect,
-            Count::Zero => Count::One,
-            Count::One => Count::Two,
-            Count::Two => Count::Many,
-            Count::Many => Count::Many,
-        }
+/// Returns the number with one more.
+#[inline(always)]
+fn next_count(count: Count) -> Count
+    ensures { result ≡ spec.next_count count }
+{
+    match count {
+        Count::Suspect => Count::Suspect,
+        Count::Zero => Count::One,
+        Count::One => Count::Two,
+        Count::Two => Count::Many,
+        Count::Many => Count::Many,
     }
 }
 
@@ -176,7 +102,7 @@ pub fn add_one(count: Count, is_clean: bool) -> Result<Count, AllocError>
     ensures { IfOk result (λ s. s ≡ spec.add_one count is_clean) }
 {
     if is_clean {
-        Ok(count.next())
+        Ok(next_count(count))
     } else {
         Err(AllocError)
     }
@@ -191,11 +117,10 @@ pub fn add_one(count: Count, is_clean: bool) -> Result<Count, AllocError>
 fn first_operand(value: Value) -> Result<Value, AllocError>
     ensures { IfOk result (λ s. s ≡ spec.first_operand value) }
 {
-    match value {
-        Value::Suspect => Err(AllocError),
-        Value::Plain => Ok(Value::Plain),
-        Value::EmptyList => Err(AllocError),
-        Value::EmptyText => Ok(Value::EmptyText),
+    if is_clean_operand(value) {
+        Ok(value)
+    } else {
+        Err(AllocError)
     }
 }
 
@@ -227,35 +152,22 @@ pub fn tuple(elements: Count) -> Value
     }
 }
 
-impl Pieces {
-    /// Whether no rule finds anything in them.
-    #[inline(always)]
-    pub fn is_clean(self) -> bool
-        ensures { result ≡ spec.is_clean_pieces self }
-    {
-        match self {
-            Pieces::Suspect => false,
-            _ => true,
-        }
-    }
-
-    /// Returns the parts with one more.
-    #[inline(always)]
-    pub fn with(self, piece: Piece) -> Pieces
-        ensures { result ≡ spec.add_piece self piece }
-    {
-        match self {
-            Pieces::Suspect => Pieces::Suspect,
-            Pieces::Empty => match piece {
-                Piece::Suspect => Pieces::Suspect,
-                Piece::Other => Pieces::Mixed,
-                Piece::Interpolation => Pieces::Sole,
-            },
-            _ => match piece {
-                Piece::Suspect => Pieces::Suspect,
-                _ => Pieces::Mixed,
-            },
-        }
+/// Returns the parts with one more.
+#[inline(always)]
+pub fn add_piece(pieces: Pieces, piece: Piece) -> Pieces
+    ensures { result ≡ spec.add_piece pieces piece }
+{
+    match pieces {
+        Pieces::Suspect => Pieces::Suspect,
+        Pieces::Empty => match piece {
+            Piece::Suspect => Pieces::Suspect,
+            Piece::Other => Pieces::Mixed,
+            Piece::Interpolation => Pieces::Sole,
+        },
+        _ => match piece {
+            Piece::Suspect => Pieces::Suspect,
+            _ => Pieces::Mixed,
+        },
     }
 }
 
@@ -270,6 +182,17 @@ pub fn is_clean_template_option(template: Option<Pieces>) -> bool
     }
 }
 
+/// Returns quoted text with these parts, of which none is suspect.
+#[inline(always)]
+fn text_value(template: Pieces) -> Value
+    ensures { result ≡ text_value template }
+{
+    match template {
+        Pieces::Empty => Value::EmptyText,
+        _ => Value::Plain,
+    }
+}
+
 /// Returns a quoted text with these parts.
 ///
 /// # Errors
@@ -279,10 +202,10 @@ pub fn is_clean_template_option(template: Option<Pieces>) -> bool
 pub fn quoted(template: Pieces) -> Result<Value, AllocError>
     ensures { IfOk result (λ s. s ≡ spec.quoted template) }
 {
-    match template {
-        Pieces::Suspect | Pieces::Sole => Err(AllocError),
-        Pieces::Empty => Ok(Value::EmptyText),
-        Pieces::Mixed => Ok(Value::Plain),
+    if template.is_clean() && !may_find_at_quoted(template) {
+        Ok(text_value(template))
+    } else {
+        Err(AllocError)
     }
 }
 

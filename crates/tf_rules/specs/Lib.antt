@@ -12,5 +12,6 @@ pub mod Rules
 pub mod SnakeCase
 pub mod Trivia
 pub mod Spelling
+pub mod Summaries
 pub mod Unbroken
 pub mod ValidFindings

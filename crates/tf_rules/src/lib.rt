@@ -14,6 +14,7 @@ mod rules;
 mod snake_case;
 mod snake_units;
 mod spelling;
+mod summary;
 mod trivia;
 mod unbroken;
 
@@ -26,8 +27,9 @@ pub use rule_set::RuleSet;
 pub use rules::comment_syntax::check_comment;
 pub use rules::{
     add_top_level_findings, add_top_level_member_findings, check_expr, check_tail,
-    check_term_beyond,
+    check_term_beyond, may_find_at_call, may_find_at_operand, may_find_at_quoted,
 };
 pub use snake_case::is_snake_case;
 pub use spelling::{is_spelled, name_text, token_text};
+pub use summary::{Count, Pieces, Value};
 pub use unbroken::Unbroken;

@@ -4,6 +4,7 @@
 ghost use Rattle.std.specs.Prelude.{◌≡◌, ◌++◌, OnOk, length};
 ghost use Rattle.tf_rules.specs.Rules.{node_findings, top_level_block_findings};
 ghost use Rattle.tf_rules.specs.Rules.{top_level_member_findings, top_level_findings};
+ghost use Rattle.tf_rules.specs.Rules.{may_find_at_call, may_find_at_quoted, may_find_at_operand};
 ghost use Rattle.tf_rules.specs.Preorder.{expr, term, tail};
 ghost use Rattle.tf_rules.specs.Findings.{valid_findings};
 ghost use Rattle.tf_rules.specs.Unbroken.{AreUnbroken};
@@ -18,9 +19,10 @@ pub mod naming;
 
 use crate::context::LintContext;
 use crate::role::Role;
+use crate::summary::{Count, Pieces, Value};
 use crate::unbroken::Unbroken;
 use crate::{Finding, RuleSet};
-use hcl_grammar::tree::{Block, Expr, Member, Tail, Term, Tree};
+use hcl_grammar::tree::{Block, Expr, ExprKind, Member, Primary, Tail, Term, Tree};
 use hcl_scan::Scanned;
 use std::alloc::AllocError;
 
@@ -40,7 +42,16 @@ pub fn check_expr(
         ++ valid_findings (length cx.now.scanned.now.pairs)
         (node_findings cx.now.rules cx.now.scanned.now.pairs (expr role e.now))) }
 {
-    equality::check(cx, e, found)
+    match &e.kind {
+        ExprKind::Conditional(_, _, _) => Ok(()),
+        ExprKind::Binary(head, operations) => {
+            let operations = operations.get().as_slice();
+            equality::check(cx, e.first, head.get(), operations, found)
+        }
+        ExprKind::Unary(_, _) => Ok(()),
+        ExprKind::Postfix(_, _) => Ok(()),
+        ExprKind::Term(_) => Ok(()),
+    }
 }
 
 /// Adds what the rules find at a term. `role` is the role of the expression if it is this term
@@ -64,9 +75,21 @@ pub fn check_term_beyond(
         (node_findings cx.now.rules cx.now.scanned.now.pairs (term role t.now))) }
     ensures unbroken { AreUnbroken cx.now.scanned.now.pairs unbroken.new.first unbroken.new.past }
 {
-    interpolation::check(cx, unbroken, role, t, found)?;
-    lookup::check(cx, unbroken, t, found)?;
-    Ok(())
+    let (first, past) = (t.first, t.past);
+    match &t.kind {
+        Primary::Number => Ok(()),
+        Primary::Identifier => Ok(()),
+        Primary::Call(c) => lookup::check(cx, unbroken, first, past, c.get(), found),
+        Primary::Tuple(_) => Ok(()),
+        Primary::Object(_) => Ok(()),
+        Primary::ForTuple(_) => Ok(()),
+        Primary::ForObject(_) => Ok(()),
+        Primary::Quoted(text) => {
+            interpolation::check(cx, unbroken, role, first, past, text.get(), found)
+        }
+        Primary::Heredoc(_) => Ok(()),
+        Primary::Parens(_) => Ok(()),
+    }
 }
 
 /// Adds what the rules find at a tail of a term. `splat` says that `.*` precedes it, with only
@@ -86,7 +109,43 @@ pub fn check_tail(
         ++ valid_findings (length cx.now.scanned.now.pairs)
         (node_findings cx.now.rules cx.now.scanned.now.pairs (tail splat t.now))) }
 {
-    index::check(cx, splat, t, found)
+    match t {
+        Tail::Name(_) => Ok(()),
+        Tail::LegacyIndex(n) => index::check(cx, splat, *n, found),
+        Tail::AttributeSplat => Ok(()),
+        Tail::FullSplat => Ok(()),
+        Tail::Index(_) => Ok(()),
+    }
+}
+
+/// Whether a rule may find something at a call of the function that token `name` names, if its name
+/// is one token, with so many arguments, of which the last is expanded.
+#[inline(always)]
+pub fn may_find_at_call(
+    scanned: &Scanned<'_>,
+    name: Option<u32>,
+    arguments: Count,
+    expands: bool,
+) -> bool
+    ensures { result ≡ may_find_at_call scanned.now.pairs name arguments expands }
+{
+    lookup::may_find(scanned, name, arguments, expands)
+}
+
+/// Whether a rule may find something at quoted text with these parts.
+#[inline(always)]
+pub fn may_find_at_quoted(parts: Pieces) -> bool
+    ensures { result ≡ may_find_at_quoted parts }
+{
+    interpolation::may_find(parts)
+}
+
+/// Whether a rule may find something at an operator one of whose operands has this summary.
+#[inline(always)]
+pub fn may_find_at_operand(operand: Value) -> bool
+    ensures { result ≡ may_find_at_operand operand }
+{
+    equality::may_find(operand)
 }
 
 /// Adds what the rules of the set find at a block of a text's body.

@@ -1,5 +1,5 @@
 -- The tokens of what the rules name in a derived node are in order, within the text.
-use Rattle.std.proofs.Common.{◌≡◌, ℕ, zero, suc, ◌+◌, ◌<◌, ◌≤◌, Bool, true, false, List, [], ◌∷◌, length, slice_get, Option, Some, sym, ap, ◌∙◌, subst, arith}
+use Rattle.std.proofs.Common.{◌≡◌, ℕ, zero, suc, ◌+◌, ◌<◌, ◌≤◌, Bool, true, false, List, [], ◌∷◌, length, slice_get, Option, Some, None, sym, ap, ◌∙◌, subst, arith}
 use Rattle.std.specs.Option.{option_map}
 use Rattle.hcl_token.specs.declared.kind.Kind.{Kind}
 use Rattle.hcl_token.specs.declared.kind.Kind.TheVariants as k
@@ -27,6 +27,7 @@ use Rattle.hcl_grammar.specs.Bodies.{IsLabels, word_label, text_label, empty_lab
 use Rattle.hcl_grammar.specs.Grammar.{IsExpr, plain, conditional, IsLevel, lowest, level, IsOperations, no_operations, operation, IsUnary, with_operator, post, no_tails, tails, IsTail, by_name, legacy, attribute_splat, full_splat, index, IsTerm, number, identifier, call, tuple, object, for_tuple, for_object, quoted, heredoc, parens, IsArguments, no_arguments, last_argument, spread_argument, argument, IsParts, no_parts, parts, IsPart, quote_text, here_text, interp, if_directive, for_directive}
 use Rattle.hcl_grammar.specs.Lookahead.{NextIs}
 use Rattle.hcl_grammar.specs.Nodes as node
+use Rattle.hcl_grammar.specs.TreeLayers.{PrimaryLayer}
 use Rattle.hcl_grammar.specs.Tokens.{Token, next_index, next_token, next_kind, after_next, first_token_in}
 use Rattle.hcl_grammar_laws.proofs.Opens.{open_conditional, open_chain, open_prefixed, open_tailed, open_plain, open_number, open_identifier, open_call, open_tuple, open_object, open_for_tuple, open_for_object, open_quoted, open_heredoc, open_parens, open_name, open_legacy, open_attribute_splat, open_full_splat, open_index, open_literal, open_if, open_for, call_arguments}
 use Rattle.hcl_grammar_laws.proofs.Placed.{placed_term, placed_level, placed_expr}
@@ -34,8 +35,13 @@ use Rattle.hcl_grammar_laws.proofs.Restart.{own_term}
 use Rattle.hcl_grammar_laws.proofs.RestartBodies.{some_is, attribute_is, block_is, other_member}
 use Rattle.hcl_grammar_laws.proofs.Spans.{Takes, step, loose, both, ahead, span_expr, span_level, span_links, span_unary, span_tails, span_term, span_names, span_labels}
 use Rattle.tf_reuse.proofs.MoveExpressions.{begins_term, begins_level, begins_expr}
-use Rattle.tf_rules.specs.Rules.Interpolation.{sole_part, sole_interpolation, part_interpolation}
+use Rattle.tf_rules.specs.Rules.Interpolation.{sole_part, part_interpolation}
 use Rattle.tf_rules.specs.Arguments.{two_arguments}
+
+-- the expression of the interpolation that is all of a quoted text
+abbrev pub sole_interpolation : PrimaryLayer → Option Expr
+sole_interpolation (Primary-F.Quoted t) = sole_part t.parts
+sole_interpolation _ = None
 
 begins : (ts : List Token) (m : Bool) (i : ℕ) → i ≤ next_index ts m i
 unfolding next_index

@@ -1,20 +1,18 @@
 -- Summaries of nodes, by those of the nodes inside of them.
-use Rattle.std.specs.Prelude.{◌&&◌, ◌||◌, Bool, true, false, Option, Some, None}
-use Rattle.tf_glance.specs.declared.summary.Count.{Count}
-use Rattle.tf_glance.specs.declared.summary.Count.TheVariants as count
+use Rattle.std.specs.Prelude.{◌&&◌, ◌||◌, not, if◌then◌else◌, Bool, true, false, Option, Some, None}
 use Rattle.tf_glance.specs.declared.summary.BodyContent.{BodyContent}
 use Rattle.tf_glance.specs.declared.summary.Piece.{Piece}
 use Rattle.tf_glance.specs.declared.summary.Piece.TheVariants as piece
-use Rattle.tf_glance.specs.declared.summary.Pieces.{Pieces}
-use Rattle.tf_glance.specs.declared.summary.Pieces.TheVariants as pieces
-use Rattle.tf_glance.specs.declared.summary.Value.{Value}
-use Rattle.tf_glance.specs.declared.summary.Value.TheVariants as value
+use Rattle.tf_rules.specs.Rules.{may_find_at_operand, may_find_at_quoted}
+use Rattle.tf_rules.specs.Summaries.{is_clean, is_clean_pieces, text_value}
+use Rattle.tf_rules.specs.declared.summary.Count.{Count}
+use Rattle.tf_rules.specs.declared.summary.Count.TheVariants as count
+use Rattle.tf_rules.specs.declared.summary.Pieces.{Pieces}
+use Rattle.tf_rules.specs.declared.summary.Pieces.TheVariants as pieces
+use Rattle.tf_rules.specs.declared.summary.Value.{Value}
+use Rattle.tf_rules.specs.declared.summary.Value.TheVariants as value
 
 -- ---- expressions
-
-abbrev pub is_clean : Value → Bool
-is_clean value.Suspect = false
-is_clean _ = true
 
 abbrev pub is_clean_option : Option Value → Bool
 is_clean_option None = true
@@ -24,11 +22,8 @@ abbrev pub plain_if : Bool → Value
 plain_if true = value.Plain
 plain_if false = value.Suspect
 
--- an operand: the rule on comparisons finds an empty list
 abbrev pub is_clean_operand : Value → Bool
-is_clean_operand value.Suspect = false
-is_clean_operand value.EmptyList = false
-is_clean_operand _ = true
+is_clean_operand x = is_clean x && not (may_find_at_operand x)
 
 -- a description: the rule on descriptions finds an empty text
 abbrev pub is_clean_description : Value → Bool
@@ -37,14 +32,6 @@ is_clean_description value.EmptyText = false
 is_clean_description _ = true
 
 -- ---- how many there are
-
-abbrev pub is_clean_count : Count → Bool
-is_clean_count count.Suspect = false
-is_clean_count _ = true
-
-abbrev pub is_two : Count → Bool
-is_two count.Two = true
-is_two _ = false
 
 abbrev pub next_count : Count → Count
 next_count count.Suspect = count.Suspect
@@ -59,10 +46,7 @@ add_one n false = count.Suspect
 
 -- the first operand of operators
 abbrev pub first_operand : Value → Value
-first_operand value.Suspect = value.Suspect
-first_operand value.Plain = value.Plain
-first_operand value.EmptyList = value.Suspect
-first_operand value.EmptyText = value.EmptyText
+first_operand x = if is_clean_operand x then x else value.Suspect
 
 -- an operand and the operators that follow it
 abbrev pub chain : Value → Count → Value
@@ -77,10 +61,6 @@ tuple _ = value.Plain
 
 -- ---- templates
 
-abbrev pub is_clean_pieces : Pieces → Bool
-is_clean_pieces pieces.Suspect = false
-is_clean_pieces _ = true
-
 abbrev pub is_clean_pieces_option : Option Pieces → Bool
 is_clean_pieces_option None = true
 is_clean_pieces_option (Some x) = is_clean_pieces x
@@ -93,12 +73,8 @@ add_piece pieces.Empty piece.Interpolation = pieces.Sole
 add_piece _ piece.Suspect = pieces.Suspect
 add_piece _ _ = pieces.Mixed
 
--- quoted text: the rule on interpolations finds one that is all of it
 abbrev pub quoted : Pieces → Value
-quoted pieces.Suspect = value.Suspect
-quoted pieces.Sole = value.Suspect
-quoted pieces.Empty = value.EmptyText
-quoted pieces.Mixed = value.Plain
+quoted x = if is_clean_pieces x && not (may_find_at_quoted x) then text_value x else value.Suspect
 
 abbrev pub interpolation : Bool → Piece
 interpolation true = piece.Interpolation

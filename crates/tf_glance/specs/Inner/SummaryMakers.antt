@@ -1,26 +1,26 @@
--- The makers of the summary of each node. A rule's part is at the nodes that it looks at: there the
--- summary is suspect, unless the rule finds nothing.
-use Rattle.std.specs.Prelude.{ℕ, not, ◌&&◌, ◌||◌, if◌then◌else◌, Bool, true, false, List, [], ◌∷◌}
+-- The makers of the summary of each node. Where a rule of tf_rules may find something, by the
+-- summaries of the node's parts, the node is suspect.
+use Rattle.std.specs.Prelude.{ℕ, not, ◌&&◌, ◌||◌, if◌then◌else◌, Bool, true, false, List}
 use Rattle.std.specs.Prelude.{Option, Some, None, codes, refl}
 use Rattle.std.specs.Str.{bytes_eq}
 use Rattle.hcl_grammar.specs.Pure.Makers.{Types, Makers}
 use Rattle.hcl_token.specs.Tokens.{Pair}
 use Rattle.tf_glance.specs.Inner.Summary as summary
-use Rattle.tf_glance.specs.Inner.Summary.{is_clean, is_clean_option, plain_if, is_clean_operand}
-use Rattle.tf_glance.specs.Inner.Summary.{is_clean_description, is_clean_count, is_two, add_one}
-use Rattle.tf_glance.specs.Inner.Summary.{is_clean_pieces, is_clean_pieces_option}
-use Rattle.tf_glance.specs.declared.summary.Count.{Count}
-use Rattle.tf_glance.specs.declared.summary.Count.TheVariants as count
+use Rattle.tf_glance.specs.Inner.Summary.{is_clean_option, plain_if, is_clean_operand, add_one}
+use Rattle.tf_glance.specs.Inner.Summary.{is_clean_description, is_clean_pieces_option}
 use Rattle.tf_glance.specs.declared.summary.BodyContent.{BodyContent}
 use Rattle.tf_glance.specs.declared.summary.Piece.{Piece}
 use Rattle.tf_glance.specs.declared.summary.Piece.TheVariants as piece
-use Rattle.tf_glance.specs.declared.summary.Pieces.{Pieces}
-use Rattle.tf_glance.specs.declared.summary.Pieces.TheVariants as pieces
-use Rattle.tf_glance.specs.declared.summary.Value.{Value}
-use Rattle.tf_glance.specs.declared.summary.Value.TheVariants as value
 use Rattle.tf_glance.specs.declared.block_type.BlockType.{BlockType}
 use Rattle.tf_glance.specs.declared.block_type.BlockType.TheVariants as block_type
-use Rattle.tf_rules.specs.Rules.Lookup.{is_lookup}
+use Rattle.tf_rules.specs.Rules.{may_find_at_call}
+use Rattle.tf_rules.specs.Summaries.{is_clean, is_clean_count, is_clean_pieces}
+use Rattle.tf_rules.specs.declared.summary.Count.{Count}
+use Rattle.tf_rules.specs.declared.summary.Count.TheVariants as count
+use Rattle.tf_rules.specs.declared.summary.Pieces.{Pieces}
+use Rattle.tf_rules.specs.declared.summary.Pieces.TheVariants as pieces
+use Rattle.tf_rules.specs.declared.summary.Value.{Value}
+use Rattle.tf_rules.specs.declared.summary.Value.TheVariants as value
 use Rattle.tf_rules.specs.SnakeCase.{is_snake_case}
 use Rattle.tf_rules.specs.Spelling.{token_text, name_text}
 
@@ -103,7 +103,7 @@ summary_types = record {
   Term = Value;
   Tail = Bool;
   Tails = Bool;
-  Names = Bool;
+  Names = Option ℕ;
   Elements = Bool;
   Intro = Bool;
   Template = Pieces;
@@ -123,7 +123,6 @@ summary_types = record {
 abbrev pub summaries : List Pair → BlockType → Makers summary_types
 summaries pairs assumed = record {
   conditional = λ _ _ c x y. plain_if (is_clean c && (is_clean x && is_clean y));
-  -- the rule on comparisons
   chain = summary.chain;
   no_operations = count.Zero;
   add_operation = λ xs _ x. add_one xs (is_clean_operand x);
@@ -140,11 +139,9 @@ summaries pairs assumed = record {
   index = λ x. is_clean x;
   number = λ _ _. value.Plain;
   identifier = λ _ _. value.Plain;
-  -- the rule on `lookup`
-  call = λ _ _ names xs more.
-      plain_if (is_clean_count xs && not (names && (is_two xs && not more)));
-  first_name = λ n. is_lookup pairs (n ∷ []);
-  add_name = λ _ _. false;
+  call = λ _ _ name xs more. plain_if (is_clean_count xs && not (may_find_at_call pairs name xs more));
+  first_name = λ n. Some n;
+  add_name = λ _ _. None;
   no_exprs = count.Zero;
   add_expr = λ xs x. add_one xs (is_clean x);
   tuple = λ _ _ xs. summary.tuple xs;
@@ -155,7 +152,6 @@ summaries pairs assumed = record {
   for_tuple = λ _ _ i x condition. plain_if (i && (is_clean x && is_clean_option condition));
   for_object = λ _ _ i key x _ condition.
       plain_if (i && (is_clean key && (is_clean x && is_clean_option condition)));
-  -- the rule on interpolations
   quoted = λ _ _ x. summary.quoted x;
   heredoc = λ _ _ x. plain_if (is_clean_pieces x);
   parens = λ _ _ x. plain_if (is_clean x);

@@ -14,6 +14,8 @@ use Rattle.tf_rules.specs.declared.fix.Fix.{Fix}
 use Rattle.tf_rules.specs.declared.fix.Insertion.TheVariants.{Length, IsZero, IsPositive}
 use Rattle.tf_rules.specs.Fixes.{kept, keep_one, when}
 use Rattle.tf_rules.specs.declared.rule.Rule.TheVariants.{EmptyListEquality}
+use Rattle.tf_rules.specs.declared.summary.Value.{Value}
+use Rattle.tf_rules.specs.declared.summary.Value.TheVariants as value
 use Rattle.tf_rules.specs.Findings.{plain_message, finding_at}
 use Rattle.tf_rules.specs.declared.finding.Finding.{Finding}
 use Rattle.hcl_grammar.specs.TreeLayers.{ExprKindLayer, PrimaryLayer}
@@ -117,6 +119,7 @@ chain_findings pairs first is_first left (link ∷ links) =
     operation_findings pairs first is_first left link
     ++ chain_findings pairs first false link.operand links
 
-abbrev pub equality_findings : List Pair → ℕ → ExprKindLayer → List Finding
-equality_findings pairs first (ExprKind-F.Binary head links) = chain_findings pairs first true head links
-equality_findings pairs first _ = []
+-- it may find something at an operator one of whose operands has this summary
+abbrev pub may_find : Value → Bool
+may_find value.EmptyList = true
+may_find _ = false

@@ -4,8 +4,9 @@ use Rattle.std.specs.Prelude.{ℕ, ◌+◌, ◌-◌, not, ◌&&◌, ◌||◌, if
 use Rattle.std.specs.Prelude.{Option, Some, None}
 use Rattle.hcl_grammar.specs.declared.tree.Expr.{Expr}
 use Rattle.hcl_grammar.specs.declared.tree.ExprKind.{out-ExprKind}
-use Rattle.hcl_grammar.specs.declared.tree.ExprKind.TheOpen.{ExprKind-F, Primary-F, Part-F}
+use Rattle.hcl_grammar.specs.declared.tree.ExprKind.TheOpen.{ExprKind-F, Part-F}
 use Rattle.hcl_grammar.specs.declared.tree.Part.{Part, out-Part}
+use Rattle.hcl_grammar.specs.declared.tree.Template.{Template}
 use Rattle.hcl_token.specs.Tokens.{Pair}
 use Rattle.tf_rules.specs.declared.finding.Finding.{Finding}
 use Rattle.tf_rules.specs.declared.fix.Insertion.TheVariants.{Nothing}
@@ -14,7 +15,9 @@ use Rattle.tf_rules.specs.declared.rule.Rule.TheVariants.{DeprecatedInterpolatio
 use Rattle.tf_rules.specs.Findings.{plain_message, finding_at}
 use Rattle.tf_rules.specs.declared.role.Role.{Role}
 use Rattle.tf_rules.specs.declared.role.Role.TheVariants.{ObjectKey, Elsewhere}
-use Rattle.hcl_grammar.specs.TreeLayers.{ExprKindLayer, PrimaryLayer, PartLayer}
+use Rattle.tf_rules.specs.declared.summary.Pieces.{Pieces}
+use Rattle.tf_rules.specs.declared.summary.Pieces.TheVariants as pieces
+use Rattle.hcl_grammar.specs.TreeLayers.{ExprKindLayer, PartLayer}
 use Rattle.tf_rules.specs.Trivia.{token_range, has_line_end}
 
 -- a term with its tails, if any: no operator and no conditional
@@ -36,11 +39,6 @@ abbrev pub sole_part : List Part → Option Expr
 sole_part [] = None
 sole_part (x ∷ []) = part_interpolation (out-Part x)
 sole_part (x ∷ y ∷ xs) = None
-
--- the expression of the interpolation that is all of a quoted text
-abbrev pub sole_interpolation : PrimaryLayer → Option Expr
-sole_interpolation (Primary-F.Quoted t) = sole_part t.parts
-sole_interpolation _ = None
 
 abbrev pub is_object_key : Role → Bool
 is_object_key ObjectKey = true
@@ -67,3 +65,11 @@ interpolation_findings pairs role first past (Some e) =
     else finding_at DeprecatedInterpolation first past plain_message
     (when (is_interpolation_fixable pairs role first past e)
     (keep_one Nothing (kept (first + 2) (past - 2) Nothing)))
+
+abbrev pub quoted_findings : List Pair → Role → ℕ → ℕ → Template → List Finding
+quoted_findings pairs role first past t = interpolation_findings pairs role first past (sole_part t.parts)
+
+-- it may find something at quoted text with these parts
+abbrev pub may_find : Pieces → Bool
+may_find pieces.Sole = true
+may_find _ = false

@@ -1,11 +1,10 @@
 -- Calls of `lookup` with two arguments. TFLint ruleset for the Terraform language,
 -- terraform_deprecated_lookup.
-use Rattle.std.specs.Prelude.{ℕ, not, ◌&&◌, ◌||◌, Bool, true, false, List, [], ◌∷◌, Option, Some, None}
+use Rattle.std.specs.Prelude.{ℕ, not, ◌&&◌, ◌||◌, Bool, true, false, List, [], Option, Some, None}
 use Rattle.std.specs.Prelude.{if◌then◌else◌, codes}
-use Rattle.hcl_grammar.specs.declared.tree.Call.{out-Call}
 use Rattle.hcl_grammar.specs.declared.tree.Expr.{Expr}
 use Rattle.hcl_grammar.specs.declared.tree.ExprKind.{out-ExprKind}
-use Rattle.hcl_grammar.specs.declared.tree.ExprKind.TheOpen.{ExprKind-F, Primary-F, Tail-F}
+use Rattle.hcl_grammar.specs.declared.tree.ExprKind.TheOpen.{ExprKind-F, Tail-F}
 use Rattle.hcl_grammar.specs.declared.tree.Tail.{Tail, out-Tail}
 use Rattle.hcl_token.specs.TokenizedText.{spelling_of}
 use Rattle.hcl_token.specs.Tokens.{Pair}
@@ -16,8 +15,9 @@ use Rattle.tf_rules.specs.declared.rule.Rule.TheVariants.{DeprecatedLookup}
 use Rattle.tf_rules.specs.Findings.{plain_message, finding_at}
 use Rattle.tf_rules.specs.declared.finding.Finding.{Finding}
 use Rattle.std.specs.List.{list_any}
-use Rattle.tf_rules.specs.Arguments.{two_arguments}
-use Rattle.hcl_grammar.specs.TreeLayers.{ExprKindLayer, PrimaryLayer, TailLayer, CallLayer}
+use Rattle.tf_rules.specs.Arguments.{sole_name, two_arguments, is_two}
+use Rattle.tf_rules.specs.declared.summary.Count.{Count}
+use Rattle.hcl_grammar.specs.TreeLayers.{ExprKindLayer, TailLayer, CallLayer}
 use Rattle.tf_rules.specs.Trivia.{token_range, has_trivia, has_line_end_or_comment}
 
 abbrev pub is_splat_tail : TailLayer → Bool
@@ -37,14 +37,17 @@ is_indexable_kind (ExprKind-F.Postfix t tails) = not (has_splat tails)
 is_indexable_kind (ExprKind-F.Term t) = true
 is_indexable_kind _ = false
 
--- the token is the only name, and is `lookup`
+-- the name is one token, and is `lookup`
 abbrev pub is_lookup_token : Option (List ℕ) → Bool
 is_lookup_token None = false
 is_lookup_token (Some spelling) = bytes_eq spelling (codes "lookup")
 
+abbrev pub is_lookup_name : List Pair → Option ℕ → Bool
+is_lookup_name pairs None = false
+is_lookup_name pairs (Some n) = is_lookup_token (spelling_of pairs n)
+
 abbrev pub is_lookup : List Pair → List ℕ → Bool
-is_lookup pairs (n ∷ []) = is_lookup_token (spelling_of pairs n)
-is_lookup pairs _ = false
+is_lookup pairs names = is_lookup_name pairs (sole_name names)
 
 -- No comment and no line end is in the call outside of its arguments, and an index can follow the
 -- first argument.
@@ -68,6 +71,6 @@ call_findings pairs first past c =
     if c.expand_final || not (is_lookup pairs c.names) then []
     else pair_findings pairs first past (two_arguments c.arguments)
 
-abbrev pub lookup_findings : List Pair → ℕ → ℕ → PrimaryLayer → List Finding
-lookup_findings pairs first past (Primary-F.Call c) = call_findings pairs first past (out-Call c)
-lookup_findings pairs first past _ = []
+-- it may find something at a call of this name, if it is one token, with so many arguments
+abbrev pub may_find : List Pair → Option ℕ → Count → Bool → Bool
+may_find pairs name arguments expands = is_two arguments && (not expands && is_lookup_name pairs name)

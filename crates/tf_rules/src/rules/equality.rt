@@ -2,9 +2,8 @@
 
 ghost use Rattle.std.specs.Prelude.{◌≡◌, ◌++◌, ◌+◌, ◌-◌, ◌==◌, ◌&&◌, not, true, OnOk, length, []};
 ghost use Rattle.std.specs.Prelude.{if◌then◌else◌};
-ghost use Rattle.hcl_grammar.specs.declared.tree.ExprKind.{out-ExprKind};
 ghost use Rattle.tf_rules.specs.Rules.Equality.{is_empty_list, is_equality, is_equal, length_fix};
-ghost use Rattle.tf_rules.specs.Rules.Equality.{operation_findings, chain_findings, equality_findings};
+ghost use Rattle.tf_rules.specs.Rules.Equality.{operation_findings, chain_findings, may_find};
 ghost use Rattle.tf_rules.specs.Fixes.{when};
 ghost use Rattle.tf_rules.specs.declared.rule.Rule.TheVariants.{EmptyListEquality};
 ghost use Rattle.tf_rules.specs.RuleSets.{has_rule};
@@ -12,6 +11,7 @@ ghost use Rattle.tf_rules.specs.Findings.{plain_message, finding_at, valid_findi
 ghost use Rattle.tf_rules.specs.Trivia.{token_range, has_trivia, is_here_close};
 
 use crate::context::LintContext;
+use crate::summary::Value;
 use crate::trivia::{has_trivia, is_here_close};
 use crate::{Finding, Fix, Insertion, KeptTokens, Message, Rule};
 use hcl_grammar::tree::{BinaryOperator, Expr, ExprKind, Operation, Primary};
@@ -161,45 +161,35 @@ fn check_chain(
     Ok(())
 }
 
-/// Adds the comparisons in an expression of this kind, which begins at token `first`.
-fn check_kind(
+/// Adds the comparisons with an empty list at the operators of a chain that begins at token `first`,
+/// if the rule is enabled.
+pub fn check(
     cx: &LintContext<'_, '_>,
     first: u32,
-    kind: &ExprKind,
+    head: &Expr,
+    operations: &[Operation],
     found: &mut Vec<Finding>,
 ) -> Result<(), AllocError>
     ensures { OnOk result
         (found.new.items ≡ found.old.items
         ++ valid_findings (length cx.now.scanned.now.pairs)
-        (equality_findings cx.now.scanned.now.pairs first (out-ExprKind kind.now))) }
-{
-    match kind {
-        ExprKind::Conditional(_, _, _) => Ok(()),
-        ExprKind::Binary(head, operations) => check_chain(
-            cx,
-            first,
-            head.get(),
-            operations.get().as_slice(),
-            found,
-        ),
-        ExprKind::Unary(_, _) => Ok(()),
-        ExprKind::Postfix(_, _) => Ok(()),
-        ExprKind::Term(_) => Ok(()),
-    }
-}
-
-/// Adds the comparisons with an empty list at the operators of an expression, if the rule is
-/// enabled.
-pub fn check(cx: &LintContext<'_, '_>, e: &Expr, found: &mut Vec<Finding>) -> Result<(), AllocError>
-    ensures { OnOk result
-        (found.new.items ≡ found.old.items
-        ++ valid_findings (length cx.now.scanned.now.pairs)
         ((if has_rule cx.now.rules EmptyListEquality
-        then equality_findings cx.now.scanned.now.pairs e.now.first (out-ExprKind e.now.kind)
+        then chain_findings cx.now.scanned.now.pairs first true head.now operations.now
         else []))) }
 {
     if !cx.rules.has(Rule::EmptyListEquality) {
         return Ok(());
     }
-    check_kind(cx, e.first, &e.kind, found)
+    check_chain(cx, first, head, operations, found)
+}
+
+/// Whether the rule may find something at an operator one of whose operands has this summary.
+#[inline(always)]
+pub fn may_find(operand: Value) -> bool
+    ensures { result ≡ may_find operand }
+{
+    match operand {
+        Value::EmptyList => true,
+        _ => false,
+    }
 }

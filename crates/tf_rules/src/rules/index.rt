@@ -1,8 +1,6 @@
 //! Legacy indices.
 
 ghost use Rattle.std.specs.Prelude.{◌≡◌, ◌++◌, OnOk, length, [], if◌then◌else◌};
-ghost use Rattle.hcl_grammar.specs.declared.tree.ExprKind.TheOpen.{Tail-F};
-ghost use Rattle.hcl_grammar.specs.declared.tree.Tail.{out-Tail};
 ghost use Rattle.tf_rules.specs.Rules.Index.{index_findings};
 ghost use Rattle.tf_rules.specs.RuleSets.{has_rule};
 ghost use Rattle.tf_rules.specs.declared.rule.Rule.TheVariants.{DeprecatedIndex};
@@ -10,29 +8,7 @@ ghost use Rattle.tf_rules.specs.Findings.{valid_findings};
 
 use crate::context::LintContext;
 use crate::{Finding, Fix, Insertion, Message, Rule};
-use hcl_grammar::tree::Tail;
 use std::alloc::AllocError;
-
-/// Adds a tail that is a legacy index. `splat` says that it follows `.*`.
-fn check_tail(
-    cx: &LintContext<'_, '_>,
-    splat: bool,
-    t: &Tail,
-    found: &mut Vec<Finding>,
-) -> Result<(), AllocError>
-    ensures { OnOk result
-        (found.new.items ≡ found.old.items
-        ++ valid_findings (length cx.now.scanned.now.pairs)
-        (index_findings cx.now.scanned.now.pairs splat (out-Tail t.now))) }
-{
-    match t {
-        Tail::Name(_) => Ok(()),
-        Tail::LegacyIndex(n) => check_legacy_index(cx, splat, *n, found),
-        Tail::AttributeSplat => Ok(()),
-        Tail::FullSplat => Ok(()),
-        Tail::Index(_) => Ok(()),
-    }
-}
 
 /// Adds the legacy index that is token `n`.
 fn check_legacy_index(
@@ -44,7 +20,7 @@ fn check_legacy_index(
     ensures { OnOk result
         (found.new.items ≡ found.old.items
         ++ valid_findings (length cx.now.scanned.now.pairs)
-        (index_findings cx.now.scanned.now.pairs splat (Tail-F.LegacyIndex n))) }
+        (index_findings cx.now.scanned.now.pairs splat n)) }
 {
     if n >= cx.scanned.count() {
         return Ok(());
@@ -57,21 +33,22 @@ fn check_legacy_index(
     cx.report(Rule::DeprecatedIndex, n, n + 1, Message::PLAIN, fix, found)
 }
 
-/// Adds a tail that is a legacy index, if the rule is enabled. `splat` says that it follows `.*`.
+/// Adds the legacy index that is token `n`, if the rule is enabled. `splat` says that it follows
+/// `.*`.
 pub fn check(
     cx: &LintContext<'_, '_>,
     splat: bool,
-    t: &Tail,
+    n: u32,
     found: &mut Vec<Finding>,
 ) -> Result<(), AllocError>
     ensures { OnOk result
         (found.new.items ≡ found.old.items
         ++ valid_findings (length cx.now.scanned.now.pairs)
         ((if has_rule cx.now.rules DeprecatedIndex
-        then index_findings cx.now.scanned.now.pairs splat (out-Tail t.now) else []))) }
+        then index_findings cx.now.scanned.now.pairs splat n else []))) }
 {
     if !cx.rules.has(Rule::DeprecatedIndex) {
         return Ok(());
     }
-    check_tail(cx, splat, t, found)
+    check_legacy_index(cx, splat, n, found)
 }

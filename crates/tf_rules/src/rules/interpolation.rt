@@ -3,9 +3,8 @@
 ghost use Rattle.std.specs.Prelude.{◌≡◌, ◌++◌, ◌+◌, ◌-◌, false, Some, OnOk, option_map, length, ◌∷◌, []};
 ghost use Rattle.std.specs.Prelude.{if◌then◌else◌};
 ghost use Rattle.hcl_grammar.specs.declared.tree.Part.{out-Part};
-ghost use Rattle.hcl_grammar.specs.declared.tree.Primary.{out-Primary};
 ghost use Rattle.tf_rules.specs.Rules.Interpolation.{is_post, is_object_key, is_elsewhere, sole_part};
-ghost use Rattle.tf_rules.specs.Rules.Interpolation.{sole_interpolation, part_interpolation};
+ghost use Rattle.tf_rules.specs.Rules.Interpolation.{part_interpolation, quoted_findings, may_find};
 ghost use Rattle.tf_rules.specs.Rules.Interpolation.{is_interpolation_fixable, interpolation_findings};
 ghost use Rattle.tf_rules.specs.Trivia.{token_range, has_line_end};
 ghost use Rattle.tf_rules.specs.Unbroken.{AreUnbroken};
@@ -15,9 +14,10 @@ ghost use Rattle.tf_rules.specs.declared.rule.Rule.TheVariants.{DeprecatedInterp
 
 use crate::context::LintContext;
 use crate::role::Role;
+use crate::summary::Pieces;
 use crate::unbroken::{Unbroken, has_line_break_beyond};
 use crate::{Finding, Fix, Insertion, KeptTokens, Message, Rule};
-use hcl_grammar::tree::{Expr, ExprKind, Part, Primary, Term};
+use hcl_grammar::tree::{Expr, ExprKind, Part, Template};
 use std::alloc::AllocError;
 
 /// Whether an expression of this role is the key of an object.
@@ -37,25 +37,6 @@ fn is_elsewhere(role: Role) -> bool
     match role {
         Role::Elsewhere => true,
         _ => false,
-    }
-}
-
-/// Returns the expression of the interpolation that is all of quoted text, or `None` if the term
-/// is not quoted text or has other parts.
-fn sole_interpolation(primary: &Primary) -> Option<&Expr>
-    ensures { option_map (λ e. e.now) result ≡ sole_interpolation (out-Primary primary.now) }
-{
-    match primary {
-        Primary::Number => None,
-        Primary::Identifier => None,
-        Primary::Call(_) => None,
-        Primary::Tuple(_) => None,
-        Primary::Object(_) => None,
-        Primary::ForTuple(_) => None,
-        Primary::ForObject(_) => None,
-        Primary::Quoted(t) => sole_part(t.get().parts.as_slice()),
-        Primary::Heredoc(_) => None,
-        Primary::Parens(_) => None,
     }
 }
 
@@ -109,29 +90,26 @@ fn report(
     cx.report(rule, first, past, Message::PLAIN, fix, found)
 }
 
-/// Adds a term that is quoted text with one interpolation and nothing else, but for the key of an
-/// object.
-fn check_term(
+/// Adds quoted text with one interpolation and nothing else, but for the key of an object.
+fn check_quoted(
     cx: &LintContext<'_, '_>,
     unbroken: &mut Unbroken,
     role: Role,
-    t: &Term,
+    first: u32,
+    past: u32,
+    t: &Template,
     found: &mut Vec<Finding>,
 ) -> Result<(), AllocError>
     requires { AreUnbroken cx.now.scanned.now.pairs unbroken.old.first unbroken.old.past }
     ensures found { OnOk result
         (found.new.items ≡ found.old.items
         ++ valid_findings (length cx.now.scanned.now.pairs)
-        (interpolation_findings cx.now.scanned.now.pairs role t.now.first t.now.past
-        (sole_interpolation (out-Primary t.now.kind)))) }
+        (quoted_findings cx.now.scanned.now.pairs role first past t.now)) }
     ensures unbroken { AreUnbroken cx.now.scanned.now.pairs unbroken.new.first unbroken.new.past }
 {
-    match sole_interpolation(&t.kind) {
+    match sole_part(t.parts.as_slice()) {
         None => Ok(()),
-        Some(e) => {
-            let (first, past) = (t.first, t.past);
-            check_interpolation(cx, unbroken, role, first, past, e, found)
-        }
+        Some(e) => check_interpolation(cx, unbroken, role, first, past, e, found),
     }
 }
 
@@ -214,13 +192,15 @@ fn has_line_break_inside(
     has_line_break_beyond(unbroken, cx.scanned, false, first + 2, past - 2)
 }
 
-/// Adds a term that is quoted text with one interpolation and nothing else, but for the key of an
-/// object, if the rule is enabled.
+/// Adds quoted text with one interpolation and nothing else, but for the key of an object, if the
+/// rule is enabled.
 pub fn check(
     cx: &LintContext<'_, '_>,
     unbroken: &mut Unbroken,
     role: Role,
-    t: &Term,
+    first: u32,
+    past: u32,
+    t: &Template,
     found: &mut Vec<Finding>,
 ) -> Result<(), AllocError>
     requires { AreUnbroken cx.now.scanned.now.pairs unbroken.old.first unbroken.old.past }
@@ -228,12 +208,22 @@ pub fn check(
         (found.new.items ≡ found.old.items
         ++ valid_findings (length cx.now.scanned.now.pairs)
         ((if has_rule cx.now.rules DeprecatedInterpolation
-        then interpolation_findings cx.now.scanned.now.pairs role t.now.first t.now.past
-        (sole_interpolation (out-Primary t.now.kind)) else []))) }
+        then quoted_findings cx.now.scanned.now.pairs role first past t.now else []))) }
     ensures unbroken { AreUnbroken cx.now.scanned.now.pairs unbroken.new.first unbroken.new.past }
 {
     if !cx.rules.has(Rule::DeprecatedInterpolation) {
         return Ok(());
     }
-    check_term(cx, unbroken, role, t, found)
+    check_quoted(cx, unbroken, role, first, past, t, found)
+}
+
+/// Whether the rule may find something at quoted text with these parts.
+#[inline(always)]
+pub fn may_find(parts: Pieces) -> bool
+    ensures { result ≡ may_find parts }
+{
+    match parts {
+        Pieces::Sole => true,
+        _ => false,
+    }
 }

@@ -3,22 +3,22 @@
 ghost use Rattle.std.specs.Prelude.{◌≡◌, ◌++◌, Some, OnOk, option_map, length, [], if◌then◌else◌};
 ghost use Rattle.hcl_grammar.specs.declared.tree.Call.{out-Call};
 ghost use Rattle.hcl_grammar.specs.declared.tree.ExprKind.{out-ExprKind};
-ghost use Rattle.hcl_grammar.specs.declared.tree.Primary.{out-Primary};
 ghost use Rattle.hcl_token.specs.TokenizedText.{spelling_of};
-ghost use Rattle.tf_rules.specs.Arguments.{two_arguments};
+ghost use Rattle.tf_rules.specs.Arguments.{two_arguments, is_two};
 ghost use Rattle.tf_rules.specs.Rules.Lookup.{is_splat, has_splat, is_indexable_kind, is_lookup};
 ghost use Rattle.tf_rules.specs.Rules.Lookup.{is_lookup_token, is_lookup_fixable, pair_findings};
-ghost use Rattle.tf_rules.specs.Rules.Lookup.{call_findings, lookup_findings};
+ghost use Rattle.tf_rules.specs.Rules.Lookup.{call_findings, is_lookup_name, may_find};
 ghost use Rattle.tf_rules.specs.Unbroken.{AreUnbroken};
 ghost use Rattle.tf_rules.specs.RuleSets.{has_rule};
 ghost use Rattle.tf_rules.specs.declared.rule.Rule.TheVariants.{DeprecatedLookup};
 ghost use Rattle.tf_rules.specs.Findings.{valid_findings};
 
 use crate::context::LintContext;
+use crate::summary::Count;
 use crate::trivia::has_trivia;
 use crate::unbroken::{Unbroken, has_line_break_beyond};
 use crate::{Finding, Fix, Insertion, KeptTokens, Message, Rule};
-use hcl_grammar::tree::{Call, Expr, ExprKind, Primary, Tail, Term};
+use hcl_grammar::tree::{Call, Expr, ExprKind, Tail};
 use hcl_scan::Scanned;
 use std::alloc::AllocError;
 
@@ -65,6 +65,26 @@ fn is_lookup(scanned: &Scanned<'_>, names: &[u32]) -> bool
     }
 }
 
+/// Whether a name that is one token is `lookup`.
+fn is_lookup_name(scanned: &Scanned<'_>, name: Option<u32>) -> bool
+    ensures { result ≡ is_lookup_name scanned.now.pairs name }
+{
+    match name {
+        Some(n) => is_lookup_token(scanned, n),
+        None => false,
+    }
+}
+
+/// Whether there are two.
+fn is_two(arguments: Count) -> bool
+    ensures { result ≡ is_two arguments }
+{
+    match arguments {
+        Count::Two => true,
+        _ => false,
+    }
+}
+
 /// Whether a token is spelled `lookup`.
 fn is_lookup_token(scanned: &Scanned<'_>, n: u32) -> bool
     ensures { result ≡ is_lookup_token (spelling_of scanned.now.pairs n) }
@@ -101,38 +121,6 @@ fn is_lookup_fixable(
         && !has_trivia(scanned, first, a.first)
         && !has_trivia(scanned, a.past, b.first)
         && !has_trivia(scanned, b.past, past)
-}
-
-/// Adds a term that is a call of `lookup` with two arguments.
-fn check_term(
-    cx: &LintContext<'_, '_>,
-    unbroken: &mut Unbroken,
-    t: &Term,
-    found: &mut Vec<Finding>,
-) -> Result<(), AllocError>
-    requires { AreUnbroken cx.now.scanned.now.pairs unbroken.old.first unbroken.old.past }
-    ensures found { OnOk result
-        (found.new.items ≡ found.old.items
-        ++ valid_findings (length cx.now.scanned.now.pairs)
-        (lookup_findings cx.now.scanned.now.pairs t.now.first t.now.past
-        (out-Primary t.now.kind))) }
-    ensures unbroken { AreUnbroken cx.now.scanned.now.pairs unbroken.new.first unbroken.new.past }
-{
-    match &t.kind {
-        Primary::Number => Ok(()),
-        Primary::Identifier => Ok(()),
-        Primary::Call(c) => {
-            let (first, past) = (t.first, t.past);
-            check_call(cx, unbroken, first, past, c.get(), found)
-        }
-        Primary::Tuple(_) => Ok(()),
-        Primary::Object(_) => Ok(()),
-        Primary::ForTuple(_) => Ok(()),
-        Primary::ForObject(_) => Ok(()),
-        Primary::Quoted(_) => Ok(()),
-        Primary::Heredoc(_) => Ok(()),
-        Primary::Parens(_) => Ok(()),
-    }
 }
 
 /// Adds a call, if it is one of `lookup` with two arguments.
@@ -197,11 +185,13 @@ fn check_arguments(
     cx.report(rule, first, past, Message::PLAIN, fix, found)
 }
 
-/// Adds a term that is a call of `lookup` with two arguments, if the rule is enabled.
+/// Adds a call, if it is one of `lookup` with two arguments and the rule is enabled.
 pub fn check(
     cx: &LintContext<'_, '_>,
     unbroken: &mut Unbroken,
-    t: &Term,
+    first: u32,
+    past: u32,
+    c: &Call,
     found: &mut Vec<Finding>,
 ) -> Result<(), AllocError>
     requires { AreUnbroken cx.now.scanned.now.pairs unbroken.old.first unbroken.old.past }
@@ -209,12 +199,20 @@ pub fn check(
         (found.new.items ≡ found.old.items
         ++ valid_findings (length cx.now.scanned.now.pairs)
         ((if has_rule cx.now.rules DeprecatedLookup
-        then lookup_findings cx.now.scanned.now.pairs t.now.first t.now.past
-        (out-Primary t.now.kind) else []))) }
+        then call_findings cx.now.scanned.now.pairs first past (out-Call c.now) else []))) }
     ensures unbroken { AreUnbroken cx.now.scanned.now.pairs unbroken.new.first unbroken.new.past }
 {
     if !cx.rules.has(Rule::DeprecatedLookup) {
         return Ok(());
     }
-    check_term(cx, unbroken, t, found)
+    check_call(cx, unbroken, first, past, c, found)
+}
+
+/// Whether the rule may find something at a call of the function that token `name` names, if its
+/// name is one token, with so many arguments.
+#[inline(always)]
+pub fn may_find(scanned: &Scanned<'_>, name: Option<u32>, arguments: Count, expands: bool) -> bool
+    ensures { result ≡ may_find scanned.now.pairs name arguments expands }
+{
+    is_two(arguments) && !expands && is_lookup_name(scanned, name)
 }

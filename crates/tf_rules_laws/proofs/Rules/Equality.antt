@@ -1,12 +1,14 @@
 -- Comparisons with an empty list.
 use Rattle.std.proofs.Common.{◌≡◌, ℕ, ◌==◌, ◌&&◌, Bool, true, false, not, List, [], ◌∷◌, Some, refl, ap, length, arith, ◌+◌, ◌-◌, ◌<◌, nat_lt, nat_le, ◌≤◌}
+use Rattle.std.specs.Prelude.{if◌then◌else◌}
+use Rattle.std.specs.List.{AllByRecursion}
 use Rattle.hcl_grammar.specs.Grammar.{IsExpr}
 use Rattle.hcl_grammar.specs.Nodes as node
 use Rattle.hcl_grammar.specs.Tokens.{Token}
-use Rattle.hcl_grammar.specs.TreeLayers.{ExprKindLayer}
+use Rattle.hcl_grammar.specs.TreeLayers.{ExprKindLayer, PrimaryLayer}
 use Rattle.hcl_grammar.specs.declared.tree.BinaryOperator.{BinaryOperator}
 use Rattle.hcl_grammar.specs.declared.tree.Expr.{Expr}
-use Rattle.hcl_grammar.specs.declared.tree.ExprKind.TheOpen.{ExprKind-F}
+use Rattle.hcl_grammar.specs.declared.tree.ExprKind.TheOpen.{ExprKind-F, Primary-F}
 use Rattle.hcl_grammar.specs.declared.tree.ExprKind.{out-ExprKind, ExprKind}
 use Rattle.hcl_grammar.specs.declared.tree.Operation.{Operation}
 use Rattle.hcl_grammar.specs.declared.tree.Primary.{out-Primary, Primary}
@@ -23,10 +25,14 @@ use Rattle.tf_reuse.proofs.Window.{Here, Same}
 use Rattle.tf_reuse.specs.SameTokens.{SameTokens}
 use Rattle.tf_rules.specs.Findings.{plain_message, finding_at}
 use Rattle.tf_rules.specs.Fixes.{when, is_in_order}
-use Rattle.tf_rules.specs.Rules.Equality.{is_empty_list, is_empty_list_kind, is_empty_list_primary, equality_findings, chain_findings, operation_findings, is_equal, is_equality, length_fix, list_on_right, list_on_left, is_comparison_fixable}
+use Rattle.tf_rules.specs.Rules.Equality.{is_empty_list, is_empty_list_kind, is_empty_list_primary, chain_findings, may_find, operation_findings, is_equal, is_equality, length_fix, list_on_right, list_on_left, is_comparison_fixable}
+use Rattle.tf_rules.specs.Summaries.{value_of, kind_value, primary_value}
 use Rattle.tf_rules.specs.Trivia.{token_range, has_trivia, is_here_close}
+use Rattle.tf_rules.specs.declared.finding.Finding.{Finding}
 use Rattle.tf_rules.specs.declared.fix.Insertion.TheVariants as insertion
 use Rattle.tf_rules.specs.declared.rule.Rule.TheVariants.{EmptyListEquality}
+use Rattle.tf_rules_laws.proofs.Nothing as empty
+use Rattle.tf_rules_laws.proofs.Nothing.{Nothing}
 use Rattle.tf_rules_laws.proofs.OfRule as found
 use Rattle.tf_rules_laws.proofs.OfRule.{From}
 use Rattle.tf_rules_laws.proofs.Order.{Rising, expr_sits, chain_in}
@@ -47,9 +53,8 @@ chain_of_rule : (pairs : List Pair) (first : ℕ) (is_first : Bool) (left : Expr
 chain_of_rule pairs first is_first left [] = found.none
 chain_of_rule pairs first is_first left (l ∷ ls) = found.both (link_of_rule pairs first is_first left l) (chain_of_rule pairs first false l.operand ls)
 
-pub of_rule : (pairs : List Pair) (first : ℕ) (form : ExprKindLayer) → From pairs EmptyListEquality (equality_findings pairs first form)
-of_rule pairs first (ExprKind-F.Binary head links) = chain_of_rule pairs first true head links
-of_rule _ _ _ = found.none
+pub of_rule : (pairs : List Pair) (first : ℕ) (head : Expr) (ls : List Operation) → From pairs EmptyListEquality (chain_findings pairs first true head ls)
+of_rule pairs first head ls = chain_of_rule pairs first true head ls
 
 -- ---- where its tokens are elsewhere too, the same is found
 
@@ -113,19 +118,11 @@ module _ (old new : List Pair) {from to count : ℕ} (w : SameTokens (tokens_of 
       (moves.either (empty_list_moved b) one (moves.either (ap (λ (x : Bool). is_first && x) (empty_list_moved a)) two_arguments moves.none))
       moves.none
 
-  chain_moved : (is_first : Bool) {i i' : ℕ} {left left' : Expr} {ls ls' : List Operation} → Here w i i' → MovedExpr (Here w) (Same w) left left'
+  pub chain_moved : (is_first : Bool) {i i' : ℕ} {left left' : Expr} {ls ls' : List Operation} → Here w i i' → MovedExpr (Here w) (Same w) left left'
       → MovedLinks (Here w) (Same w) ls ls' → Moves old new from to (chain_findings old i is_first left ls) (chain_findings new i' is_first left' ls')
   unfolding node.operation
   chain_moved is_first h a moved.no_links = moves.none
   chain_moved is_first h a (moved.links op b c) = moves.append (link_moved is_first op h a b) (chain_moved false h b c)
-
-  pub equality_moved : {i i' : ℕ} {x x' : ExprKind} → Here w i i' → MovedForm (Here w) (Same w) x x'
-      → Moves old new from to (equality_findings old i (out-ExprKind x)) (equality_findings new i' (out-ExprKind x'))
-  equality_moved h (moved.conditional a b c) = simp (open_conditional) moves.none
-  equality_moved h (moved.chain a b) = simp (open_chain) (chain_moved true h a b)
-  equality_moved h (moved.prefixed op a) = simp (open_prefixed) moves.none
-  equality_moved h (moved.tailed a b) = simp (open_tailed) moves.none
-  equality_moved h (moved.plain a) = simp (open_plain) moves.none
 
 -- ---- over a text that parses, the numbers are in order
 
@@ -161,9 +158,35 @@ chain_is_valid pairs first is_first left (l ∷ ls) past a r b =
     (chain_is_valid pairs first false l.operand ls past (omega (arith, a, r.0, r.1.0)) r.1.1 b)
 
 module _ (pairs : List Pair) (ts : List Token) (count : length ts ≡ length pairs) where
-  pub equality_is_valid : {d : ℕ} {m : Bool} (e : Expr) → IsExpr ts d m e e.first e.past → (l : ExprKindLayer) → out-ExprKind e.kind ≡ l
-      → AreValid (length pairs) (equality_findings pairs e.first l)
-  equality_is_valid e w (ExprKind-F.Binary head ls) h =
+  pub equality_is_valid : {d : ℕ} {m : Bool} (e : Expr) → IsExpr ts d m e e.first e.past → (head : Expr) (ls : List Operation) → out-ExprKind e.kind ≡ ExprKind-F.Binary head ls
+      → AreValid (length pairs) (chain_findings pairs e.first true head ls)
+  equality_is_valid e w head ls h =
       let c = chain_in w head ls h in let s = expr_sits w in
       chain_is_valid pairs e.first true head ls e.past (omega (arith, c.begun, c.some)) c.rise (omega (arith, s.within, count))
-  equality_is_valid _ _ _ _ = valid.none
+
+-- ---- where no operand is an empty list, nothing is found
+
+not_listed : (l : PrimaryLayer) → may_find (primary_value l) ≡ false → is_empty_list_primary l ≡ false
+not_listed (Primary-F.Tuple []) h = h
+not_listed _ h = refl
+
+not_list_kind : (l : ExprKindLayer) → may_find (kind_value l) ≡ false → is_empty_list_kind l ≡ false
+not_list_kind (ExprKind-F.Term t) h = not_listed (out-Primary t.kind) h
+not_list_kind _ h = refl
+
+not_list : (e : Expr) → may_find (value_of e) ≡ false → is_empty_list e ≡ false
+not_list e h = not_list_kind (out-ExprKind e.kind) h
+
+none_at_link : (equal a is_first b : Bool) (xs ys : List Finding) → a ≡ false → b ≡ false → Nothing (if equal then (if a then xs else (if is_first && b then ys else [])) else [])
+none_at_link false a is_first b xs ys h g = empty.none
+none_at_link true true is_first b xs ys h g = absurd (cc)
+none_at_link true false false b xs ys h g = empty.none
+none_at_link true false true true xs ys h g = absurd (cc)
+none_at_link true false true false xs ys h g = empty.none
+
+pub nothing_found : (pairs : List Pair) (first : ℕ) (is_first : Bool) (left : Expr) (ls : List Operation) → may_find (value_of left) ≡ false
+    → AllByRecursion (λ (l : Operation). may_find (value_of l.operand) ≡ false) ls → Nothing (chain_findings pairs first is_first left ls)
+nothing_found pairs first is_first left [] h all = empty.none
+nothing_found pairs first is_first left (l ∷ ls) h all =
+    empty.append (none_at_link (is_equality l.operator) (is_empty_list l.operand) is_first (is_empty_list left) _ _ (not_list l.operand all.0) (not_list left h))
+    (nothing_found pairs first false l.operand ls all.0 all.1)

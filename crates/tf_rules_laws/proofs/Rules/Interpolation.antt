@@ -1,20 +1,23 @@
 -- Quoted text that is one interpolation.
-use Rattle.std.proofs.Common.{◌≡◌, ℕ, ◌&&◌, Bool, true, false, not, List, Option, Some, None, refl, ap₂, length, arith, ◌+◌, ◌-◌, ◌<◌, ◌||◌, nat_lt, nat_le, ◌≤◌}
+use Rattle.std.proofs.Common.{◌≡◌, ℕ, ◌&&◌, Bool, true, false, not, List, [], ◌∷◌, Option, Some, None, refl, ap, ap₂, length, arith, ◌+◌, ◌-◌, ◌<◌, ◌||◌, nat_lt, nat_le, ◌≤◌}
 use Rattle.std.proofs.lemmas.Bool.{leb-true, leb-false}
 use Rattle.hcl_grammar.specs.Grammar.{IsTerm}
 use Rattle.hcl_grammar.specs.Nodes as node
 use Rattle.hcl_grammar.specs.Tokens.{Token}
 use Rattle.hcl_grammar.specs.declared.tree.Expr.{Expr}
 use Rattle.hcl_grammar.specs.declared.tree.ExprKind.{out-ExprKind, ExprKind}
-use Rattle.hcl_grammar.specs.declared.tree.Part.{Part}
-use Rattle.hcl_grammar.specs.declared.tree.Primary.{out-Primary, Primary}
+use Rattle.hcl_grammar.specs.declared.tree.Part.{Part, out-Part}
+use Rattle.hcl_grammar.specs.declared.tree.ExprKind.TheOpen.{Primary-F, Part-F}
+use Rattle.hcl_grammar.specs.declared.tree.Primary.{out-Primary}
+use Rattle.hcl_grammar.specs.declared.tree.Template.{Template}
+use Rattle.hcl_grammar.specs.TreeLayers.{PartLayer}
 use Rattle.hcl_grammar.specs.declared.tree.Term.{Term}
-use Rattle.hcl_grammar_laws.proofs.Opens.{open_conditional, open_chain, open_prefixed, open_tailed, open_plain, open_number, open_identifier, open_call, open_tuple, open_object, open_for_tuple, open_for_object, open_quoted, open_heredoc, open_parens, open_literal, open_interp, open_if, open_for}
+use Rattle.hcl_grammar_laws.proofs.Opens.{open_conditional, open_chain, open_prefixed, open_tailed, open_plain, open_literal, open_interp, open_if, open_for}
 use Rattle.hcl_scan.specs.Follows.{tokens_of}
 use Rattle.hcl_token.specs.Tokens.{Pair}
 use Rattle.tf_reuse.proofs.MovedParts.{form_of}
 use Rattle.tf_reuse.proofs.RenumberedNodes as moved
-use Rattle.tf_reuse.proofs.RenumberedNodes.{MovedForm, MovedShape, MovedParts, MovedFilter}
+use Rattle.tf_reuse.proofs.RenumberedNodes.{MovedForm, MovedParts, MovedFilter}
 use Rattle.tf_reuse.proofs.RenumberedTrivia.{inner_break_moved}
 use Rattle.tf_reuse.proofs.Renumbering as moves
 use Rattle.tf_reuse.proofs.Renumbering.{Moves, SameFix}
@@ -22,14 +25,17 @@ use Rattle.tf_reuse.proofs.Window.{Here, Same}
 use Rattle.tf_reuse.specs.SameTokens.{SameTokens}
 use Rattle.tf_rules.specs.Findings.{plain_message, finding_at, is_fix_valid}
 use Rattle.tf_rules.specs.Fixes.{kept, keep_one, when, is_in_order}
-use Rattle.tf_rules.specs.Rules.Interpolation.{sole_interpolation, is_post_kind, sole_part, interpolation_findings, is_object_key, is_elsewhere, is_interpolation_fixable}
+use Rattle.tf_rules.specs.Rules.Interpolation.{is_post_kind, sole_part, part_interpolation, quoted_findings, may_find, interpolation_findings, is_object_key, is_elsewhere, is_interpolation_fixable}
+use Rattle.tf_rules.specs.Summaries.{part_pieces, pieces_of}
 use Rattle.tf_rules.specs.declared.fix.Fix.{Fix}
 use Rattle.tf_rules.specs.declared.fix.Insertion.TheVariants as insertion
 use Rattle.tf_rules.specs.declared.role.Role.{Role}
 use Rattle.tf_rules.specs.declared.rule.Rule.TheVariants.{DeprecatedInterpolation}
+use Rattle.tf_rules_laws.proofs.Nothing as empty
+use Rattle.tf_rules_laws.proofs.Nothing.{Nothing}
 use Rattle.tf_rules_laws.proofs.OfRule as found
 use Rattle.tf_rules_laws.proofs.OfRule.{From}
-use Rattle.tf_rules_laws.proofs.Order.{term_sits, five_in}
+use Rattle.tf_rules_laws.proofs.Order.{sole_interpolation, term_sits, five_in}
 use Rattle.tf_rules_laws.proofs.Valid as valid
 use Rattle.tf_rules_laws.proofs.Valid.{AreValid}
 
@@ -50,7 +56,7 @@ module _ {R T : ℕ → ℕ → Type 0} where
   post_moved (moved.tailed a b) = simp (open_tailed) refl
   post_moved (moved.plain a) = simp (open_plain) refl
 
-  sole_moved : {xs xs' : List Part} → MovedParts R T xs xs' → MovedFilter R T (sole_part xs) (sole_part xs')
+  pub sole_moved : {xs xs' : List Part} → MovedParts R T xs xs' → MovedFilter R T (sole_part xs) (sole_part xs')
   unfolding node.if_part node.for_part
   sole_moved moved.no_parts = moved.no_filter
   sole_moved (moved.parts (moved.literal t) moved.no_parts) = simp (open_literal) moved.no_filter
@@ -58,19 +64,6 @@ module _ {R T : ℕ → ℕ → Type 0} where
   sole_moved (moved.parts (moved.if_directive r s a b c) moved.no_parts) = simp (open_if) moved.no_filter
   sole_moved (moved.parts (moved.for_directive r s a b) moved.no_parts) = simp (open_for) moved.no_filter
   sole_moved (moved.parts a (moved.parts b c)) = moved.no_filter
-
-  pub sole_in_moved : {x x' : Primary} → MovedShape R T x x' → MovedFilter R T (sole_interpolation (out-Primary x)) (sole_interpolation (out-Primary x'))
-  unfolding node.call node.for_tuple node.for_object node.template
-  sole_in_moved moved.number = simp (open_number) moved.no_filter
-  sole_in_moved moved.identifier = simp (open_identifier) moved.no_filter
-  sole_in_moved (moved.call s a b) = simp (open_call) moved.no_filter
-  sole_in_moved (moved.tuple a) = simp (open_tuple) moved.no_filter
-  sole_in_moved (moved.object a) = simp (open_object) moved.no_filter
-  sole_in_moved (moved.for_tuple a b c) = simp (open_for_tuple) moved.no_filter
-  sole_in_moved (moved.for_object s a b c d) = simp (open_for_object) moved.no_filter
-  sole_in_moved (moved.quoted (moved.template r s a)) = simp (open_quoted) (sole_moved a)
-  sole_in_moved (moved.heredoc a) = simp (open_heredoc) moved.no_filter
-  sole_in_moved (moved.parens a) = simp (open_parens) moved.no_filter
 
 -- what a fix makes of an interpolation
 abbrev inside : ℕ → ℕ → Fix
@@ -125,10 +118,25 @@ bared first past h =
     (valid.and (nat_lt first (past - 2)) (nat_lt (past - 2) past) (grind (arith, h)) (grind (arith, h))))
 
 module _ (pairs : List Pair) (ts : List Token) (count : length ts ≡ length pairs) where
-  pub interpolation_is_valid : {d : ℕ} {m : Bool} (role : Role) (t : Term) → IsTerm ts d m t t.first t.past → (o : Option Expr) → sole_interpolation (out-Primary t.kind) ≡ o
+  part_is_valid : {d : ℕ} {m : Bool} (role : Role) (t : Term) → IsTerm ts d m t t.first t.past → (o : Option Expr) → sole_interpolation (out-Primary t.kind) ≡ o
       → AreValid (length pairs) (interpolation_findings pairs role t.first t.past o)
-  interpolation_is_valid role t w None h = valid.none
-  interpolation_is_valid role t w (Some e) h =
+  part_is_valid role t w None h = valid.none
+  part_is_valid role t w (Some e) h =
       let s = term_sits w in let f = five_in w e h in let writes = is_interpolation_fixable pairs role t.first t.past e in
       valid.choose (is_object_key role) valid.none (valid.keep (length pairs) DeprecatedInterpolation t.first t.past plain_message _ s.some (omega (arith, s.within, count))
       (valid.fits t.first t.past writes (keep_one insertion.Nothing (kept (t.first + 2) (t.past - 2) insertion.Nothing)) (bared t.first t.past f)))
+
+  pub interpolation_is_valid : {d : ℕ} {m : Bool} (role : Role) (t : Term) → IsTerm ts d m t t.first t.past → (text : Template) → out-Primary t.kind ≡ Primary-F.Quoted text
+      → AreValid (length pairs) (quoted_findings pairs role t.first t.past text)
+  interpolation_is_valid role t w text h = part_is_valid role t w (sole_part text.parts) (ap sole_interpolation h)
+
+-- ---- where the parts are more or fewer than one interpolation, nothing is found
+
+none_by : (pairs : List Pair) (role : Role) (i j : ℕ) (l : PartLayer) → may_find (part_pieces l) ≡ false → Nothing (interpolation_findings pairs role i j (part_interpolation l))
+none_by pairs role i j (Part-F.Interp e) h = absurd (cc)
+none_by pairs role i j _ h = empty.none
+
+pub nothing_found : (pairs : List Pair) (role : Role) (i j : ℕ) (ps : List Part) → may_find (pieces_of ps) ≡ false → Nothing (interpolation_findings pairs role i j (sole_part ps))
+nothing_found pairs role i j [] h = empty.none
+nothing_found pairs role i j (x ∷ []) h = none_by pairs role i j (out-Part x) h
+nothing_found pairs role i j (x ∷ y ∷ ps) h = empty.none

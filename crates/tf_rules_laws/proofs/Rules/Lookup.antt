@@ -1,34 +1,36 @@
 -- Calls of `lookup`.
-use Rattle.std.proofs.Common.{◌≡◌, ℕ, ◌&&◌, Bool, true, not, List, [], Option, Some, None, refl, ap, length, arith, ◌<◌, ◌||◌, nat_lt, nat_le, ◌≤◌, rules, if◌then◌else◌}
+use Rattle.std.proofs.Common.{◌≡◌, ℕ, ◌&&◌, Bool, true, false, not, List, [], ◌∷◌, Option, Some, None, refl, ap, length, arith, ◌<◌, ◌||◌, nat_lt, nat_le, ◌≤◌, rules, if◌then◌else◌}
 use Rattle.hcl_grammar.specs.Grammar.{IsTerm}
-use Rattle.hcl_grammar.specs.Nodes as node
 use Rattle.hcl_grammar.specs.Tokens.{Token}
-use Rattle.hcl_grammar.specs.TreeLayers.{PrimaryLayer, CallLayer}
+use Rattle.hcl_grammar.specs.TreeLayers.{CallLayer}
 use Rattle.hcl_grammar.specs.declared.tree.Call.{out-Call, roll-Call, Call}
 use Rattle.hcl_grammar.specs.declared.tree.Expr.{Expr}
 use Rattle.hcl_grammar.specs.declared.tree.ExprKind.TheOpen.{Primary-F}
 use Rattle.hcl_grammar.specs.declared.tree.ExprKind.TheViews.{the_lemmas}
 use Rattle.hcl_grammar.specs.declared.tree.ExprKind.{out-ExprKind, ExprKind}
-use Rattle.hcl_grammar.specs.declared.tree.Primary.{out-Primary, Primary}
+use Rattle.hcl_grammar.specs.declared.tree.Primary.{out-Primary}
 use Rattle.hcl_grammar.specs.declared.tree.Tail.{Tail}
 use Rattle.hcl_grammar.specs.declared.tree.Term.{Term}
-use Rattle.hcl_grammar_laws.proofs.Opens.{open_conditional, open_chain, open_prefixed, open_tailed, open_plain, open_number, open_identifier, open_call, open_tuple, open_object, open_for_tuple, open_for_object, open_quoted, open_heredoc, open_parens, open_name, open_legacy, open_index, call_arguments, call_names}
+use Rattle.hcl_grammar_laws.proofs.Opens.{open_conditional, open_chain, open_prefixed, open_tailed, open_plain, open_name, open_legacy, open_index, call_arguments, call_names}
 use Rattle.hcl_scan.specs.Follows.{tokens_of}
 use Rattle.hcl_token.specs.Tokens.{Pair}
 use Rattle.tf_reuse.proofs.MovedParts.{form_of, first_here, past_here}
 use Rattle.tf_reuse.proofs.RenumberedNodes as moved
-use Rattle.tf_reuse.proofs.RenumberedNodes.{MovedNumbers, MovedExpr, MovedForm, MovedTails, MovedTail, MovedShape, MovedExprs}
+use Rattle.tf_reuse.proofs.RenumberedNodes.{MovedNumbers, MovedExpr, MovedForm, MovedTails, MovedTail, MovedExprs}
 use Rattle.tf_reuse.proofs.RenumberedTrivia.{spelling_moved, trivia_moved, break_moved}
 use Rattle.tf_reuse.proofs.Renumbering as moves
 use Rattle.tf_reuse.proofs.Renumbering.{Moves}
 use Rattle.tf_reuse.proofs.Window.{Here, Same}
 use Rattle.tf_reuse.specs.SameTokens.{SameTokens}
-use Rattle.tf_rules.specs.Arguments.{two_arguments}
+use Rattle.tf_rules.specs.Arguments.{sole_name, two_arguments}
 use Rattle.tf_rules.specs.Findings.{plain_message}
 use Rattle.tf_rules.specs.Fixes.{kept, is_in_order, keep_two}
-use Rattle.tf_rules.specs.Rules.Lookup.{is_splat, has_splat, is_indexable_kind, is_lookup, is_lookup_token, is_lookup_fixable, pair_findings, lookup_findings, call_findings}
+use Rattle.tf_rules.specs.Rules.Lookup.{is_splat, has_splat, is_indexable_kind, is_lookup, is_lookup_token, is_lookup_fixable, pair_findings, call_findings, may_find}
+use Rattle.tf_rules.specs.Summaries.{count_of}
 use Rattle.tf_rules.specs.declared.fix.Insertion.TheVariants as insertion
 use Rattle.tf_rules.specs.declared.rule.Rule.TheVariants.{DeprecatedLookup}
+use Rattle.tf_rules_laws.proofs.Nothing as empty
+use Rattle.tf_rules_laws.proofs.Nothing.{Nothing}
 use Rattle.tf_rules_laws.proofs.OfRule as found
 use Rattle.tf_rules_laws.proofs.OfRule.{From}
 use Rattle.tf_rules_laws.proofs.Order.{term_sits, call_in}
@@ -42,12 +44,8 @@ pair_of_rule pairs first past None = found.none
 pair_of_rule pairs first past (Some (a, b)) = found.maybe (is_lookup_fixable pairs first past a b)
     (keep_two insertion.Nothing (kept a.first a.past insertion.OpenBracket) (kept b.first b.past insertion.CloseBracket)) refl refl refl
 
-call_of_rule : (pairs : List Pair) (first past : ℕ) (c : CallLayer) → From pairs DeprecatedLookup (call_findings pairs first past c)
-call_of_rule pairs first past c = found.choose (c.expand_final || not (is_lookup pairs c.names)) found.none (pair_of_rule pairs first past (two_arguments c.arguments))
-
-pub of_rule : (pairs : List Pair) (first past : ℕ) (s : PrimaryLayer) → From pairs DeprecatedLookup (lookup_findings pairs first past s)
-of_rule pairs first past (Primary-F.Call c) = call_of_rule pairs first past (out-Call c)
-of_rule _ _ _ _ = found.none
+pub of_rule : (pairs : List Pair) (first past : ℕ) (c : CallLayer) → From pairs DeprecatedLookup (call_findings pairs first past c)
+of_rule pairs first past c = found.choose (c.expand_final || not (is_lookup pairs c.names)) found.none (pair_of_rule pairs first past (two_arguments c.arguments))
 
 -- ---- where its tokens are elsewhere too, the same is found
 
@@ -73,10 +71,13 @@ module _ {R T : ℕ → ℕ → Type 0} where
 call_spread : (a : List ℕ) (b : List Expr) (c : Bool) → (out-Call (roll-Call (record { names = a; arguments = b; expand_final = c }))).expand_final ≡ c
 call_spread a b c = search (rules, the_lemmas)
 
+-- a call with these parts
+abbrev pub call_layer : List ℕ → List Expr → Bool → CallLayer
+call_layer ns es s = out-Call (roll-Call (record { names = ns; arguments = es; expand_final = s }))
+
 at_call : (pairs : List Pair) (i j : ℕ) (ns : List ℕ) (es : List Expr) (s : Bool)
-    → lookup_findings pairs i j (out-Primary (node.call ns es s)) ≡ (if s || not (is_lookup pairs ns) then [] else pair_findings pairs i j (two_arguments es))
-unfolding node.call
-at_call pairs i j ns es s = simp (open_call) (simp (call_names, call_spread, call_arguments) refl)
+    → call_findings pairs i j (call_layer ns es s) ≡ (if s || not (is_lookup pairs ns) then [] else pair_findings pairs i j (two_arguments es))
+at_call pairs i j ns es s = simp (call_names, call_spread, call_arguments) refl
 
 module _ (old new : List Pair) {from to count : ℕ} (w : SameTokens (tokens_of old) (tokens_of new) from to count) where
   is_lookup_moved : {ns ns' : List ℕ} → MovedNumbers (Here w) (Same w) ns ns' → is_lookup new ns' ≡ is_lookup old ns
@@ -104,21 +105,11 @@ module _ (old new : List Pair) {from to count : ℕ} (w : SameTokens (tokens_of 
   pair_moved h g (moved.exprs a (moved.exprs b moved.no_exprs)) = two_moved h g a b
   pair_moved h g (moved.exprs a (moved.exprs b (moved.exprs c d))) = moves.none
 
-  pub lookup_moved : {i i' j j' : ℕ} {x x' : Primary} → Here w i i' → Here w j j' → MovedShape (Here w) (Same w) x x'
-      → Moves old new from to (lookup_findings old i j (out-Primary x)) (lookup_findings new i' j' (out-Primary x'))
-  unfolding node.for_tuple node.for_object
-  lookup_moved h g moved.number = simp (open_number) moves.none
-  lookup_moved h g moved.identifier = simp (open_identifier) moves.none
-  lookup_moved {i} {i'} {j} {j'} h g (moved.call s {ns} {ns'} {es} {es'} a b) =
+  pub lookup_moved : (s : Bool) {i i' j j' : ℕ} {ns ns' : List ℕ} {es es' : List Expr} → Here w i i' → Here w j j' → MovedNumbers (Here w) (Same w) ns ns' → MovedExprs (Here w) (Same w) es es'
+      → Moves old new from to (call_findings old i j (call_layer ns es s)) (call_findings new i' j' (call_layer ns' es' s))
+  lookup_moved s {i} {i'} {j} {j'} {ns} {ns'} {es} {es'} h g a b =
       let name = ap (λ (x : Bool). s || not x) (is_lookup_moved a) in
       rw (at_call old i j ns es s, at_call new i' j' ns' es' s) (moves.either name moves.none (pair_moved h g b))
-  lookup_moved h g (moved.tuple a) = simp (open_tuple) moves.none
-  lookup_moved h g (moved.object a) = simp (open_object) moves.none
-  lookup_moved h g (moved.for_tuple a b c) = simp (open_for_tuple) moves.none
-  lookup_moved h g (moved.for_object s a b c d) = simp (open_for_object) moves.none
-  lookup_moved h g (moved.quoted a) = simp (open_quoted) moves.none
-  lookup_moved h g (moved.heredoc a) = simp (open_heredoc) moves.none
-  lookup_moved h g (moved.parens a) = simp (open_parens) moves.none
 
 -- ---- over a text that parses, the numbers are in order
 
@@ -139,7 +130,17 @@ module _ (pairs : List Pair) (ts : List Token) (count : length ts ≡ length pai
       (valid.fits t.first t.past movable (keep_two insertion.Nothing (kept a.first a.past insertion.OpenBracket) (kept b.first b.past insertion.CloseBracket))
       (looked_up t.first t.past a.first a.past b.first b.past (omega (arith, o.begun)) o.left o.between o.right o.ended))
 
-  pub lookup_is_valid : {d : ℕ} {m : Bool} (t : Term) → IsTerm ts d m t t.first t.past → (l : PrimaryLayer) → out-Primary t.kind ≡ l
-      → AreValid (length pairs) (lookup_findings pairs t.first t.past l)
-  lookup_is_valid t w (Primary-F.Call c) h = valid.choose ((out-Call c).expand_final || not (is_lookup pairs (out-Call c).names)) valid.none (pair_is_valid t w c h (two_arguments (out-Call c).arguments) refl)
-  lookup_is_valid _ _ _ _ = valid.none
+  pub lookup_is_valid : {d : ℕ} {m : Bool} (t : Term) → IsTerm ts d m t t.first t.past → (c : Call) → out-Primary t.kind ≡ Primary-F.Call c
+      → AreValid (length pairs) (call_findings pairs t.first t.past (out-Call c))
+  lookup_is_valid t w c h = valid.choose ((out-Call c).expand_final || not (is_lookup pairs (out-Call c).names)) valid.none (pair_is_valid t w c h (two_arguments (out-Call c).arguments) refl)
+
+-- ---- where the name and the number of arguments say so, nothing is found
+
+none_by : (pairs : List Pair) (i j : ℕ) (ns : List ℕ) (es : List Expr) (more : Bool) → may_find pairs (sole_name ns) (count_of es) more ≡ false
+    → Nothing (if more || not (is_lookup pairs ns) then [] else pair_findings pairs i j (two_arguments es))
+none_by pairs i j ns es true h = empty.none
+none_by pairs i j ns (a ∷ b ∷ []) false h = let other : is_lookup pairs ns ≡ false = h in rw other empty.none
+none_by pairs i j ns _ false h = empty.choose (not (is_lookup pairs ns)) empty.none empty.none
+
+pub nothing_found : (pairs : List Pair) (i j : ℕ) (c : CallLayer) → may_find pairs (sole_name c.names) (count_of c.arguments) c.expand_final ≡ false → Nothing (call_findings pairs i j c)
+nothing_found pairs i j c h = none_by pairs i j c.names c.arguments c.expand_final h

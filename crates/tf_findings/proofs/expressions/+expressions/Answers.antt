@@ -1,10 +1,8 @@
-use Rattle.std.proofs.Common.{false, [], ◌∷◌, ◌+◌, drop, map, refl, sym, ap, ◌∙◌, append-nil}
+use Rattle.std.proofs.Common.{false, [], ◌∷◌, ◌+◌, drop, map, refl, sym, ap, append-nil}
 use Rattle.std.specs.List.{flat_map}
 use Rattle.hcl_grammar.specs.declared.tree.Operation.{Operation}
 use Rattle.tf_rules.specs.declared.role.Role.TheVariants as role
 use Rattle.tf_rules.specs.Preorder.{expr, term, part, tail, elem_children, expr_kind_children, primary_children, tail_children, part_children, filter_children, else_children, nodes_of_tails}
-use Rattle.tf_rules.specs.Rules.Interpolation.{sole_interpolation}
-use Rattle.tf_rules.specs.Rules.Lookup.{lookup_findings}
 use Rattle.tf_findings.proofs.LeafLemmas.{leaf, branch}
 use Rattle.tf_findings.proofs.WalkLemmas.{where_ok, joined, whole, nowhere, among, loop_step, finished}
 use Rattle.tf_findings.proofs.TreeLayers.{is-Conditional, is-Chain, is-Tailed, is-Number, is-Identifier, is-Tuple, is-Object, is-Parens, is-Literal, is-Name, is-Legacy, is-AttributeSplat, is-FullSplat}
@@ -14,42 +12,29 @@ pub walk_expr-returns : goal.walk_expr-returns
 walk_expr-returns t c = whole _ c.in_ok-check_expr.ensures c.in_ok-walk_expr_kind.ensures
 
 pub walk_term-returns-in-Number : goal.walk_term-returns-in-Number
-walk_term-returns-in-Number t c =
-    let e = is-Number c.in-Number.is in
-    leaf c.args.cx.now.lint.rules c.args.cx.now.lint.scanned.now.pairs c.args.role c.args.t.now _ (ap sole_interpolation e)
-    (ap (lookup_findings c.args.cx.now.lint.scanned.now.pairs c.args.t.now.first c.args.t.now.past) e) (ap primary_children e)
+walk_term-returns-in-Number t c = leaf c.args.cx.now.lint.rules c.args.cx.now.lint.scanned.now.pairs c.args.role c.args.t.now _ (is-Number c.in-Number.is) refl refl
 
 pub walk_term-returns-in-Identifier : goal.walk_term-returns-in-Identifier
-walk_term-returns-in-Identifier t c =
-    let e = is-Identifier c.in-Identifier.is in
-    leaf c.args.cx.now.lint.rules c.args.cx.now.lint.scanned.now.pairs c.args.role c.args.t.now _ (ap sole_interpolation e)
-    (ap (lookup_findings c.args.cx.now.lint.scanned.now.pairs c.args.t.now.first c.args.t.now.past) e) (ap primary_children e)
+walk_term-returns-in-Identifier t c = leaf c.args.cx.now.lint.rules c.args.cx.now.lint.scanned.now.pairs c.args.role c.args.t.now _ (is-Identifier c.in-Identifier.is) refl refl
 
 pub walk_term-returns-in-Tuple : goal.walk_term-returns-in-Tuple
 walk_term-returns-in-Tuple t c =
-    let e = is-Tuple c.in-Tuple.is in
     where_ok c.walk_exprs.result
-    (λ inside. branch c.args.cx.now.lint.rules c.args.cx.now.lint.scanned.now.pairs c.args.role c.args.t.now (ap sole_interpolation e)
-    (ap (lookup_findings c.args.cx.now.lint.scanned.now.pairs c.args.t.now.first c.args.t.now.past) e)
-    (among (ap primary_children e ∙ ap (map (expr role.Element)) (sym c.get.ensures)) inside))
+    (λ inside. branch c.args.cx.now.lint.rules c.args.cx.now.lint.scanned.now.pairs c.args.role c.args.t.now (is-Tuple c.in-Tuple.is) refl
+    (among (ap (map (expr role.Element)) (sym c.get.ensures)) inside))
     c.walk_exprs.ensures
 
 pub walk_term-returns-in-Object : goal.walk_term-returns-in-Object
 walk_term-returns-in-Object t c =
-    let e = is-Object c.in-Object.is in
     where_ok c.walk_elems.result
-    (λ inside. branch c.args.cx.now.lint.rules c.args.cx.now.lint.scanned.now.pairs c.args.role c.args.t.now (ap sole_interpolation e)
-    (ap (lookup_findings c.args.cx.now.lint.scanned.now.pairs c.args.t.now.first c.args.t.now.past) e)
-    (among (ap primary_children e ∙ ap (flat_map elem_children) (sym c.get-in-Object.ensures)) inside))
+    (λ inside. branch c.args.cx.now.lint.rules c.args.cx.now.lint.scanned.now.pairs c.args.role c.args.t.now (is-Object c.in-Object.is) refl
+    (among (ap (flat_map elem_children) (sym c.get-in-Object.ensures)) inside))
     c.walk_elems.ensures
 
 pub walk_term-returns-in-Parens : goal.walk_term-returns-in-Parens
 walk_term-returns-in-Parens t c =
-    let e = is-Parens c.in-Parens.is in
     where_ok c.walk_boxed.result
-    (λ inside. branch c.args.cx.now.lint.rules c.args.cx.now.lint.scanned.now.pairs c.args.role c.args.t.now (ap sole_interpolation e)
-    (ap (lookup_findings c.args.cx.now.lint.scanned.now.pairs c.args.t.now.first c.args.t.now.past) e)
-    (among (ap primary_children e) inside))
+    (λ inside. branch c.args.cx.now.lint.rules c.args.cx.now.lint.scanned.now.pairs c.args.role c.args.t.now (is-Parens c.in-Parens.is) refl inside)
     c.walk_boxed.ensures
 
 pub walk_term-returns-in_ok-walk_primary-in_default : goal.walk_term-returns-in_ok-walk_primary-in_default
