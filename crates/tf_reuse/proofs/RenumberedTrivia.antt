@@ -1,7 +1,6 @@
 -- What is computed from tokens and their numbers is the same wherever the tokens are.
-use Rattle.std.proofs.Common.{◌≡◌, ℕ, suc, ◌+◌, ◌-◌, ◌<◌, ◌≤◌, Bool, true, false, ◌==◌, nat_lt, nat_le, List, [], ◌∷◌, take, drop, Option, Some, None, refl, sym, ap, ◌∙◌, arith, zero, ◌⊎◌, inl, inr}
-use Rattle.std.proofs.lemmas.List.{drop-drop, take-take}
-use Rattle.std.proofs.lemmas.List.{drop-map, take-map, drop-take}
+use Rattle.std.proofs.Common.{◌≡◌, ℕ, ◌+◌, ◌-◌, ◌<◌, ◌≤◌, Bool, true, false, ◌==◌, nat_lt, nat_le, List, [], ◌∷◌, take, drop, Option, Some, None, refl, sym, ap, ◌∙◌, arith, ◌⊎◌, inl, inr}
+use Rattle.std.proofs.lemmas.List.{drop-map, take-map, take-take}
 use Rattle.std.proofs.lemmas.Bool.{leb-true, leb-false}
 use Rattle.std.proofs.lemmas.Option.{slice_get-map}
 use Rattle.std.specs.List.{slice_get}
@@ -11,7 +10,7 @@ use Rattle.hcl_token.specs.TokenizedText.{kind_of, spelling_of}
 use Rattle.hcl_token.specs.Tokens.{Pair}
 use Rattle.hcl_grammar.specs.Tokens.{Token}
 use Rattle.tf_rules.specs.Trivia.{token_range, has_trivia, has_line_break, is_here_close, is_here_close_kind, depth_after}
-use Rattle.tf_reuse.proofs.Window.{Here, Same}
+use Rattle.tf_reuse.proofs.Window.{Here, Same, each_same, rest_same}
 use Rattle.tf_reuse.specs.SameTokens.{SameTokens}
 use Rattle.tf_reuse.specs.Renumbering.{renumber}
 
@@ -30,19 +29,6 @@ pub is_le : (a b : ℕ) → a ≤ b → nat_le a b ≡ true
 is_le a b l = grind arith
 
 -- ---- lists of tokens
-
-get_drop : {X : Type 0} (n k : ℕ) (xs : List X) → slice_get (drop n xs) k ≡ slice_get xs (n + k)
-get_drop zero k xs = ap (λ (m : ℕ). slice_get xs m) (omega arith)
-get_drop (suc n) k [] = refl
-get_drop (suc n) k (x ∷ xs) =
-    let m : suc (n + k) ≡ suc n + k = omega arith in
-    get_drop n k xs ∙ ap (λ (m : ℕ). slice_get (x ∷ xs) m) m
-
-get_take : {X : Type 0} (n k : ℕ) (xs : List X) → k < n → slice_get (take n xs) k ≡ slice_get xs k
-get_take zero k xs l = absurd (omega (arith, l))
-get_take (suc n) k [] l = refl
-get_take (suc n) zero (x ∷ xs) l = refl
-get_take (suc n) (suc k) (x ∷ xs) l = get_take n k xs (omega (arith, l))
 
 abbrev pub token_of : Pair → Token
 token_of p = (p.kind, p.spelling)
@@ -83,14 +69,6 @@ same_break comments depth (x ∷ xs) (y ∷ ys) e =
     let more : has_line_break comments d ys ≡ has_line_break comments d xs = same_break comments d xs ys (cc) in
     rw (k, more) refl
 
--- some of the tokens from number `from` on
-take_drop_take : (count n k from : ℕ) (xs : List Token) → n + k ≤ count → take k (drop (from + n) xs) ≡ take k (drop n (take count (drop from xs)))
-take_drop_take count n k from xs l =
-    let c : count ≡ n + (count - n) = omega (arith, l) in
-    let a : drop n (take count (drop from xs)) ≡ take (count - n) (drop n (drop from xs)) =
-    ap (λ (c : ℕ). drop n (take c (drop from xs))) c ∙ drop-take n (count - n) (drop from xs) in
-    sym (ap (take k) a ∙ (take-take k (count - n) _ (omega (arith, l)) ∙ ap (take k) (drop-drop n from xs)))
-
 -- tokens but for two at either end: none, or within those that are the same
 within : (count a b : ℕ) → a ≤ count → b ≤ count → (b - a - 4 ≡ 0) ⊎ ((a + 2) + (b - a - 4) ≤ count)
 within count a b l m = elim (nat_le 4 (b - a)) as (λ t. nat_le 4 (b - a) ≡ t → (b - a - 4 ≡ 0) ⊎ ((a + 2) + (b - a - 4) ≤ count))
@@ -120,10 +98,7 @@ module _ (old new : List Pair) {from to count : ℕ} (w : SameTokens (tokens_of 
   -- ---- tokens
 
   token_moved : {n n' : ℕ} → Same w n n' → slice_get (tokens_of new) n' ≡ slice_get (tokens_of old) n
-  token_moved h = rw (h.in_old, h.in_new)
-      (sym (get_drop to h.before (tokens_of new)) ∙ (sym (get_take count h.before (drop to (tokens_of new)) h.within)
-      ∙ (ap (λ (l : List Token). slice_get l h.before) (sym w.same)
-      ∙ (get_take count h.before (drop from (tokens_of old)) h.within ∙ get_drop from h.before (tokens_of old)))))
+  token_moved h = rw (h.in_old, h.in_new) (each_same w h.before h.within)
 
   pub spelling_moved : {n n' : ℕ} → Same w n n' → spelling_of new n' ≡ spelling_of old n
   spelling_moved {n} {n'} h = (same_parts (slice_get old n) (slice_get new n') (sym (slice_get-map token_of new n') ∙ (token_moved h ∙ slice_get-map token_of old n))).1
@@ -133,8 +108,11 @@ module _ (old new : List Pair) {from to count : ℕ} (w : SameTokens (tokens_of 
 
   -- k tokens from the n-th on of those that are the same
   tokens_moved : (n k : ℕ) → n + k ≤ count → tokens_of (take k (drop (from + n) old)) ≡ tokens_of (take k (drop (to + n) new))
-  tokens_moved n k l = tokens_of_range (from + n) k old ∙ (take_drop_take count n k from (tokens_of old) l
-      ∙ (ap (λ (l : List Token). take k (drop n l)) w.same ∙ (sym (take_drop_take count n k to (tokens_of new) l) ∙ sym (tokens_of_range (to + n) k new))))
+  tokens_moved n k l =
+      let fewer : k ≤ count - n = omega (arith, l) in
+      let rest = ap (take k) (rest_same w n (count - n) (omega (arith, l))) in
+      tokens_of_range (from + n) k old ∙ (sym (take-take k (count - n) _ fewer)
+      ∙ (rest ∙ (take-take k (count - n) _ fewer ∙ sym (tokens_of_range (to + n) k new))))
 
   span_moved : {i i' j j' : ℕ} → Here w i i' → Here w j j' → tokens_of (token_range old i j) ≡ tokens_of (token_range new i' j')
   span_moved h g =

@@ -2,7 +2,7 @@
 -- comes next there.
 use Rattle.std.proofs.Common.{◌≡◌, ◌≢◌, ◌==◌, ℕ, zero, suc, ◌+◌, ◌-◌, ◌<◌, ◌≤◌, Bool, true, false, cond, if◌then◌else◌, List, [], ◌∷◌, length, take, drop, slice_get, Option, Some, None, inl, inr, refl, sym, ap, ◌∙◌, subst, arith}
 use Rattle.std.proofs.lemmas.Bool.Decides.{eqb_tells}
-use Rattle.std.proofs.lemmas.List.{drop-take}
+use Rattle.std.proofs.lemmas.List.{drop-drop, drop-take}
 use Rattle.std.specs.List.{prefix_len}
 use Rattle.std.specs.Option.{option_map}
 use Rattle.hcl_grammar.specs.Tokens.{Token, is_skipped, next_index, next_token, next_kind, after_next, first_token_in}
@@ -32,12 +32,6 @@ slice_get_of_take (suc n) k [] (y ∷ ys) e l = absurd (cc)
 slice_get_of_take (suc n) k (x ∷ xs) [] e l = absurd (cc)
 slice_get_of_take (suc n) zero (x ∷ xs) (y ∷ ys) e l = let same : x ≡ y = cc in ap Some (sym same)
 slice_get_of_take (suc n) (suc k) (x ∷ xs) (y ∷ ys) e l = let rest : take n xs ≡ take n ys = cc in slice_get_of_take n k xs ys rest (omega (arith, l))
-
-drop_drop : (n k : ℕ) (xs : List Token) → drop k (drop n xs) ≡ drop (n + k) xs
-drop_drop zero k xs = let e : k ≡ 0 + k = omega arith in ap (λ (z : ℕ). drop z xs) e
-drop_drop (suc n) zero [] = let e : suc n ≡ suc n + 0 = omega arith in ap (λ (z : ℕ). drop z []) e
-drop_drop (suc n) (suc k) [] = let e : suc (n + suc k) ≡ suc n + suc k = omega arith in ap (λ (z : ℕ). drop z []) e
-drop_drop (suc n) k (x ∷ xs) = let e : suc (n + k) ≡ suc n + k = omega arith in drop_drop n k xs ∙ ap (λ (z : ℕ). drop z (x ∷ xs)) e
 
 pub get_drop : (n k : ℕ) (xs : List Token) → slice_get (drop n xs) k ≡ slice_get xs (n + k)
 get_drop zero k xs = let e : k ≡ 0 + k = omega arith in ap (slice_get xs) e
@@ -95,10 +89,11 @@ module _ {old new : List Token} {from to count : ℕ} (w : SameTokens old new fr
   each_same k l = sym (get_drop to k new) ∙ slice_get_of_take count k (drop from old) (drop to new) w.same l ∙ get_drop from k old
 
   -- after k of the tokens the other n are the same
-  rest_same : (k n : ℕ) → k + n ≡ count → take n (drop (from + k) old) ≡ take n (drop (to + k) new)
+  pub rest_same : (k n : ℕ) → k + n ≡ count → take n (drop (from + k) old) ≡ take n (drop (to + k) new)
   rest_same k n e =
       let all : take (k + n) (drop from old) ≡ take (k + n) (drop to new) = subst (λ (c : ℕ). take c (drop from old) ≡ take c (drop to new)) (sym e) w.same in
-      ap (take n) (sym (drop_drop from k old)) ∙ sym (drop-take k n (drop from old)) ∙ ap (drop k) all ∙ drop-take k n (drop to new) ∙ ap (take n) (drop_drop to k new)
+      ap (take n) (sym (drop-drop k from old)) ∙ sym (drop-take k n (drop from old)) ∙ ap (drop k) all
+      ∙ drop-take k n (drop to new) ∙ ap (take n) (drop-drop k to new)
 
   run_same : (p : Token → Bool) (k : ℕ) → k ≤ count → from + k + prefix_len p (drop (from + k) old) < from + count → prefix_len p (drop (to + k) new) ≡ prefix_len p (drop (from + k) old)
   run_same p k l h = leading p (count - k) (drop (from + k) old) (drop (to + k) new) (rest_same k (count - k) (omega (arith, l))) (omega (arith, l, h))
