@@ -1,5 +1,5 @@
 -- What a fix makes of a text it makes by edits: each step has valid edits that lead to its text, and those of all steps squash to one list.
-use Rattle.std.proofs.Common.{◌≡◌, ◌∙◌, ◌≤◌, ℕ, Bool, true, false, MatchBool, List, [], ◌∷◌, length, Result, Ok, Err, if◌then◌else◌, refl, sym, ap, subst, arith, nat_lt}
+use Rattle.std.proofs.Common.{◌≡◌, ◌∙◌, ◌≤◌, ℕ, Bool, true, false, List, [], ◌∷◌, length, Result, Ok, Err, if◌then◌else◌, refl, sym, ap, subst, arith, nat_lt}
 use Rattle.std.proofs.lemmas.Bool.{ltb-true, not-false}
 use Rattle.std.proofs.lemmas.Slice.Eq.{bytes_eq-Decides}
 use Rattle.std.specs.List.{AllByRecursion}
@@ -17,7 +17,6 @@ use Rattle.edit_record.specs.declared.lists.edits.TheConstants.{MAX_TEXT}
 use Rattle.tf_rules.specs.declared.finding.Finding.{Finding}
 use Rattle.tf_rules.specs.declared.rule.Rule.{Rule}
 use Rattle.tf_rules.specs.declared.rule_set.RuleSet.{RuleSet}
-use Rattle.tf_rules.specs.RuleSets.{has_rule}
 use Rattle.tf_rules.specs.SingleRule.{only}
 use Rattle.tf_rules.specs.ValidFindings.{AreValidFindings}
 use Rattle.tf_rules_laws.specs.OneRule.{FindingsMatchTheirRule}
@@ -30,9 +29,7 @@ use Rattle.tf_fix.specs.ParsedTexts.{IsParseOf}
 use Rattle.tf_fix.proofs.FoundByLemmas.{of_all}
 use Rattle.tf_fix.proofs.StepLemmas.{InPieces, PiecesAlwaysTransform, PiecesAlwaysMake, step_pieces, step_turns}
 use Rattle.tf_lint.specs.declared.fault.FixFault.{FixFault}
-use Rattle.tf_lint.specs.Steps.{texts_differ, Steps, no_steps, fix_order, IsSquashOfAll, Rewrite, FixesText, FixHasEdits}
-use Rattle.tf_lint.specs.Inner.FirstChange.{StepThen, RunsInOrder}
-use Rattle.tf_lint.proofs.RunsInOrder.{from_steps}
+use Rattle.tf_lint.specs.Steps.{texts_differ, Steps, RunSteps, none_left, not_in_set, stepped, IsSquashOfAll, Rewrite, FixesText, FixHasEdits}
 
 -- ---- the edits of one step
 
@@ -93,26 +90,16 @@ step_first rule p found more false e turns others =
     let same : p.scanned.text ≡ step_text_of p found = (bytes_eq-Decides p.scanned.text (step_text_of p found)).0 (not-false _ e) in
     subst (λ (t : List ℕ). AllTurn more.lists t more.text) (sym same) others
 
-module _ (step : StepsTurn) where
-  step_turns_then : (rule : Rule) (p : Parsed) (s : Steps) (text : List ℕ) (Others : Parsed → Result Steps FixFault → Type 0) → IsParseOf text p
-      → ((next : Parsed) (more : Steps) (t : List ℕ) → IsParseOf t next → Others next (Ok more) → AllTurn more.lists next.scanned.text more.text)
-      → StepThen rule p Others (Ok s) → AllTurn s.lists p.scanned.text s.text
-  step_turns_then rule p s text Others reads go (found, finds, (short, next, more, next_reads, runs, is)) =
-      let later : AllTurn more.lists (step_text_of p found) more.text = subst (λ (t : List ℕ). AllTurn more.lists t more.text) next_reads.0 (go next more (step_text_of p found) next_reads runs) in
-      let all = step_first rule p found more (texts_differ p.scanned.text (step_text_of p found)) refl (step rule p found text reads finds (omega (arith, short))) later in
-      subst (λ (x : Steps). AllTurn x.lists p.scanned.text x.text) (sym is) all
-
-  choose : (chosen : Bool) (rule : Rule) (p : Parsed) (s : Steps) (text : List ℕ) (Others : Parsed → Result Steps FixFault → Type 0) → IsParseOf text p
-      → ((next : Parsed) (more : Steps) (t : List ℕ) → IsParseOf t next → Others next (Ok more) → AllTurn more.lists next.scanned.text more.text)
-      → MatchBool chosen (StepThen rule p Others (Ok s)) (Others p (Ok s)) → AllTurn s.lists p.scanned.text s.text
-  choose true rule p s text Others reads go h = step_turns_then rule p s text Others reads go h
-  choose false rule p s text Others reads go h = go p s text reads h
-
-  all_turn : (rules : RuleSet) (order : List Rule) (p : Parsed) (s : Steps) (text : List ℕ) → IsParseOf text p → RunsInOrder rules order p (Ok s) → AllTurn s.lists p.scanned.text s.text
-  all_turn rules [] p s text reads h =
-      let same : s ≡ no_steps p.scanned.text = cc in
-      subst (λ (x : Steps). AllTurn x.lists p.scanned.text x.text) (sym same) (refl, tt)
-  all_turn rules (rule ∷ others) p s text reads h = choose (has_rule rules rule) rule p s text (RunsInOrder rules others) reads (all_turn rules others) h
+all_turn : StepsTurn → {rules : RuleSet} {order : List Rule} {p : Parsed} {s : Steps} (text : List ℕ)
+    → IsParseOf text p → RunSteps rules order p (Ok s) → AllTurn s.lists p.scanned.text s.text
+all_turn step text reads none_left = (refl, tt)
+all_turn step text reads (not_in_set absent runs) = all_turn step text reads runs
+all_turn step text reads (stepped {rule = rule} {p = p} {more = more} found has finds short next_reads runs) =
+    let new = step_text_of p found in
+    let others = all_turn step new next_reads runs in
+    let later = subst (λ (t : List ℕ). AllTurn more.lists t more.text) next_reads.0 others in
+    let turns = step rule p found text reads finds (omega (arith, short)) in
+    step_first rule p found more (texts_differ p.scanned.text new) refl turns later
 
 -- ---- as one list
 
@@ -132,7 +119,7 @@ squash_of_all squashes len (first ∷ more) old new (turn, valid) = squash_exist
 
 pub has_edits : StepsTurn → ComposableListsSquash → FixHasEdits
 has_edits step squashes rules text made f =
-    let all = all_turn step rules fix_order f.parsed f.steps text f.reads (from_steps f.runs) in
+    let all = all_turn step text f.reads f.runs in
     let (edits, is) = squash_of_all squashes (length text) f.steps.lists f.parsed.scanned.text f.steps.text all in
     let by : Rewrite = record { text = made.text; edits = edits; fixed = made.fixed; left = made.left } in
     let of_text : FixesText rules text by = record {

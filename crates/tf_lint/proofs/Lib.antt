@@ -9,7 +9,6 @@ mod CachedPlace
 mod EditLengths
 pub mod OneFixLemmas
 pub mod FixEdits
-mod RunsInOrder
 pub mod RunLemmas
 pub mod LintLemmas
 pub mod StepLemmas

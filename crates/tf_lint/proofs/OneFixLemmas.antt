@@ -1,5 +1,5 @@
 -- A text has one tree and one list of findings, so each step of a fix has one text, and the fix makes one.
-use Rattle.std.proofs.Common.{◌≡◌, ◌∙◌, ◌≤◌, ◌<◌, ◌⊎◌, ℕ, List, [], ◌∷◌, length, Bool, true, false, MatchBool, Result, Ok, Err, refl, sym, ap, subst, inl, inr, arith}
+use Rattle.std.proofs.Common.{◌≡◌, ◌∙◌, ◌≤◌, ◌<◌, ◌⊎◌, ℕ, List, [], ◌∷◌, length, Result, Ok, Err, refl, sym, ap, subst, inl, inr, arith}
 use Rattle.hcl_token.specs.TokenizedText.{TokenizedText}
 use Rattle.hcl_scan.specs.Tokenization.{MAX_TEXT}
 use Rattle.hcl_grammar.specs.declared.tree.Tree.{Tree}
@@ -9,26 +9,20 @@ use Rattle.edit_record.specs.Squashes.SquashLists.{SquashAllIsUnique}
 use Rattle.tf_rules.specs.declared.finding.Finding.{Finding}
 use Rattle.tf_rules.specs.declared.rule.Rule.{Rule}
 use Rattle.tf_rules.specs.declared.rule_set.RuleSet.{RuleSet}
-use Rattle.tf_rules.specs.RuleSets.{has_rule}
 use Rattle.tf_findings.specs.Findings.{FindingsAreUnique}
 use Rattle.tf_lint.specs.declared.fault.FixFault.{FixFault}
 use Rattle.tf_lint.specs.declared.fault.FixFault.TheVariants.{Scan, Parse, FixBroken, TooLong, Memory}
 use Rattle.tf_fix.specs.declared.parsed.Parsed.{Parsed}
 use Rattle.tf_rules.specs.SingleRule.{only}
 use Rattle.tf_fix.specs.ParsedTexts.{IsParseOf}
-use Rattle.tf_fix.specs.OneStep.{step_text_of}
-use Rattle.tf_lint.specs.Steps.{IsRemainingCount, Steps, prepend_step, StepBreaks, RunSteps, fix_order, IsSquashOfAll, Rewrite, FixesText, Fixes, Breaks, FixIsUnique}
-use Rattle.tf_lint.specs.Inner.FirstChange.{FoundThen, StepThen, RunsInOrder}
+use Rattle.tf_fix.specs.OneStep.{RulesFind, step_text_of}
+use Rattle.tf_lint.specs.Steps.{IsRemainingCount, Steps, prepend_step, StepBreaks, RunSteps, none_left, not_in_set, breaks, stepped, breaks_later, fix_order, IsSquashOfAll, Rewrite, FixesText, Fixes, Breaks, FixIsUnique}
 use Rattle.tf_lint.proofs.DoesNotParse.{TokensAreUnique, parses_of, same_scanned}
-use Rattle.tf_lint.proofs.RunsInOrder.{from_steps}
 
 -- what is made, by its parts
 one_made : (a b : Rewrite) → a.text ≡ b.text → a.edits ≡ b.edits → a.fixed ≡ b.fixed → a.left ≡ b.left → a ≡ b
-one_made a b texts edits fixed left =
-    ap (λ (x : List ℕ). let r : Rewrite = record { text = x; edits = a.edits; fixed = a.fixed; left = a.left } in r) texts
-    ∙ ap (λ (x : EditList). let r : Rewrite = record { text = b.text; edits = x; fixed = a.fixed; left = a.left } in r) edits
-    ∙ ap (λ (x : ℕ). let r : Rewrite = record { text = b.text; edits = b.edits; fixed = x; left = a.left } in r) fixed
-    ∙ ap (λ (x : ℕ). let r : Rewrite = record { text = b.text; edits = b.edits; fixed = b.fixed; left = x } in r) left
+one_made a b texts edits fixed left = λ i.
+    record { text = texts i; edits = edits i; fixed = fixed i; left = left i }
 
 -- the two ways in which a step can't be done
 broken_how : (rule : Rule) (p : Parsed) (found : List Finding) (f : FixFault) → StepBreaks rule p found f
@@ -55,56 +49,70 @@ not_broken rule p next found Memory short reads w = w
 
 module _ (unique_tokens : TokensAreUnique) (one_parse : OneParse) (one_found : FindingsAreUnique) (one_squash : (first : EditList) (others : List EditList) → SquashAllIsUnique first others) where
   same_read : (text : List ℕ) (a b : Parsed) → IsParseOf text a → IsParseOf text b → a ≡ b
-  same_read text a b p q =
-      ap (λ (x : TokenizedText). let r : Parsed = record { scanned = x; tree = a.tree } in r) (same_scanned unique_tokens text a b p q)
-      ∙ ap (λ (x : Tree). let r : Parsed = record { scanned = b.scanned; tree = x } in r) (one_parse text a.tree b.tree (parses_of text a p) (parses_of text b q))
+  same_read text a b p q = λ i. record {
+    scanned = same_scanned unique_tokens text a b p q i;
+    tree = one_parse text a.tree b.tree (parses_of text a p) (parses_of text b q) i;
+  }
 
-  abbrev HaveOne : (Parsed → Result Steps FixFault → Type 0) → Type 0
-  HaveOne Others = (c : Parsed) (x y : Result Steps FixFault) → Others c x → Others c y → x ≡ y
+  same_found : (rule : Rule) (p : Parsed) (fs gs : List Finding) → RulesFind (only rule) p fs
+      → RulesFind (only rule) p gs → fs ≡ gs
+  same_found rule p fs gs x y = one_found (only rule) p.scanned.pairs p.tree.body.members fs gs x y
 
-  done_or_broken : (rule : Rule) (p : Parsed) (found : List Finding) (Others : Parsed → Result Steps FixFault → Type 0) → HaveOne Others
-      → (s : Steps) (f : FixFault) → FoundThen rule p found Others (Ok s) → FoundThen rule p found Others (Err f) → ⊥
-  done_or_broken rule p found Others ih s f v (inl w) = not_broken rule p v.1 found f v.0 v.3 w
-  done_or_broken rule p found Others ih s f v (inr w) =
-      let same = same_read (step_text_of p found) w.1 v.1 w.2 v.3 in
-      let e : Ok v.2 ≡ Err f = ih v.1 (Ok v.2) (Err f) v.4 (subst (λ (c : Parsed). Others c (Err f)) same w.3) in
-      cc
+  -- a step of which the text is read is none that can't be done
+  not_both : (rule : Rule) (p next : Parsed) (fs gs : List Finding) (fault : FixFault)
+      → RulesFind (only rule) p fs → RulesFind (only rule) p gs → StepBreaks rule p fs fault
+      → length (step_text_of p gs) ≤ MAX_TEXT → IsParseOf (step_text_of p gs) next → ⊥
+  not_both rule p next fs gs fault x y broken short reads =
+      not_broken rule p next gs fault short reads
+      (subst (λ (l : List Finding). StepBreaks rule p l fault) (same_found rule p fs gs x y) broken)
 
-  same_after_step : (rule : Rule) (p : Parsed) (found : List Finding) (Others : Parsed → Result Steps FixFault → Type 0) → HaveOne Others
-      → (a b : Result Steps FixFault) → FoundThen rule p found Others a → FoundThen rule p found Others b → a ≡ b
-  same_after_step rule p found Others ih (Ok s) (Ok t) v w =
-      let same = same_read (step_text_of p found) w.1 v.1 w.3 v.3 in
-      let e : ◌≡◌ {A = Result Steps FixFault} (Ok v.2) (Ok w.2) = ih v.1 (Ok v.2) (Ok w.2) v.4 (subst (λ (c : Parsed). Others c (Ok w.2)) same w.4) in
-      let more : v.2 ≡ w.2 = cc in
-      ap (λ (x : Steps). Ok x) (v.5 ∙ ap (prepend_step rule p found) more ∙ sym w.5)
-  same_after_step rule p found Others ih (Ok s) (Err f) v w = absurd (done_or_broken rule p found Others ih s f v w)
-  same_after_step rule p found Others ih (Err f) (Ok t) v w = absurd (done_or_broken rule p found Others ih t f w v)
-  same_after_step rule p found Others ih (Err f) (Err g) (inl v) (inl w) = ap (λ (x : FixFault). Err x) (same_break rule p found f g v w)
-  same_after_step rule p found Others ih (Err f) (Err g) (inl v) (inr w) = absurd (not_broken rule p w.1 found f w.0 w.2 v)
-  same_after_step rule p found Others ih (Err f) (Err g) (inr v) (inl w) = absurd (not_broken rule p v.1 found g v.0 v.2 w)
-  same_after_step rule p found Others ih (Err f) (Err g) (inr v) (inr w) =
-      let same = same_read (step_text_of p found) w.1 v.1 w.2 v.2 in
-      ih v.1 (Err f) (Err g) v.3 (subst (λ (c : Parsed). Others c (Err g)) same w.3)
+  -- what runs on the text of a step runs on it, however it was found and read
+  runs_again : {rules : RuleSet} {others : List Rule} {answer : Result Steps FixFault} (rule : Rule)
+      (p next other : Parsed) (fs gs : List Finding) → RulesFind (only rule) p fs
+      → RulesFind (only rule) p gs → IsParseOf (step_text_of p fs) next → IsParseOf (step_text_of p gs) other
+      → RunSteps rules others next answer → RunSteps rules others other answer
+  runs_again {rules} {others} {answer} rule p next other fs gs x y reads read =
+      let found = same_found rule p fs gs x y in
+      let here = subst (λ (l : List Finding). IsParseOf (step_text_of p l) next) found reads in
+      subst (λ (c : Parsed). RunSteps rules others c answer)
+      (same_read (step_text_of p gs) next other here read)
 
-  same_then : (rule : Rule) (p : Parsed) (Others : Parsed → Result Steps FixFault → Type 0) → HaveOne Others
-      → (a b : Result Steps FixFault) → StepThen rule p Others a → StepThen rule p Others b → a ≡ b
-  same_then rule p Others ih a b v w =
-      let same = one_found (only rule) p.scanned.pairs p.tree.body.members w.0 v.0 w.1 v.1 in
-      same_after_step rule p v.0 Others ih a b v.2 (subst (λ (fs : List Finding). FoundThen rule p fs Others b) same w.2)
-
-  choose : (chosen : Bool) (rule : Rule) (p : Parsed) (Others : Parsed → Result Steps FixFault → Type 0) → HaveOne Others
-      → (a b : Result Steps FixFault) → MatchBool chosen (StepThen rule p Others a) (Others p a) → MatchBool chosen (StepThen rule p Others b) (Others p b) → a ≡ b
-  choose true rule p Others ih a b v w = same_then rule p Others ih a b v w
-  choose false rule p Others ih a b v w = ih p a b v w
-
-  same_steps : (rules : RuleSet) (order : List Rule) (p : Parsed) (a b : Result Steps FixFault) → RunsInOrder rules order p a → RunsInOrder rules order p b → a ≡ b
-  same_steps rules [] p a b v w = v ∙ sym w
-  same_steps rules (rule ∷ others) p a b v w = choose (has_rule rules rule) rule p (RunsInOrder rules others) (same_steps rules others) a b v w
+  same_steps : {rules : RuleSet} {order : List Rule} {p : Parsed} {a b : Result Steps FixFault}
+      → RunSteps rules order p a → RunSteps rules order p b → a ≡ b
+  same_steps none_left none_left = refl
+  same_steps (not_in_set _ v) (not_in_set _ w) = same_steps v w
+  same_steps (breaks {rule} {p = p} {fault = f} fs _ x v) (breaks {fault = g} gs _ y w) =
+      let found = same_found rule p fs gs x y in
+      let here = subst (λ (l : List Finding). StepBreaks rule p l f) found v in
+      ap (λ (fault : FixFault). Err fault) (same_break rule p gs f g here w)
+  same_steps (breaks {rule} {p = p} {fault = f} fs _ x v) (stepped {next = d} gs _ y short reads w) =
+      absurd (not_both rule p d fs gs f x y v short reads)
+  same_steps (breaks {rule} {p = p} {fault = f} fs _ x v) (breaks_later {next = d} gs _ y short reads w) =
+      absurd (not_both rule p d fs gs f x y v short reads)
+  same_steps (stepped {rule} {p = p} {next = c} fs _ x short reads v) (breaks {fault = g} gs _ y w) =
+      absurd (not_both rule p c gs fs g y x w short reads)
+  same_steps (breaks_later {rule} {p = p} {next = c} fs _ x short reads v) (breaks {fault = g} gs _ y w) =
+      absurd (not_both rule p c gs fs g y x w short reads)
+  same_steps (stepped {rule} {p = p} {next = c} {more} fs _ x _ reads v)
+      (stepped {next = d} {more = then} gs _ y _ read w) =
+      let again = same_steps v (runs_again rule p d c gs fs y x read reads w) in
+      let e : ◌≡◌ {A = Result Steps FixFault} (Ok more) (Ok then) = again in
+      let later : more ≡ then = cc in
+      ap (λ (l : List Finding). Ok (prepend_step rule p l more)) (same_found rule p fs gs x y)
+      ∙ ap (λ (s : Steps). Ok (prepend_step rule p gs s)) later
+  same_steps (stepped {rule} {p = p} {next = c} {more} fs _ x _ reads v)
+      (breaks_later {next = d} {fault = g} gs _ y _ read w) =
+      let e : Ok more ≡ Err g = same_steps v (runs_again rule p d c gs fs y x read reads w) in absurd (cc)
+  same_steps (breaks_later {rule} {p = p} {next = c} {fault = f} fs _ x _ reads v)
+      (stepped {next = d} {more} gs _ y _ read w) =
+      let e : Err f ≡ Ok more = same_steps v (runs_again rule p d c gs fs y x read reads w) in absurd (cc)
+  same_steps (breaks_later {rule} {p = p} {next = c} fs _ x _ reads v)
+      (breaks_later {next = d} gs _ y _ read w) = same_steps v (runs_again rule p d c gs fs y x read reads w)
+  same_steps _ _ = absurd (cc)
 
   same_runs : (rules : RuleSet) (text : List ℕ) (c d : Parsed) (a b : Result Steps FixFault) → IsParseOf text c → IsParseOf text d → RunSteps rules fix_order c a → RunSteps rules fix_order d b → a ≡ b
   same_runs rules text c d a b p q runs other =
-      let same = same_read text d c q p in
-      same_steps rules fix_order c a b (from_steps runs) (from_steps (subst (λ (x : Parsed). RunSteps rules fix_order x b) same other))
+      same_steps runs (subst (λ (x : Parsed). RunSteps rules fix_order x b) (same_read text d c q p) other)
 
   one_list : (len : ℕ) (lists : List EditList) (e f : EditList) → IsSquashOfAll len lists e → IsSquashOfAll len lists f → e ≡ f
   one_list len [] e f p q = p ∙ sym q

@@ -10,6 +10,7 @@ use Rattle.tf_rules.specs.declared.finding.Finding.{Finding}
 use Rattle.tf_rules.specs.declared.rule.Rule.{Rule}
 use Rattle.tf_rules.specs.declared.rule_set.RuleSet.{RuleSet}
 use Rattle.tf_rules.specs.RuleSets.{has_rule}
+use Rattle.tf_rules.specs.SingleRule.{only}
 use Rattle.tf_rules.specs.Table.{all_rules, has_fix}
 use Rattle.tf_lint.specs.declared.fault.FixFault.{FixFault}
 use Rattle.tf_lint.specs.declared.fault.FixFault.TheVariants.{FixBroken, Memory}
@@ -21,9 +22,8 @@ use Rattle.tf_lint.specs.declared.steps.FirstChange.TheVariants.{NoChange, Chang
 use Rattle.tf_fix.specs.ParsedTexts.{IsParseOf}
 use Rattle.tf_lint.specs.ParseFaults.{DoesNotParse, IsUtf8WithinLimit, IsReadFault}
 use Rattle.tf_fix.specs.OneStep.{RulesFind, step_text_of}
-use Rattle.tf_lint.specs.Steps.{texts_differ, Steps, RunSteps, Rewrite, FixesText, Fixes, Refuses}
-use Rattle.tf_lint.specs.Inner.FirstChange.{FoundThen, StepThen, RunsInOrder, has_step, RunFixable, IsChange, IsStep, IsFirstChange, FixesFrom, RefusesFrom}
-use Rattle.tf_lint.proofs.RunsInOrder.{to_steps}
+use Rattle.tf_lint.specs.Steps.{texts_differ, Steps, RunSteps, none_left, not_in_set, breaks, stepped, breaks_later, Rewrite, FixesText, Fixes, Refuses}
+use Rattle.tf_lint.specs.Inner.FirstChange.{FoundThen, StepThen, has_step, RunFixable, IsChange, IsStep, IsFirstChange, FixesFrom, RefusesFrom}
 
 pub split_first : {X : Type 0} (xs : List X) (d : X) → 1 ≤ length xs → xs ≡ slice_index_or xs 0 d ∷ take (length xs - 1) (drop 1 xs)
 split_first [] d some = absurd (omega (arith, some))
@@ -159,30 +159,33 @@ and_refuses rules order text p count fixed change made_by by rest fault reads (n
 
 -- ---- from the first step on
 
--- others may go on after a step, if they follow from those that did
-steps_continue : (rule : Rule) (p : Parsed) (found : List Finding) (A B : Parsed → Result Steps FixFault → Type 0) → ((c : Parsed) (r : Result Steps FixFault) → A c r → B c r)
-    → (answer : Result Steps FixFault) → FoundThen rule p found A answer → FoundThen rule p found B answer
-steps_continue rule p found A B go (Ok steps) (short, next, more, reads, others, is) = (short, next, more, reads, go next (Ok more) others, is)
-steps_continue rule p found A B go (Err fault) (inl breaks) = inl breaks
-steps_continue rule p found A B go (Err fault) (inr (short, next, reads, others)) = inr (short, next, reads, go next (Err fault) others)
+module _ (rules : RuleSet) (rule : Rule) (order : List Rule) (p : Parsed)
+    (go : (c : Parsed) (r : Result Steps FixFault) → RunFixable rules order c r
+    → RunSteps rules (filter has_fix order) c r) where
+  at_step : has_rule rules rule ≡ true → (found : List Finding) → RulesFind (only rule) p found
+      → (answer : Result Steps FixFault) → FoundThen rule p found (RunFixable rules order) answer
+      → RunSteps rules (rule ∷ filter has_fix order) p answer
+  at_step has found finds (Ok steps) (short, next, more, reads, runs, is) =
+      subst (λ (s : Steps). RunSteps rules (rule ∷ filter has_fix order) p (Ok s)) (sym is)
+      (stepped found has finds short reads (go next (Ok more) runs))
+  at_step has found finds (Err fault) (inl broken) = breaks found has finds broken
+  at_step has found finds (Err fault) (inr (short, next, reads, runs)) =
+      breaks_later found has finds short reads (go next (Err fault) runs)
 
--- b whether a fix has a step for the rule, d whether the set has the rule
-at_rule : (rules : RuleSet) (rule : Rule) (order : List Rule) (p : Parsed) (answer : Result Steps FixFault) (b d : Bool) → has_rule rules rule ≡ d
-    → ((c : Parsed) (r : Result Steps FixFault) → RunFixable rules order c r → RunsInOrder rules (filter has_fix order) c r)
-    → MatchBool (b && d) (StepThen rule p (RunFixable rules order) answer) (RunFixable rules order p answer)
-    → RunsInOrder rules (cond b (rule ∷ filter has_fix order) (filter has_fix order)) p answer
-at_rule rules rule order p answer true true has go h =
-    rw has (h.0, h.1, steps_continue rule p h.0 (RunFixable rules order) (RunsInOrder rules (filter has_fix order)) go answer h.2)
-at_rule rules rule order p answer true false has go h = rw has (go p answer h)
-at_rule rules rule order p answer false d has go h = go p answer h
+  -- b whether a fix has a step for the rule, d whether the set has the rule
+  at_rule : (answer : Result Steps FixFault) (b d : Bool) → has_rule rules rule ≡ d
+      → MatchBool (b && d) (StepThen rule p (RunFixable rules order) answer) (RunFixable rules order p answer)
+      → RunSteps rules (cond b (rule ∷ filter has_fix order) (filter has_fix order)) p answer
+  at_rule answer true true has h = at_step has h.0 h.1 answer h.2
+  at_rule answer true false absent h = not_in_set absent (go p answer h)
+  at_rule answer false d has h = go p answer h
 
 -- the steps that a list of rules has are those of its rules that are fixed
-fixed_rules : (rules : RuleSet) (order : List Rule) (p : Parsed) (answer : Result Steps FixFault) → RunFixable rules order p answer → RunsInOrder rules (filter has_fix order) p answer
-fixed_rules rules [] p answer h = h
-fixed_rules rules (rule ∷ order) p answer h = at_rule rules rule order p answer (has_fix rule) (has_rule rules rule) refl (fixed_rules rules order) h
-
-run_is : (rules : RuleSet) (order : List Rule) (p : Parsed) (answer : Result Steps FixFault) → RunFixable rules order p answer → RunSteps rules (filter has_fix order) p answer
-run_is rules order p answer h = to_steps rules (filter has_fix order) p answer (fixed_rules rules order p answer h)
+run_is : (rules : RuleSet) (order : List Rule) (p : Parsed) (answer : Result Steps FixFault)
+    → RunFixable rules order p answer → RunSteps rules (filter has_fix order) p answer
+run_is rules [] p answer h = subst (λ (r : Result Steps FixFault). RunSteps rules [] p r) (sym h) none_left
+run_is rules (rule ∷ order) p answer h =
+    at_rule rules rule order p (run_is rules order) answer (has_fix rule) (has_rule rules rule) refl h
 
 pub none_changed : (rules : RuleSet) (text : List ℕ) (p : Parsed) (fixed : ℕ) (found : List Finding) → IsParseOf text p → RulesFind rules p found → IsFirstChange rules all_rules p 0 (NoChange fixed)
     → Fixes rules text (record { text = text; edits = record { old_len = length text; entries = [] }; fixed = fixed; left = length found })

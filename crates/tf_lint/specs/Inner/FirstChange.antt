@@ -46,25 +46,18 @@ abbrev pub StepThen : Rule → Parsed → (Parsed → Result Steps FixFault → 
 StepThen rule p Others answer =
     (found : List Finding) × RulesFind (only rule) p found × FoundThen rule p found Others answer
 
--- what RunSteps says
-abbrev pub RunsInOrder : RuleSet → List Rule → Parsed → Result Steps FixFault → Type 0
-RunsInOrder rules [] p answer = answer ≡ Ok (no_steps p.scanned.text)
-RunsInOrder rules (rule ∷ others) p answer =
-    MatchBool (has_rule rules rule) (StepThen rule p (RunsInOrder rules others) answer)
-    (RunsInOrder rules others p answer)
-
--- ---- one step
-
 -- whether a fix by these rules has a step of this one
 abbrev pub has_step : RuleSet → Rule → Bool
 has_step rules rule = has_fix rule && has_rule rules rule
 
--- the same of a list that also has rules without a fix
+-- what RunSteps says, of a list that also has rules without a fix
 abbrev pub RunFixable : RuleSet → List Rule → Parsed → Result Steps FixFault → Type 0
 RunFixable rules [] p answer = answer ≡ Ok (no_steps p.scanned.text)
 RunFixable rules (rule ∷ others) p answer =
     MatchBool (has_step rules rule) (StepThen rule p (RunFixable rules others) answer)
     (RunFixable rules others p answer)
+
+-- ---- one step
 
 -- what the step of a rule that found this changes
 abbrev pub IsChange : Rule → Parsed → List Finding → Option NewText → Type 0
