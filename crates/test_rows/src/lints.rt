@@ -5,14 +5,13 @@ use crate::parses::read;
 use crate::records::turned;
 use crate::row::Row;
 use edit_record::{Change, Edits};
-use hcl_scan::Scanned;
-use hcl_tree::Tree;
+use hcl_scan::{Scanned, scan};
+use hcl_tree::{Tree, parse};
 use std::alloc::Global;
 use std::fmt::Write;
 use tf_findings::findings;
 use tf_lint::{
     Finding, FixResult, Issue, LintFault, Place, Rule, RuleSet, fix_step, fix_text, issues,
-    parse_text,
 };
 
 pub fn answer(row: &Row, out: &mut Answer) {
@@ -172,9 +171,12 @@ fn step(row: &Row, out: &mut Answer) {
     let Some(rule) = Rule::by_name(row.word(1)) else {
         return out.put("no rule");
     };
-    match parse_text(out.alloc, row.text(2)) {
-        Ok(parsed) => match fix_step(out.alloc, &parsed.scanned, &parsed.tree, rule) {
-            Ok(edits) => write_step(row, rule, &edits, out),
+    match scan(out.alloc, row.text(2)) {
+        Ok(scanned) => match parse(out.alloc, &scanned) {
+            Ok(tree) => match fix_step(out.alloc, &scanned, &tree, rule) {
+                Ok(edits) => write_step(row, rule, &edits, out),
+                Err(fault) => out.refuse(&fault),
+            },
             Err(fault) => out.refuse(&fault),
         },
         Err(fault) => out.refuse(&fault),

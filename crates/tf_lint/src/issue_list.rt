@@ -132,25 +132,3 @@ pub fn lines_of_findings(
     }
     Ok(lines)
 }
-
-/// Returns a report on the file of this name: the line of each of these issues, in their order,
-/// each followed by LF. For no issues nothing is allocated.
-///
-/// # Errors
-///
-/// `AllocError` if memory runs out.
-pub fn lines_of_issues(alloc: Global, name: &str, found: &[Issue]) -> Result<String, AllocError>
-    ensures lines { IfOk result
-        (λ lines. string_bytes lines ≡ report_lines name.now (reports found.now)) }
-    ensures allocates { IfErr result (λ _. 0 < length found.now) }
-{
-    if found.is_empty() {
-        return Ok(String::new(alloc));
-    }
-    let mut lines = with_line_capacity(alloc, name, found.len())?;
-    for issue in found {
-        issue.add_line(name, &mut lines)?;
-        lines.push_str("\n")?;
-    }
-    Ok(lines)
-}

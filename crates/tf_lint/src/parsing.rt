@@ -1,4 +1,4 @@
-//! A text with its tokens, and with its tree.
+//! The tokens of a text that parses.
 
 ghost use Rattle.std.specs.Prelude.{IfOk, IfErr};
 ghost use Rattle.hcl_grammar.specs.declared.tree.Tree as tree;
@@ -7,24 +7,8 @@ ghost use Rattle.tf_lint.specs.ParseFaults.{IsReadFault};
 
 use crate::fault::FixFault;
 use hcl_scan::{Scanned, scan};
-use hcl_tree::{check, parse};
+use hcl_tree::check;
 use std::alloc::Global;
-use tf_fix::Parsed;
-
-/// Returns the tokens and the tree of a text, if it parses.
-///
-/// # Errors
-///
-/// `Scan` if the text can't be tokenized; `Parse` if its tokens have no tree within `MAX_NESTING`;
-/// `Memory`.
-pub fn parse_text<'t>(alloc: Global, text: &'t [u8]) -> Result<Parsed<'t>, FixFault>
-    ensures reads { IfOk result (λ parsed. IsParseOf text.now parsed) }
-    ensures fault { IfErr result (λ fault. IsReadFault text.now fault) }
-{
-    let scanned = scan(alloc, text)?;
-    let tree = parse(alloc, &scanned)?;
-    Ok(Parsed { scanned, tree })
-}
 
 /// Returns the tokens of a text, if it parses. No tree of it is kept.
 ///

@@ -8,8 +8,8 @@ use hcl_layout::LayoutFault;
 use hcl_scan::ScanFault;
 use hcl_tree::ParseFault;
 use std::alloc::AllocError;
-use tf_lint::{FixFault, LintFault, NewText, Place, Rule, RuleSet, lines_of_issues, parse_text};
-use tf_session::Command;
+use tf_lint::{FixFault, LintFault, NewText, Place, Rule, RuleSet};
+use tf_session::{Command, issue_lines};
 
 #[test]
 fn scan(rt: HostRuntime) {
@@ -35,13 +35,11 @@ fn parse(rt: HostRuntime) {
 
 #[test]
 fn layout(rt: HostRuntime) {
-    let parsed = given(&rt, parse_text(rt.alloc(), TEXT));
-    let right = given(
-        &rt,
-        hcl_layout::layout(rt.alloc(), &parsed.scanned, &parsed.tree),
-    );
+    let scanned = given(&rt, hcl_scan::scan(rt.alloc(), TEXT));
+    let tree = given(&rt, hcl_tree::parse(rt.alloc(), &scanned));
+    let right = given(&rt, hcl_layout::layout(rt.alloc(), &scanned, &tree));
     begin(&rt);
-    let answer = hcl_layout::layout(rt.alloc(), &parsed.scanned, &parsed.tree);
+    let answer = hcl_layout::layout(rt.alloc(), &scanned, &tree);
     let edits = answered(&rt, answer, LayoutFault::Memory, true);
     assert!(rt; are_same_edits(&edits, &right));
 }
@@ -49,9 +47,11 @@ fn layout(rt: HostRuntime) {
 #[test]
 fn formatted_text(rt: HostRuntime) {
     let (session, _) = changed(&rt, TEXT, b"", Command::Fmt);
-    let parsed = given(&rt, parse_text(rt.alloc(), TEXT));
+    let scanned = given(&rt, hcl_scan::scan(rt.alloc(), TEXT));
+    // for the proof: the text parses
+    let _tree = given(&rt, hcl_tree::parse(rt.alloc(), &scanned));
     begin(&rt);
-    let answer = hcl_layout::formatted_text(rt.alloc(), &parsed.scanned);
+    let answer = hcl_layout::formatted_text(rt.alloc(), &scanned);
     let text = answered(&rt, answer, LayoutFault::Memory, true);
     assert!(rt; text.as_slice() == session.text());
 }
@@ -59,19 +59,21 @@ fn formatted_text(rt: HostRuntime) {
 #[test]
 fn is_laid_out(rt: HostRuntime) {
     let (session, _) = changed(&rt, TEXT, b"", Command::Fmt);
-    let parsed = given(&rt, parse_text(rt.alloc(), session.text()));
+    let scanned = given(&rt, hcl_scan::scan(rt.alloc(), session.text()));
+    let tree = given(&rt, hcl_tree::parse(rt.alloc(), &scanned));
     begin(&rt);
-    let answer = hcl_layout::is_laid_out(rt.alloc(), &parsed.scanned, &parsed.tree);
+    let answer = hcl_layout::is_laid_out(rt.alloc(), &scanned, &tree);
     assert!(rt; answered(&rt, answer, LayoutFault::Memory, true));
 }
 
 #[test]
 fn issues(rt: HostRuntime) {
-    let parsed = given(&rt, parse_text(rt.alloc(), TEXT));
-    let right = tf_lint::issues(rt.alloc(), &parsed.scanned, &parsed.tree, RuleSet::all());
+    let scanned = given(&rt, hcl_scan::scan(rt.alloc(), TEXT));
+    let tree = given(&rt, hcl_tree::parse(rt.alloc(), &scanned));
+    let right = tf_lint::issues(rt.alloc(), &scanned, &tree, RuleSet::all());
     let right = given(&rt, right);
     begin(&rt);
-    let answer = tf_lint::issues(rt.alloc(), &parsed.scanned, &parsed.tree, RuleSet::all());
+    let answer = tf_lint::issues(rt.alloc(), &scanned, &tree, RuleSet::all());
     let found = answered(&rt, answer, LintFault::Memory, true);
     assert!(rt; found.len() == right.len());
 }
@@ -88,8 +90,9 @@ fn search_text(rt: HostRuntime) {
 
 #[test]
 fn issue_line(rt: HostRuntime) {
-    let parsed = given(&rt, parse_text(rt.alloc(), b"a = 1 // one"));
-    let found = tf_lint::issues(rt.alloc(), &parsed.scanned, &parsed.tree, RuleSet::all());
+    let scanned = given(&rt, hcl_scan::scan(rt.alloc(), b"a = 1 // one"));
+    let tree = given(&rt, hcl_tree::parse(rt.alloc(), &scanned));
+    let found = tf_lint::issues(rt.alloc(), &scanned, &tree, RuleSet::all());
     let found = given(&rt, found);
     let issue = found.first().expect(&rt, "there is no issue");
     assert!(rt; found.len() == 1);
@@ -104,18 +107,16 @@ fn issue_line(rt: HostRuntime) {
 
 #[test]
 fn fix_step(rt: HostRuntime) {
-    let parsed = given(&rt, parse_text(rt.alloc(), TEXT));
+    let scanned = given(&rt, hcl_scan::scan(rt.alloc(), TEXT));
+    let tree = given(&rt, hcl_tree::parse(rt.alloc(), &scanned));
     let mut steps = Vec::new(rt.alloc());
     for rule in Rule::ALL {
-        let right = given(
-            &rt,
-            tf_lint::fix_step(rt.alloc(), &parsed.scanned, &parsed.tree, rule),
-        );
+        let right = given(&rt, tf_lint::fix_step(rt.alloc(), &scanned, &tree, rule));
         given(&rt, steps.push((rule, right)));
     }
     begin(&rt);
     for (rule, right) in &steps {
-        let answer = tf_lint::fix_step(rt.alloc(), &parsed.scanned, &parsed.tree, *rule);
+        let answer = tf_lint::fix_step(rt.alloc(), &scanned, &tree, *rule);
         let made = answered(&rt, answer, LintFault::Memory, true);
         assert!(rt; are_same_edits(&made, right));
     }
@@ -145,16 +146,14 @@ fn fixed_text(rt: HostRuntime) {
 #[test]
 fn remaining_lines(rt: HostRuntime) {
     let (session, _) = changed(&rt, TEXT, b"", Command::Fix(RuleSet::all()));
-    let parsed = given(&rt, parse_text(rt.alloc(), session.text()));
-    let issues = tf_lint::issues(rt.alloc(), &parsed.scanned, &parsed.tree, RuleSet::all());
-    let issues = given(&rt, issues);
-    let right = given(&rt, lines_of_issues(rt.alloc(), "main.tf", &issues));
+    let right = issue_lines(rt.alloc(), "main.tf", session.text(), RuleSet::all());
+    let (right, _) = given(&rt, right);
     let mut session = session_of(&rt, TEXT, b"");
     let (_, left) = given(&rt, session.fix(rt.alloc(), RuleSet::all()));
     begin(&rt);
     let answer = left.lines(rt.alloc(), "main.tf", session.text());
     let lines = answered(&rt, answer, AllocError, true);
-    assert!(rt; lines.as_str() == right.as_str());
+    assert!(rt; lines.as_str().as_bytes() == right.as_slice());
 }
 
 fn are_same_changes(a: &Option<NewText>, b: &Option<NewText>) -> bool {
