@@ -1,5 +1,5 @@
 -- What is found in some members, and in one more.
-use Rattle.std.proofs.Common.{◌≡◌, ℕ, zero, suc, true, List, [], ◌∷◌, ◌++◌, length, Some, Result, Ok, Err, OnOk, refl, sym, ap, subst, ◌∙◌, append_assoc, append-nil}
+use Rattle.std.proofs.Common.{◌≡◌, ℕ, zero, suc, true, List, [], ◌∷◌, ◌++◌, length, Some, Result, Ok, Err, OnOk, refl, sym, ap, subst, ◌∙◌, append-nil}
 use Rattle.std.proofs.lemmas.List.{map-append}
 use Rattle.std.proofs.lemmas.Grind.{flat_map-append}
 use Rattle.std.proofs.lemmas.List.Elements.{filter-append}
@@ -11,7 +11,7 @@ use Rattle.hcl_grammar.specs.declared.bounds.TheConstants.{MAX_NESTING}
 use Rattle.hcl_scan.specs.Follows.{tokens_of}
 use Rattle.hcl_token.specs.Tokens.{Pair}
 use Rattle.tf_rules.specs.Rules.{node_findings}
-use Rattle.tf_rules.specs.Preorder.{Node, member, IsPreorder, no_nodes, visit}
+use Rattle.tf_rules.specs.Preorder.{Node, member, no_nodes}
 use Rattle.tf_findings.specs.TreeFindings.{AreTreeFindings}
 use Rattle.tf_lint.specs.Inner.BodyFindings.{AreBodyFindings}
 use Rattle.tf_lint.proofs.MemberAnswers.{member_answers}
@@ -21,13 +21,8 @@ use Rattle.tf_lint.specs.declared.member.LintedMember.{LintedMember}
 use Rattle.tf_rules.specs.declared.finding.Finding.{Finding}
 use Rattle.tf_rules.specs.Findings.{is_valid, valid_findings}
 use Rattle.tf_rules.specs.declared.rule_set.RuleSet.{RuleSet}
+use Rattle.tf_rules_laws.proofs.TreeNodes.{preorder-append}
 use Rattle.tf_rules.specs.Rules.{top_level_member_findings, top_level_findings}
-
--- what is in some nodes and in others after them
-preorder-append : {ns ms xs ys : List Node} → IsPreorder ns xs → IsPreorder ms ys → IsPreorder (ns ++ ms) (xs ++ ys)
-preorder-append no_nodes b = b
-preorder-append {ms = ms} {ys = ys} (visit {n = n} {ns = ns} {inside = inside} {others = others} a c) b =
-    subst (λ l. IsPreorder (n ∷ (ns ++ ms)) (n ∷ l)) (sym (append_assoc inside others ys)) (visit a (preorder-append c b))
 
 -- what three clauses say of a value, where there is one
 pub all_ok : {T E A B C P : Type 0} (r : Result T E) → (A → B → C → P) → OnOk r A → OnOk r B → OnOk r C → OnOk r P

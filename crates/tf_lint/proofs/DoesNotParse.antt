@@ -66,6 +66,4 @@ pub same_scanned : TokensAreUnique → (text : List ℕ) (a b : Parsed) → IsPa
 same_scanned unique_tokens text a b p q =
     let h = unique_tokens text a.scanned.pairs b.scanned.pairs a.scanned.last b.scanned.last
     (subst (λ (t : List ℕ). IsTokenization t a.scanned.pairs a.scanned.last) p.0 p.1) (subst (λ (t : List ℕ). IsTokenization t b.scanned.pairs b.scanned.last) q.0 q.1) in
-    ap (λ (x : List ℕ). let r : TokenizedText = record { text = x; pairs = a.scanned.pairs; last = a.scanned.last } in r) (p.0 ∙ sym q.0)
-    ∙ ap (λ (x : List Pair). let r : TokenizedText = record { text = b.scanned.text; pairs = x; last = a.scanned.last } in r) h.0
-    ∙ ap (λ (x : List ℕ). let r : TokenizedText = record { text = b.scanned.text; pairs = b.scanned.pairs; last = x } in r) h.1
+    λ i. record { text = (p.0 ∙ sym q.0) i; pairs = h.0 i; last = h.1 i }

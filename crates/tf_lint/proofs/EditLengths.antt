@@ -1,6 +1,7 @@
 -- The numbers of bytes of an edit in a list fit 32 bits.
 use Rattle.std.proofs.Common.{ℕ, zero, suc, ◌+◌, ◌^◌, ◌≤◌, ◌<◌, List, [], ◌∷◌, length, get_or, arith}
-use Rattle.edit_record.specs.Lists.Pieces.{EditEntry, removed_len, added_len}
+use Rattle.edit_record.specs.Lists.Pieces.{EditEntry, added_len}
+use Rattle.edit_record.proofs.ListsLemmas.Placed.{placed_within}
 use Rattle.edit_record.specs.Lists.Validity.{AreDisjoint, AreValidEdits}
 
 -- the edit ends by the text's end, and adds no more than all of them
@@ -15,12 +16,6 @@ each_within old_len from (e ∷ es) (suc i) d disjoint below =
     let rest = each_within old_len (e.at + length e.removed) es i d disjoint.1 (omega (arith, below)) in
     record { ends = rest.ends; adds = omega (arith, rest.adds) }
 
--- what all of them remove is in the text
-all_removed : (old_len from : ℕ) (es : List EditEntry) → AreDisjoint old_len from es → from + removed_len es ≤ old_len
-all_removed old_len from [] disjoint = omega (arith, disjoint)
-all_removed old_len from (e ∷ es) disjoint =
-    omega (arith, disjoint.0.later, all_removed old_len (e.at + length e.removed) es disjoint.1)
-
 pub record IsShort (e : EditEntry) : Type 0 where
   pub at : e.at < 2 ^ 32
   pub removed : length e.removed < 2 ^ 32
@@ -29,7 +24,7 @@ pub record IsShort (e : EditEntry) : Type 0 where
 pub short_edit : (old_len new_len : ℕ) (es : List EditEntry) (i : ℕ) (d : EditEntry) → AreValidEdits old_len new_len es → i < length es → IsShort (get_or es i d)
 short_edit old_len new_len es i d valid below =
     let one = each_within old_len 0 es i d valid.disjoint below in
-    let all = all_removed old_len 0 es valid.disjoint in
+    let all = placed_within old_len 0 es valid.disjoint in
     record {
       at = omega (arith, one.ends, valid.old_fits);
       removed = omega (arith, one.ends, valid.old_fits);

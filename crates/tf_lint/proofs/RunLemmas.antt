@@ -2,8 +2,7 @@
 use Rattle.std.proofs.Common.{◌≡◌, ℕ, ◌+◌, ◌-◌, ◌≤◌, ◌<◌, ◌⊎◌, ◌&&◌, Bool, MatchBool, cond, filter, true, false, List, [], ◌∷◌, length, take, drop, slice_index_or, Some, None, Result, Ok, Err, Bor, refl, sym, ap, subst, arith, inl, inr}
 use Rattle.std.proofs.lemmas.List.{take_all}
 use Rattle.std.proofs.lemmas.Slice.Eq.{bytes_eq-Decides}
-use Rattle.std.specs.Prelude.{IfOk, IfErr}
-use Rattle.std.specs.Result.{IsErr, IsErrAnd}
+use Rattle.std.specs.Prelude.{IfErr}
 use Rattle.edit_record.specs.Lists.Pieces.{EditList, Transforms}
 use Rattle.edit_record.specs.Squashes.Squash.{IsSquash}
 use Rattle.tf_rules.specs.declared.finding.Finding.{Finding}
@@ -33,18 +32,9 @@ pub no_rules : (order : List Rule) → length order < 1 → order ≡ []
 no_rules [] lt = refl
 no_rules (r ∷ order) lt = absurd (omega (arith, lt))
 
-pub if_ok : {T E : Type 0} (r : Result T E) (P Q : T → Type 0) → ((x : T) → P x → Q x) → IfOk r P → IfOk r Q
-if_ok (Ok x) P Q f p = f x p
-if_ok (Err e) P Q f p = tt
-
 pub if_err : {T E : Type 0} (r : Result T E) (P Q : E → Type 0) → ((e : E) → P e → Q e) → IfErr r P → IfErr r Q
 if_err (Ok x) P Q f p = tt
 if_err (Err e) P Q f p = f e p
-
--- what `?` hands on
-pub residual : {T : Type 0} (r : Result T FixFault) (f : FixFault) (P : FixFault → Type 0) → IsErr r × IsErrAnd r (λ e. e ≡ f) → P f → IfErr r P
-residual (Ok x) f P result_is p = tt
-residual (Err e) f P result_is p = subst P (sym result_is.1) p
 
 -- ---- one rule more at the start of the order
 

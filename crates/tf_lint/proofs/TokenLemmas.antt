@@ -4,11 +4,9 @@ use Rattle.hcl_grammar.specs.Tokens.{Token}
 use Rattle.hcl_scan.specs.Follows.{tokens_of}
 use Rattle.hcl_token.specs.TokenizedText.{pairs_in_range, without_first_gap}
 use Rattle.hcl_token.specs.Tokens.{Pair}
+use Rattle.std.proofs.lemmas.List.{drop-map, take-map}
+use Rattle.tf_reuse.proofs.RenumberedTrivia.{token_of}
 use Rattle.tf_reuse.proofs.Window.{get_drop}
-
--- the token of a pair
-abbrev pub token_of : Pair → Token
-token_of p = (p.kind, p.spelling)
 
 -- prefixes that are the same, and one more token that is
 prefix_more : (xs ys : List Token) (k : ℕ) → take k xs ≡ take k ys → slice_get xs k ≡ slice_get ys k → take (suc k) xs ≡ take (suc k) ys
@@ -25,23 +23,14 @@ pub same_more : (xs ys : List Token) (a b k : ℕ) → take k (drop a xs) ≡ ta
     → take (k + 1) (drop a xs) ≡ take (k + 1) (drop b ys)
 same_more xs ys a b k e h = let one : k + 1 ≡ suc k = omega arith in rw one (prefix_more (drop a xs) (drop b ys) k e (get_drop a k xs ∙ (h ∙ sym (get_drop b k ys))))
 
--- the tokens of the first n pairs
-line_prefix : (n : ℕ) (ps : List Pair) → take n (tokens_of ps) ≡ tokens_of (take n ps)
-line_prefix zero ps = refl
-line_prefix (suc n) [] = refl
-line_prefix (suc n) (p ∷ ps) = ap (λ ts. token_of p ∷ ts) (line_prefix n ps)
-
-rest_of : (n : ℕ) (ps : List Pair) → drop n (tokens_of ps) ≡ tokens_of (drop n ps)
-rest_of zero ps = refl
-rest_of (suc n) [] = refl
-rest_of (suc n) (p ∷ ps) = rest_of n ps
-
 gapless : (ps : List Pair) → tokens_of (without_first_gap ps) ≡ tokens_of ps
 gapless [] = refl
 gapless (p ∷ ps) = refl
 
 tokens_in : (ps : List Pair) (from n : ℕ) → take n (drop from (tokens_of ps)) ≡ tokens_of (pairs_in_range ps from n)
-tokens_in ps from n = ap (take n) (rest_of from ps) ∙ line_prefix n (drop from ps) ∙ sym (gapless (take n (drop from ps)))
+tokens_in ps from n =
+    ap (take n) (drop-map token_of from ps) ∙ take-map token_of n (drop from ps)
+    ∙ sym (gapless (take n (drop from ps)))
 
 -- where the pairs are the same but for the first gap, the tokens are
 pub stretch_tokens : (ps qs : List Pair) (from to n : ℕ) → pairs_in_range ps from n ≡ pairs_in_range qs to n → take n (drop from (tokens_of ps)) ≡ take n (drop to (tokens_of qs))

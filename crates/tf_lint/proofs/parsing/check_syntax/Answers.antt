@@ -9,7 +9,7 @@ use Rattle.hcl_tree.specs.CheckResult.{IsTooDeep}
 use Rattle.tf_lint.specs.Faults.{fault_of_parse}
 use Rattle.tf_lint.specs.ParseFaults.{IsReadFault}
 use Rattle.tf_lint.proofs.DoesNotParse.{not_parsed}
-use Rattle.tf_lint.proofs.RunLemmas.{residual}
+use Rattle.tf_lint.proofs.FileLemmas.{residual}
 use Rattle.tf_lint.proofs.parsing.check_syntax.Goals as goal
 
 deep : (f : ParseFault) → IsTooDeep f → IsMemoryOrDeep f

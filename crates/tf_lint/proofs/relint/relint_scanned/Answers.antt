@@ -3,7 +3,7 @@ use Rattle.hcl_scan.specs.Tokenization.{IsTokenization}
 use Rattle.tf_lint.specs.Faults.{fault_of_parse}
 use Rattle.tf_lint.specs.ParseFaults.{IsReadFault}
 use Rattle.tf_lint.proofs.LintLemmas.{read_whole, not_whole}
-use Rattle.tf_lint.proofs.RunLemmas.{residual}
+use Rattle.tf_lint.proofs.FileLemmas.{residual}
 use Rattle.tf_lint.proofs.relint.relint_scanned.Goals as goal
 
 pub returns-clause-linted : goal.returns-clause-linted

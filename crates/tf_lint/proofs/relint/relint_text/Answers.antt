@@ -4,7 +4,7 @@ use Rattle.hcl_scan.specs.Follows.{AreApart}
 use Rattle.hcl_token.specs.TokenizedText.{TokenizedText}
 use Rattle.tf_lint.specs.Faults.{fault_of_scan}
 use Rattle.tf_lint.specs.ParseFaults.{IsReadFault}
-use Rattle.tf_lint.proofs.RunLemmas.{residual}
+use Rattle.tf_lint.proofs.FileLemmas.{residual}
 use Rattle.tf_lint.proofs.LintLemmas.{not_tokenized}
 use Rattle.tf_lint.proofs.relint.relint_text.Goals as goal
 

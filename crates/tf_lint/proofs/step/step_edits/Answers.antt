@@ -6,7 +6,7 @@ use Rattle.tf_lint.specs.Faults.{fault_of_lint}
 use Rattle.tf_lint.specs.declared.fault.FixFault.{FixFault}
 use Rattle.tf_lint.specs.declared.fault.FixFault.TheVariants.{TooLong, Memory}
 use Rattle.tf_lint.proofs.LintLemmas.{is_found, valid_of, cannot}
-use Rattle.tf_lint.proofs.RunLemmas.{residual}
+use Rattle.tf_lint.proofs.FileLemmas.{residual}
 use Rattle.tf_lint.proofs.step.step_edits.Goals as goal
 
 pub fix_step_of_findings-requires-clause-found : goal.fix_step_of_findings-requires-clause-found

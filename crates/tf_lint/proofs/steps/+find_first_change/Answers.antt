@@ -9,7 +9,8 @@ use Rattle.tf_lint.specs.declared.fault.FixFault.{FixFault}
 use Rattle.tf_lint.specs.declared.fault.FixFault.TheVariants.{Memory}
 use Rattle.tf_lint.specs.declared.step.StepResult.{StepResult}
 use Rattle.tf_lint.specs.Inner.FirstChange.{has_step, IsChange, IsStep, RunFixable, IsFirstChange}
-use Rattle.tf_lint.proofs.RunLemmas.{split_first, no_rules, skipped_pass, stayed_pass, changed_pass, changed_transforms, StepsContinue, if_ok, if_err}
+use Rattle.tf_lint.proofs.FileLemmas.{if_ok}
+use Rattle.tf_lint.proofs.RunLemmas.{split_first, no_rules, skipped_pass, stayed_pass, changed_pass, changed_transforms, StepsContinue, if_err}
 use Rattle.tf_lint.proofs.steps.+find_first_change.Goals as goal
 
 -- a step that changes nothing, before those that can't be done

@@ -11,7 +11,8 @@ use Rattle.tf_lint.specs.Inner.FirstChange.{IsFirstChange, FixesFrom, RefusesFro
 use Rattle.tf_lint.specs.declared.step.NewText.{NewText}
 use Rattle.tf_lint.specs.declared.steps.FirstChange.{FirstChange}
 use Rattle.tf_lint.specs.declared.steps.FirstChange.TheVariants.{NoChange, Changed}
-use Rattle.tf_lint.proofs.RunLemmas.{no_more, and_more, and_refuses, if_ok, if_err, residual}
+use Rattle.tf_lint.proofs.FileLemmas.{if_ok, residual}
+use Rattle.tf_lint.proofs.RunLemmas.{no_more, and_more, and_refuses, if_err}
 use Rattle.tf_lint.proofs.steps.+run_steps.Invariants.{left}
 use Rattle.tf_lint.proofs.steps.+run_steps.Goals as goal
 

@@ -5,7 +5,7 @@ use Rattle.tf_rules.specs.declared.rule_set.RuleSet.{RuleSet}
 use Rattle.tf_fix.specs.ParsedTexts.{IsParseOf}
 use Rattle.tf_lint.specs.Inner.FirstChange.{IsFirstChange, RefusesFrom}
 use Rattle.tf_lint.specs.ParseFaults.{DoesNotParse}
-use Rattle.tf_lint.proofs.RunLemmas.{residual}
+use Rattle.tf_lint.proofs.FileLemmas.{residual}
 use Rattle.tf_lint.proofs.steps.next_state.Goals as goal
 
 pub returns-in_err-made-clause-fault : goal.returns-in_err-made-clause-fault

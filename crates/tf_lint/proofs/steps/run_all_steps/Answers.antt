@@ -18,7 +18,8 @@ use Rattle.tf_lint.specs.Inner.FirstChange.{RunFixable, IsFirstChange, FixesFrom
 use Rattle.tf_lint.specs.declared.fault.FixFault.TheVariants.{Memory}
 use Rattle.tf_lint.specs.declared.step.NewText.{NewText}
 use Rattle.tf_lint.specs.declared.steps.FirstChange.TheVariants.{Changed}
-use Rattle.tf_lint.proofs.RunLemmas.{none_changed, all_fixed, first_refuses, all_refuses, residual}
+use Rattle.tf_lint.proofs.FileLemmas.{residual}
+use Rattle.tf_lint.proofs.RunLemmas.{none_changed, all_fixed, first_refuses, all_refuses}
 use Rattle.tf_lint.proofs.steps.run_all_steps.Goals as goal
 
 pub returns-in_err-found_change-clause-fault : goal.returns-in_err-found_change-clause-fault
