@@ -92,8 +92,8 @@ module _ {ts : List Token} where
   part_derived {d} {m} (quote_text {i} p) = simp (open_literal) (d, m, _, _, quote_text {d = d} p)
   part_derived {d} {m} (here_text {i} p) = simp (open_literal) (d, m, _, _, here_text {d = d} p)
   part_derived {m} (interp {d} p x q) = simp (open_interp) (suc d, m, _, _, interp p x q)
-  part_derived (if_directive p w c q ps o) =
-      if_derived _ (rw (if_directive_first _ _ _ _ _, if_directive_past _ _ _ _ _) (own_part (if_directive p w c q ps o))) (subst (DerivesTemplate ts) (sym (if_directive_met _ _ _ _ _)) (template_derived ps)) (subst (DerivesElse ts) (sym (if_directive_unmet _ _ _ _ _)) (else_derived o))
+  part_derived {m} (if_directive {d} p w c q ps o) =
+      if_derived {d = suc (suc d)} {m = m} _ (rw (if_directive_first _ _ _ _ _, if_directive_past _ _ _ _ _) (own_part (if_directive p w c q ps o))) (subst (DerivesTemplate ts) (sym (if_directive_met _ _ _ _ _)) (template_derived ps)) (subst (DerivesElse ts) (sym (if_directive_unmet _ _ _ _ _)) (else_derived o))
   part_derived (for_directive p y q ps s) = for_derived _ (own_part (for_directive p y q ps s)) (intro_derived y) (template_derived ps)
 
   -- ---- members

@@ -140,6 +140,7 @@ at_term _ _ = refl
 
 at_tail : (role : Role) (l : TailLayer) → exprs_in_role role (tail_children l) ≡ of_tail role l
 at_tail Index (Tail-F.Index e) = refl
+at_tail role (Tail-F.Index e) = refl
 at_tail _ _ = refl
 
 at_part : (role : Role) (l : PartLayer) → exprs_in_role role (part_children l) ≡ of_part role l
