@@ -1,22 +1,22 @@
 -- A node is determined by what it has of its own and by its parts.
-use Rattle.std.proofs.Common.{◌≡◌, ℕ, Bool, false, List, [], ◌∷◌, ◌++◌, map, length, Option, Some, None, refl, sym, ap, ◌∙◌, arith}
+use Rattle.std.proofs.Common.{◌≡◌, ℕ, Bool, false, List, [], ◌∷◌, ◌++◌, map, length, Option, Some, None, refl, sym, ap, ◌∙◌, arith, append-nil}
 use Rattle.std.specs.List.{flat_map}
 use Rattle.hcl_grammar.specs.declared.tree.Attribute.{Attribute}
 use Rattle.hcl_grammar.specs.declared.tree.Block.{Block, roll-Block}
 use Rattle.hcl_grammar.specs.declared.tree.Body.{Body, roll-Body}
-use Rattle.hcl_grammar.specs.declared.tree.Call.{Call, out-Call, roll-Call}
+use Rattle.hcl_grammar.specs.declared.tree.Call.{Call, out-Call}
 use Rattle.hcl_grammar.specs.declared.tree.Content.{Content, out-Content}
 use Rattle.hcl_grammar.specs.declared.tree.Content.TheOpen.{Content-F, Member-F}
 use Rattle.hcl_grammar.specs.declared.tree.Content.TheViews as bodies
 use Rattle.hcl_grammar.specs.declared.tree.Elem.{Elem, roll-Elem}
 use Rattle.hcl_grammar.specs.declared.tree.Expr.{Expr, roll-Expr}
 use Rattle.hcl_grammar.specs.declared.tree.ForDirective.{ForDirective, roll-ForDirective}
-use Rattle.hcl_grammar.specs.declared.tree.ForObject.{ForObject, out-ForObject, roll-ForObject}
-use Rattle.hcl_grammar.specs.declared.tree.ForTuple.{ForTuple, out-ForTuple, roll-ForTuple}
+use Rattle.hcl_grammar.specs.declared.tree.ForObject.{ForObject, out-ForObject}
+use Rattle.hcl_grammar.specs.declared.tree.ForTuple.{ForTuple, out-ForTuple}
 use Rattle.hcl_grammar.specs.declared.tree.ExprKind.{ExprKind, out-ExprKind}
 use Rattle.hcl_grammar.specs.declared.tree.ExprKind.TheOpen.{ExprKind-F, Primary-F, Tail-F, Part-F}
 use Rattle.hcl_grammar.specs.declared.tree.ExprKind.TheViews as views
-use Rattle.hcl_grammar.specs.declared.tree.IfDirective.{IfDirective, out-IfDirective, roll-IfDirective}
+use Rattle.hcl_grammar.specs.declared.tree.IfDirective.{IfDirective, out-IfDirective}
 use Rattle.hcl_grammar.specs.declared.tree.Intro.{Intro, roll-Intro}
 use Rattle.hcl_grammar.specs.declared.tree.Label.{Label}
 use Rattle.hcl_grammar.specs.declared.tree.Operation.{Operation, roll-Operation}
@@ -56,103 +56,63 @@ member_is x y e = sym (bodies.roll-out-Member x) ∙ (ap bodies.roll-Member e �
 
 -- ---- a struct is determined by its fields
 
-make-expr : ℕ → ℕ → ExprKind → Expr
-make-expr a b c = roll-Expr (record { first = a; past = b; kind = c })
-
 expr_is : (x y : Expr) → x.first ≡ y.first → x.past ≡ y.past → x.kind ≡ y.kind → x ≡ y
-unfolding make-expr
-expr_is x y e0 e1 e2 = let h : make-expr x.first x.past x.kind ≡ make-expr y.first y.past y.kind = cc in h
-
-make-term : ℕ → ℕ → Primary → Term
-make-term a b c = roll-Term (record { first = a; past = b; kind = c })
+expr_is x y e0 e1 e2 = λ i. roll-Expr (record { first = e0 i; past = e1 i; kind = e2 i })
 
 term_is : (x y : Term) → x.first ≡ y.first → x.past ≡ y.past → x.kind ≡ y.kind → x ≡ y
-unfolding make-term
-term_is x y e0 e1 e2 = let h : make-term x.first x.past x.kind ≡ make-term y.first y.past y.kind = cc in h
-
-make-link : BinaryOperator → Expr → Operation
-make-link a b = roll-Operation (record { operator = a; operand = b })
+term_is x y e0 e1 e2 = λ i. roll-Term (record { first = e0 i; past = e1 i; kind = e2 i })
 
 link_is : (x y : Operation) → x.operator ≡ y.operator → x.operand ≡ y.operand → x ≡ y
-unfolding make-link
-link_is x y e0 e1 = let h : make-link x.operator x.operand ≡ make-link y.operator y.operand = cc in h
-
-make-elem : Expr → Expr → Elem
-make-elem a b = roll-Elem (record { key = a; value = b })
+link_is x y e0 e1 = λ i. roll-Operation (record { operator = e0 i; operand = e1 i })
 
 elem_is : (x y : Elem) → x.key ≡ y.key → x.value ≡ y.value → x ≡ y
-unfolding make-elem
-elem_is x y e0 e1 = let h : make-elem x.key x.value ≡ make-elem y.key y.value = cc in h
-
-make-template : ℕ → ℕ → List Part → Template
-make-template a b c = roll-Template (record { first = a; past = b; parts = c })
+elem_is x y e0 e1 = λ i. roll-Elem (record { key = e0 i; value = e1 i })
 
 template_is : (x y : Template) → x.first ≡ y.first → x.past ≡ y.past → x.parts ≡ y.parts → x ≡ y
-unfolding make-template
-template_is x y e0 e1 e2 = let h : make-template x.first x.past x.parts ≡ make-template y.first y.past y.parts = cc in h
-
-make-intro : ℕ → ℕ → ℕ → Option ℕ → Expr → Intro
-make-intro a b c d e = roll-Intro (record { first = a; past = b; name = c; second_name = d; collection = e })
+template_is x y e0 e1 e2 = λ i. roll-Template (record { first = e0 i; past = e1 i; parts = e2 i })
 
 intro_is : (x y : Intro) → x.first ≡ y.first → x.past ≡ y.past → x.name ≡ y.name → x.second_name ≡ y.second_name → x.collection ≡ y.collection → x ≡ y
-unfolding make-intro
-intro_is x y e0 e1 e2 e3 e4 = let h : make-intro x.first x.past x.name x.second_name x.collection ≡ make-intro y.first y.past y.name y.second_name y.collection = cc in h
-
-make-for_directive : ℕ → ℕ → Intro → Template → ForDirective
-make-for_directive a b c d = roll-ForDirective (record { first = a; past = b; intro = c; body = d })
+intro_is x y e0 e1 e2 e3 e4 = λ i.
+    roll-Intro (record { first = e0 i; past = e1 i; name = e2 i; second_name = e3 i; collection = e4 i })
 
 for_directive_is : (x y : ForDirective) → x.first ≡ y.first → x.past ≡ y.past → x.intro ≡ y.intro → x.body ≡ y.body → x ≡ y
-unfolding make-for_directive
-for_directive_is x y e0 e1 e2 e3 = let h : make-for_directive x.first x.past x.intro x.body ≡ make-for_directive y.first y.past y.intro y.body = cc in h
-
-make-attribute : ℕ → ℕ → ℕ → Expr → Attribute
-make-attribute a b c d = record { first = a; past = b; name = c; value = d }
+for_directive_is x y e0 e1 e2 e3 = λ i.
+    roll-ForDirective (record { first = e0 i; past = e1 i; intro = e2 i; body = e3 i })
 
 attribute_is : (x y : Attribute) → x.first ≡ y.first → x.past ≡ y.past → x.name ≡ y.name → x.value ≡ y.value → x ≡ y
-unfolding make-attribute
-attribute_is x y e0 e1 e2 e3 = let h : make-attribute x.first x.past x.name x.value ≡ make-attribute y.first y.past y.name y.value = cc in h
-
-make-body : ℕ → ℕ → List Member → Body
-make-body a b c = roll-Body (record { first = a; past = b; members = c })
+attribute_is x y e0 e1 e2 e3 = λ i. record { first = e0 i; past = e1 i; name = e2 i; value = e3 i }
 
 body_is : (x y : Body) → x.first ≡ y.first → x.past ≡ y.past → x.members ≡ y.members → x ≡ y
-unfolding make-body
-body_is x y e0 e1 e2 = let h : make-body x.first x.past x.members ≡ make-body y.first y.past y.members = cc in h
-
-make-block : ℕ → ℕ → ℕ → List Label → Content → Block
-make-block a b c d e = roll-Block (record { first = a; past = b; block_type = c; labels = d; content = e })
+body_is x y e0 e1 e2 = λ i. roll-Body (record { first = e0 i; past = e1 i; members = e2 i })
 
 block_is : (x y : Block) → x.first ≡ y.first → x.past ≡ y.past → x.block_type ≡ y.block_type → x.labels ≡ y.labels → x.content ≡ y.content → x ≡ y
-unfolding make-block
-block_is x y e0 e1 e2 e3 e4 = let h : make-block x.first x.past x.block_type x.labels x.content ≡ make-block y.first y.past y.block_type y.labels y.content = cc in h
-
-make-call : List ℕ → List Expr → Bool → Call
-make-call a b c = roll-Call (record { names = a; arguments = b; expand_final = c })
+block_is x y e0 e1 e2 e3 e4 = λ i.
+    roll-Block (record { first = e0 i; past = e1 i; block_type = e2 i; labels = e3 i; content = e4 i })
 
 call_is : (x y : Call) → (out-Call x).names ≡ (out-Call y).names → (out-Call x).arguments ≡ (out-Call y).arguments → (out-Call x).expand_final ≡ (out-Call y).expand_final → x ≡ y
-unfolding make-call views.roll-Call
-call_is x y e0 e1 e2 = sym (views.roll-out-Call x) ∙ ((let h : make-call (out-Call x).names (out-Call x).arguments (out-Call x).expand_final ≡ make-call (out-Call y).names (out-Call y).arguments (out-Call y).expand_final = cc in h) ∙ views.roll-out-Call y)
-
-make-for_tuple : Intro → Expr → Option Expr → ForTuple
-make-for_tuple a b c = roll-ForTuple (record { intro = a; value = b; filter = c })
+call_is x y e0 e1 e2 =
+    let e : views.roll-Call (out-Call x) ≡ views.roll-Call (out-Call y) = λ i.
+    views.roll-Call (record { names = e0 i; arguments = e1 i; expand_final = e2 i }) in
+    sym (views.roll-out-Call x) ∙ (e ∙ views.roll-out-Call y)
 
 for_tuple_is : (x y : ForTuple) → (out-ForTuple x).intro ≡ (out-ForTuple y).intro → (out-ForTuple x).value ≡ (out-ForTuple y).value → (out-ForTuple x).filter ≡ (out-ForTuple y).filter → x ≡ y
-unfolding make-for_tuple views.roll-ForTuple
-for_tuple_is x y e0 e1 e2 = sym (views.roll-out-ForTuple x) ∙ ((let h : make-for_tuple (out-ForTuple x).intro (out-ForTuple x).value (out-ForTuple x).filter ≡ make-for_tuple (out-ForTuple y).intro (out-ForTuple y).value (out-ForTuple y).filter = cc in h) ∙ views.roll-out-ForTuple y)
-
-make-for_object : Intro → Expr → Expr → Bool → Option Expr → ForObject
-make-for_object a b c d e = roll-ForObject (record { intro = a; key = b; value = c; grouped = d; filter = e })
+for_tuple_is x y e0 e1 e2 =
+    let e : views.roll-ForTuple (out-ForTuple x) ≡ views.roll-ForTuple (out-ForTuple y) = λ i.
+    views.roll-ForTuple (record { intro = e0 i; value = e1 i; filter = e2 i }) in
+    sym (views.roll-out-ForTuple x) ∙ (e ∙ views.roll-out-ForTuple y)
 
 for_object_is : (x y : ForObject) → (out-ForObject x).intro ≡ (out-ForObject y).intro → (out-ForObject x).key ≡ (out-ForObject y).key → (out-ForObject x).value ≡ (out-ForObject y).value → (out-ForObject x).grouped ≡ (out-ForObject y).grouped → (out-ForObject x).filter ≡ (out-ForObject y).filter → x ≡ y
-unfolding make-for_object views.roll-ForObject
-for_object_is x y e0 e1 e2 e3 e4 = sym (views.roll-out-ForObject x) ∙ ((let h : make-for_object (out-ForObject x).intro (out-ForObject x).key (out-ForObject x).value (out-ForObject x).grouped (out-ForObject x).filter ≡ make-for_object (out-ForObject y).intro (out-ForObject y).key (out-ForObject y).value (out-ForObject y).grouped (out-ForObject y).filter = cc in h) ∙ views.roll-out-ForObject y)
-
-make-if_directive : ℕ → ℕ → Expr → Template → Option Template → IfDirective
-make-if_directive a b c d e = roll-IfDirective (record { first = a; past = b; condition = c; then_branch = d; else_branch = e })
+for_object_is x y e0 e1 e2 e3 e4 =
+    let e : views.roll-ForObject (out-ForObject x) ≡ views.roll-ForObject (out-ForObject y) = λ i.
+    views.roll-ForObject (record { intro = e0 i; key = e1 i; value = e2 i; grouped = e3 i; filter = e4 i }) in
+    sym (views.roll-out-ForObject x) ∙ (e ∙ views.roll-out-ForObject y)
 
 if_directive_is : (x y : IfDirective) → (out-IfDirective x).first ≡ (out-IfDirective y).first → (out-IfDirective x).past ≡ (out-IfDirective y).past → (out-IfDirective x).condition ≡ (out-IfDirective y).condition → (out-IfDirective x).then_branch ≡ (out-IfDirective y).then_branch → (out-IfDirective x).else_branch ≡ (out-IfDirective y).else_branch → x ≡ y
-unfolding make-if_directive views.roll-IfDirective
-if_directive_is x y e0 e1 e2 e3 e4 = sym (views.roll-out-IfDirective x) ∙ ((let h : make-if_directive (out-IfDirective x).first (out-IfDirective x).past (out-IfDirective x).condition (out-IfDirective x).then_branch (out-IfDirective x).else_branch ≡ make-if_directive (out-IfDirective y).first (out-IfDirective y).past (out-IfDirective y).condition (out-IfDirective y).then_branch (out-IfDirective y).else_branch = cc in h) ∙ views.roll-out-IfDirective y)
+if_directive_is x y e0 e1 e2 e3 e4 =
+    let e : views.roll-IfDirective (out-IfDirective x) ≡ views.roll-IfDirective (out-IfDirective y) = λ i.
+    views.roll-IfDirective
+    (record { first = e0 i; past = e1 i; condition = e2 i; then_branch = e3 i; else_branch = e4 i }) in
+    sym (views.roll-out-IfDirective x) ∙ (e ∙ views.roll-out-IfDirective y)
 
 -- ---- lists
 
@@ -346,9 +306,6 @@ determines (nodes.visit {n} {ns} {inside} {others} a b) (nodes.visit {n = m} {ns
     let following : ns ≡ ms = rest.0 in
     ((let all : n ∷ ns ≡ m ∷ ms = cc in all), rest.1)
 
-map-nil : {A : Type 0} (xs : List A) → xs ≡ xs ++ []
-map-nil [] = refl
-map-nil (x ∷ xs) = ap (λ l. x ∷ l) (map-nil xs)
-
 pub tree_determined : PreorderDeterminesTree
-tree_determined ns ms xs ys l a b e = (determines a b l [] [] (sym (map-nil (map node_key xs)) ∙ (e ∙ map-nil (map node_key ys)))).0
+tree_determined ns ms xs ys l a b e =
+    (determines a b l [] [] (append-nil (map node_key xs) ∙ (e ∙ sym (append-nil (map node_key ys))))).0

@@ -56,7 +56,7 @@ found_by_one rules rule pairs members found has a =
 -- ---- where what one rule finds comes from
 
 -- the set of one rule has it
-has_itself : (rule : Rule) → has_rule (only rule) rule ≡ true
+pub has_itself : (rule : Rule) → has_rule (only rule) rule ≡ true
 has_itself CommentSyntax = refl
 has_itself rule = refl
 

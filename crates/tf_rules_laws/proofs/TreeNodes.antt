@@ -50,7 +50,8 @@ legacy-append : (xs ys : List Node) → legacy_numbers (xs ++ ys) ≡ legacy_num
 legacy-append [] ys = refl
 legacy-append (x ∷ xs) ys = ap (λ (ns : List ℕ). node_number x ++ ns) (legacy-append xs ys) ∙ sym (append_assoc (node_number x) (legacy_numbers xs) (legacy_numbers ys))
 
-preorder-append : {ns ms xs ys : List Node} → IsPreorder ns xs → IsPreorder ms ys → IsPreorder (ns ++ ms) (xs ++ ys)
+pub preorder-append : {ns ms xs ys : List Node} → IsPreorder ns xs → IsPreorder ms ys
+    → IsPreorder (ns ++ ms) (xs ++ ys)
 preorder-append no_nodes b = b
 preorder-append {ms = ms} {ys = ys} (visit {n = n} {ns = ns} {inside = inside} {others = others} a c) b =
     subst (λ (l : List Node). IsPreorder (n ∷ (ns ++ ms)) (n ∷ l)) (sym (append_assoc inside others ys)) (visit a (preorder-append c b))
