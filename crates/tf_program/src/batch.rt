@@ -10,7 +10,7 @@ ghost use Rattle.tf_program.specs.Work.{file_command};
 
 use crate::entry::{Entry, none_may_share};
 use crate::file_error::FileError;
-use crate::files::{Made, change_file};
+use crate::files::{FileWork, Made, change_file};
 use crate::streams::Streams;
 use std::alloc::Global;
 use std::io::{Read, Write};
@@ -156,7 +156,8 @@ impl<'a, P: Drop> Batch<'a, P> {
             (S.known store.new)) }
     {
         let locate = self.locate;
-        let made = change_file(store, self.alloc, command, name, place, locate);
+        let work = FileWork { command, name };
+        let made = change_file(store, self.alloc, work, place, locate);
         if self.entries.is_empty() {
             return Entry { name, made };
         }
@@ -166,7 +167,7 @@ impl<'a, P: Drop> Batch<'a, P> {
         // once those are saved there is more memory, and more files can be opened
         self.finish(store, streams);
         let place = store.find(self.alloc, name);
-        let made = change_file(store, self.alloc, command, name, place, locate);
+        let made = change_file(store, self.alloc, work, place, locate);
         Entry { name, made }
     }
 

@@ -150,7 +150,7 @@ fn run_task<S: Store, I: Read, O: Write, F: Write>(
 {
     let mut batch = Batch::new(alloc, task);
     for name in &task.files {
-        run_on_file(store, alloc, task, name, &mut batch, streams);
+        run_on_file(store, task, name, &mut batch, streams);
     }
     batch.finish(store, streams);
     batch.outcome
@@ -159,7 +159,6 @@ fn run_task<S: Store, I: Read, O: Write, F: Write>(
 /// Does a task on one file.
 fn run_on_file<'a, S: Store, I: Read, O: Write, F: Write>(
     store: &mut S,
-    alloc: Global,
     task: &Task<'_>,
     name: &'a str,
     batch: &mut Batch<'a, S::Place>,
@@ -179,7 +178,7 @@ fn run_on_file<'a, S: Store, I: Read, O: Write, F: Write>(
         Some(command) => batch.change(store, command, name, streams),
         None => {
             batch.finish(store, streams);
-            let met = run_read_only(store, alloc, task, name, streams);
+            let met = run_read_only(store, batch.alloc, task, name, streams);
             batch.note(name, met, streams);
         }
     }

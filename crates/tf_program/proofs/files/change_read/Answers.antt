@@ -14,6 +14,6 @@ returns-in-Ok g c =
 
 pub returns-in-Err : goal.returns-in-Err
 returns-in-Err g c = (
-  subst (λ (fault : RunFault). HasNoEffect c.args.command c.args.read.text.items c.args.read.journal.items fault) (sym c.of_refused.ensures.fault) c.in-Err.ensures.fault,
+  subst (λ (fault : RunFault). HasNoEffect c.args.work.command c.args.read.text.items c.args.read.journal.items fault) (sym c.of_refused.ensures.fault) c.in-Err.ensures.fault,
   located_in_file c.args.read.text.items c.deref.result.now c.args.locate _ c.of_refused.result c.of_refused.ensures.fault (λ within. c.deref.ensures.value ∙ c.in-Err.ensures.text within) c.of_refused.ensures.location,
 )
