@@ -15,6 +15,14 @@ use std::os::unix::fs::OpenOptionsExt;
 use tf_saving::Reply;
 use tf_session::{RunFault, SessionPart};
 
+/// A part in its file: by what name, and what the file was before it was read.
+#[derive(Clone, Copy)]
+struct SeenPart<'p> {
+    part: SessionPart,
+    name: &'p str,
+    seen: Snapshot,
+}
+
 /// Writes both files over the old ones, the journal first, and waits until both are durable. After
 /// an error the old bytes are put back, as far as the system lets it; a crash in the middle loses
 /// them. `read` is what both were before they were read. Both are written through the handles by
@@ -35,9 +43,21 @@ pub fn overwrite<R: SystemFiles>(
     let Some(read) = read else {
         return Err(Trouble::from(write_fault(SessionPart::Text, 0)));
     };
+    let text = SeenPart {
+        part: SessionPart::Text,
+        name: paths.text.as_str(),
+        seen: read.text,
+    };
     match read.journal {
-        Some(journal) => overwrite_both(rt, alloc, paths, contents, read.text, journal),
-        None => create_and_overwrite(rt, alloc, paths, contents, read.text),
+        Some(seen) => {
+            let journal = SeenPart {
+                part: SessionPart::Journal,
+                name: paths.journal.as_str(),
+                seen,
+            };
+            overwrite_both(rt, alloc, contents, text, journal)
+        }
+        None => create_and_overwrite(rt, alloc, paths, contents, text),
     }
 }
 
@@ -45,24 +65,17 @@ pub fn overwrite<R: SystemFiles>(
 fn overwrite_both<R: SystemFiles>(
     rt: &R,
     alloc: Global,
-    paths: &FilePaths,
     contents: NewContents<'_>,
-    seen: Snapshot,
-    seen_journal: Snapshot,
+    text: SeenPart<'_>,
+    journal: SeenPart<'_>,
 ) -> Result<(), Trouble> {
-    let old_journal = old_bytes(
-        rt,
-        alloc,
-        SessionPart::Journal,
-        &paths.journal,
-        seen_journal,
-    )?;
-    let old_text = old_bytes(rt, alloc, SessionPart::Text, &paths.text, seen)?;
+    let old_journal = old_bytes(rt, alloc, journal)?;
+    let old_text = old_bytes(rt, alloc, text)?;
     check_sizes(size_limit(rt), contents, &old_text, &old_journal)?;
-    check_kind(rt, SessionPart::Journal, &paths.journal, seen_journal)?;
-    check_kind(rt, SessionPart::Text, &paths.text, seen)?;
-    let mut journal = open_seen(rt, SessionPart::Journal, &paths.journal, seen_journal)?;
-    let mut text = open_seen(rt, SessionPart::Text, &paths.text, seen)?;
+    check_kind(rt, journal)?;
+    check_kind(rt, text)?;
+    let mut journal = open_seen(rt, journal)?;
+    let mut text = open_seen(rt, text)?;
     let put = write_both(&mut journal, &mut text, contents);
     if put.is_err() {
         put_back(&mut text, &old_text);
@@ -78,12 +91,15 @@ fn create_and_overwrite<R: SystemFiles>(
     alloc: Global,
     paths: &FilePaths,
     contents: NewContents<'_>,
-    seen: Snapshot,
+    text: SeenPart<'_>,
 ) -> Result<(), Trouble> {
-    let old_text = old_bytes(rt, alloc, SessionPart::Text, &paths.text, seen)?;
+    let old_text = old_bytes(rt, alloc, text)?;
     check_sizes(size_limit(rt), contents, &old_text, &None)?;
-    let mut journal = create_journal(rt, paths, seen)?;
-    let put = overwrite_text(rt, paths, contents, seen, &mut journal, &old_text);
+    let mut journal = create_journal(rt, paths, text.seen)?;
+    let put = match sync_journal_name(paths) {
+        Ok(()) => overwrite_text(rt, contents, text, &old_text, &mut journal),
+        Err(trouble) => Err(trouble),
+    };
     if put.is_err() {
         remove_created(rt, &journal, &paths.journal);
     }
@@ -93,15 +109,13 @@ fn create_and_overwrite<R: SystemFiles>(
 /// Writes both, the journal into the file that was created for it.
 fn overwrite_text<R: SystemFiles>(
     rt: &R,
-    paths: &FilePaths,
     contents: NewContents<'_>,
-    seen: Snapshot,
-    journal: &mut File,
+    text: SeenPart<'_>,
     old_text: &Option<Vec<u8>>,
+    journal: &mut File,
 ) -> Result<(), Trouble> {
-    sync_journal_name(paths)?;
-    check_kind(rt, SessionPart::Text, &paths.text, seen)?;
-    let mut text = open_seen(rt, SessionPart::Text, &paths.text, seen)?;
+    check_kind(rt, text)?;
+    let mut text = open_seen(rt, text)?;
     if len_of(journal) != Some(0) {
         return Err(changed(SessionPart::Journal));
     }
@@ -257,13 +271,9 @@ fn len_of<F: OpenFile>(file: &F) -> Option<u64> {
 /// # Errors
 ///
 /// `Write` with no byte sent.
-fn check_kind<R: SystemFiles>(
-    rt: &R,
-    part: SessionPart,
-    path: &str,
-    seen: Snapshot,
-) -> Result<(), Trouble> {
-    if seen.is_regular() && is_irregular(rt, path) {
+fn check_kind<R: SystemFiles>(rt: &R, seen_part: SeenPart<'_>) -> Result<(), Trouble> {
+    let SeenPart { part, name, seen } = seen_part;
+    if seen.is_regular() && is_irregular(rt, name) {
         Err(changed(part))
     } else {
         Ok(())
@@ -276,12 +286,8 @@ fn check_kind<R: SystemFiles>(
 ///
 /// `Write` with no byte sent, also where the name leads to another file than the one that was seen,
 /// or that one has changed.
-fn open_seen<R: SystemFiles>(
-    rt: &R,
-    part: SessionPart,
-    name: &str,
-    seen: Snapshot,
-) -> Result<File, Trouble> {
+fn open_seen<R: SystemFiles>(rt: &R, seen_part: SeenPart<'_>) -> Result<File, Trouble> {
+    let SeenPart { part, name, seen } = seen_part;
     match OpenOptions::new().write(true).open(rt, name) {
         Ok(file) if seen.is_of(&file) => Ok(file),
         Ok(_) => Err(changed(part)),
@@ -318,14 +324,13 @@ fn is_regular_file(file: &File) -> bool {
 fn old_bytes<R: SystemFiles>(
     rt: &R,
     alloc: Global,
-    part: SessionPart,
-    name: &str,
-    seen: Snapshot,
+    seen_part: SeenPart<'_>,
 ) -> Result<Option<Vec<u8>>, Trouble> {
+    let SeenPart { part, name, seen } = seen_part;
     if !seen.is_regular() {
         return Ok(None);
     }
-    check_kind(rt, part, name, seen)?;
+    check_kind(rt, seen_part)?;
     let mut file = match fs::open(rt, name) {
         Ok(file) => file,
         Err(error) => return Err(Trouble::unread_after(subject_of(part), &error)),
