@@ -1,12 +1,4 @@
 pub mod Causes
-pub mod Common
-pub mod Handles
-pub mod Paths
-pub mod Replies
-pub mod Reading
-pub mod Snapshots
-pub mod Ends
 pub mod Opening
-pub mod Modes
-pub mod Trust
 pub mod Stores
+pub mod Inner

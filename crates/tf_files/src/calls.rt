@@ -2,9 +2,10 @@
 
 ghost use Rattle.std.specs.IoError.{raw_os_error};
 ghost use Rattle.std.specs.Prelude.{◌≡◌, string_bytes, Some};
-ghost use Rattle.tf_files.specs.Causes.{refused_with, unlike, with_cause};
-ghost use Rattle.tf_files.specs.Paths.{text_folder, journal_folder};
-ghost use Rattle.tf_files.specs.Replies.{reply_to};
+ghost use Rattle.tf_files.specs.Causes.{refused_with};
+ghost use Rattle.tf_files.specs.Inner.Causes.{unlike, with_cause};
+ghost use Rattle.tf_files.specs.Inner.Paths.{text_folder, journal_folder};
+ghost use Rattle.tf_files.specs.Inner.Replies.{reply_to};
 
 use crate::adoption::can_adopt;
 use crate::cause::{Cause, Reason, Subject};

@@ -1,7 +1,7 @@
 //! The files of the system as a store. What they hold is not known: other programs may change them.
 
 ghost use Rattle.std.specs.Prelude.{◌≡◌, ◌↔◌, None, true, IfOk, IfErr};
-ghost use Rattle.tf_files.specs.Common.{MayHaveCommon};
+ghost use Rattle.tf_files.specs.Inner.Common.{MayHaveCommon};
 ghost use Rattle.tf_files.specs.Opening.{is_file_fault};
 ghost use Rattle.tf_files.specs.Stores.{Spot};
 

@@ -1,8 +1,8 @@
 //! One part of what is saved: the text of a file, or its journal.
 
 ghost use Rattle.std.specs.Prelude.{◌≡◌};
-ghost use Rattle.tf_files.specs.Causes.{subject_of};
-ghost use Rattle.tf_files.specs.Ends.{session_part};
+ghost use Rattle.tf_files.specs.Inner.Causes.{subject_of};
+ghost use Rattle.tf_files.specs.Inner.Ends.{session_part};
 
 use crate::cause::{Cause, Subject, Trouble};
 use std::fs::File;

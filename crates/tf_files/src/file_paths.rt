@@ -2,7 +2,7 @@
 
 ghost use Rattle.std.specs.Prelude.{◌≡◌, true, IfOk, IfErr, string_bytes};
 ghost use Rattle.tf_files.specs.Opening.{is_file_fault};
-ghost use Rattle.tf_files.specs.Paths.{text_folder, journal_folder};
+ghost use Rattle.tf_files.specs.Inner.Paths.{text_folder, journal_folder};
 
 use crate::cause::{NO_SUCH_FILE, Reason, Subject, Trouble};
 use crate::folder::{Folder, SystemFiles};

@@ -2,7 +2,7 @@
 //! names by then.
 
 ghost use Rattle.std.specs.Prelude.{◌≡◌, IfOk, IfErr, is_some, true, if◌then◌else◌, string_bytes};
-ghost use Rattle.tf_files.specs.Handles.{handle_path};
+ghost use Rattle.tf_files.specs.Inner.Handles.{handle_path};
 ghost use Rattle.tf_files.specs.Opening.{is_file_fault};
 
 use crate::calls::reply_to;

@@ -2,7 +2,7 @@
 
 ghost use Rattle.std.specs.Fs.{file_type, IsFile};
 ghost use Rattle.std.specs.Prelude.{◌≡◌, ◌↔◌, true, is_some};
-ghost use Rattle.tf_files.specs.Common.{IsFileOf, IsSomeFileOf, HaveCommon, files_read};
+ghost use Rattle.tf_files.specs.Inner.Common.{IsFileOf, IsSomeFileOf, HaveCommon, files_read};
 
 use crate::file_paths::FilePaths;
 use crate::look::Look;

@@ -5,7 +5,7 @@ ghost use Rattle.std.specs.Prelude.{◌≡◌, ◌↔◌, ◌&&◌, ℕ, Option,
 ghost use Rattle.std.specs.Prelude.{if◌then◌else◌};
 ghost use Rattle.std.specs.Fs.{file_type, metadata_mode, IsFile};
 ghost use Rattle.tf_files.specs.Opening.{is_file_fault};
-ghost use Rattle.tf_files.specs.Trust.{is_trusted};
+ghost use Rattle.tf_files.specs.Inner.Trust.{is_trusted};
 ghost use Rattle.tf_files.specs.declared.trust.Access.{Access};
 
 use crate::cause::{Reason, Subject, Trouble};

@@ -3,7 +3,7 @@
 ghost use Rattle.std.specs.IoError.{error_kind};
 ghost use Rattle.std.specs.Prelude.{◌≡◌, true, IfErr};
 ghost use Rattle.tf_files.specs.Opening.{is_file_fault};
-ghost use Rattle.tf_files.specs.Replies.{shows_none};
+ghost use Rattle.tf_files.specs.Inner.Replies.{shows_none};
 
 use crate::cause::{Subject, Trouble};
 use crate::folder::SystemFiles;

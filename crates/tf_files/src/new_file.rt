@@ -1,7 +1,7 @@
 //! The new file that is to replace an old one.
 
 ghost use Rattle.std.specs.Prelude.{◌≡◌};
-ghost use Rattle.tf_files.specs.Modes.{first_journal_mode};
+ghost use Rattle.tf_files.specs.Inner.Modes.{first_journal_mode};
 
 use crate::calls::{NewFile, PartFile, reply_to};
 use crate::file_paths::FilePaths;

@@ -2,7 +2,7 @@
 
 ghost use Rattle.std.specs.Prelude.{◌≡◌, ◌⊎◌, true, IfOk, IfErr};
 ghost use Rattle.tf_files.specs.Opening.{is_file_fault};
-ghost use Rattle.tf_files.specs.Reading.{IsAllOf, IsTextFault, IsJournalFault};
+ghost use Rattle.tf_files.specs.Inner.Reading.{IsAllOf, IsTextFault, IsJournalFault};
 
 use crate::cause::{Reason, Subject, Trouble};
 use crate::file_paths::FilePaths;

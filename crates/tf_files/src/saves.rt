@@ -1,9 +1,9 @@
 //! Follows the saves of many files: each up to its next wait for the disk, then all waits in a row.
 
 ghost use Rattle.std.specs.Prelude.{◌≡◌, true, IfErr};
-ghost use Rattle.tf_files.specs.Causes.{first_known};
-ghost use Rattle.tf_files.specs.Ends.{result_of_end, part_fault, unknown_fault};
-ghost use Rattle.tf_files.specs.Ends.{attempt_of, ended_attempt, failed_attempt};
+ghost use Rattle.tf_files.specs.Inner.Causes.{first_known};
+ghost use Rattle.tf_files.specs.Inner.Ends.{result_of_end, part_fault, unknown_fault};
+ghost use Rattle.tf_files.specs.Inner.Ends.{attempt_of, ended_attempt, failed_attempt};
 ghost use Rattle.tf_files.specs.Opening.{is_file_fault};
 
 use crate::calls::{NewFile, PartFile, make};

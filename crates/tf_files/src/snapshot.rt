@@ -1,8 +1,8 @@
 //! Whether a file or its journal has changed.
 ghost use Rattle.std.specs.Fs.{file_type, IsFile};
 ghost use Rattle.std.specs.Prelude.{◌≡◌, ◌↔◌, true, is_some, is_none};
-ghost use Rattle.tf_files.specs.Common.{regular_id};
-ghost use Rattle.tf_files.specs.Snapshots.{access_of, snapshots_of, snapshots_of_text};
+ghost use Rattle.tf_files.specs.Inner.Common.{regular_id};
+ghost use Rattle.tf_files.specs.Inner.Snapshots.{access_of, snapshots_of, snapshots_of_text};
 
 use crate::cause::{Reason, Subject, Trouble};
 use crate::file_paths::FilePaths;

@@ -3,9 +3,9 @@
 
 ghost use Rattle.std.specs.Prelude.{◌≡◌, ◌==◌};
 ghost use Rattle.std.specs.Fs.{metadata_mode};
-ghost use Rattle.tf_files.specs.Trust.{is_of, may_group_write, may_others_write, may_only_group_create};
-ghost use Rattle.tf_files.specs.Trust.{is_of_team, is_of_team_in, is_of_owner, is_written_alike};
-ghost use Rattle.tf_files.specs.Trust.{is_trusted};
+ghost use Rattle.tf_files.specs.Inner.Trust.{is_of, may_group_write, may_others_write};
+ghost use Rattle.tf_files.specs.Inner.Trust.{may_only_group_create, is_of_team, is_of_team_in};
+ghost use Rattle.tf_files.specs.Inner.Trust.{is_of_owner, is_written_alike, is_trusted};
 
 use crate::folder::SystemFiles;
 use std::fs::{self, Metadata};

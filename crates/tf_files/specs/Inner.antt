@@ -1,0 +1,10 @@
+pub mod Causes
+pub mod Common
+pub mod Ends
+pub mod Handles
+pub mod Modes
+pub mod Paths
+pub mod Reading
+pub mod Replies
+pub mod Snapshots
+pub mod Trust
