@@ -51,11 +51,11 @@ check_line name FileOutcome.Issue = []
 
 -- ---- a fix
 
--- The fix makes the new text and records of the old ones; `left` is what is reported of it in a
+-- The fix makes the new text and records of the old ones; `lines` are what is reported of it in a
 -- file of this name.
 abbrev pub FixesText : List ℕ → RuleSet → SessionContents → Done → List ℕ → SessionContents → Type 0
-FixesText name rules old d left new =
-    DoesStep (Fix rules) old d new × AreReportLines (Fix rules) name d new.text left
+FixesText name rules old d lines new =
+    DoesStep (Fix rules) old d new × AreReportLines (Fix rules) name d new.text lines
 
 -- The fix refuses text and records; or it succeeds, and memory runs out for those lines.
 abbrev pub NotFixed : RuleSet → SessionContents → RunFault → Type 0
@@ -69,19 +69,19 @@ NotFixed rules old fault =
 -- What the action on a text of this name makes: its outcome, and what is printed on standard output
 -- and on standard error. Revert and list have no text.
 abbrev pub IsAnswer : Action → List ℕ → List ℕ → FileOutcome → List ℕ → List ℕ → Type 0
-IsAnswer Action.Format name text met output left =
-    (met ≡ FileOutcome.Nothing) × StepsTo Fmt text output × (left ≡ [])
-IsAnswer Action.Check name text met output left =
-    ChecksText text met × (output ≡ check_line name met) × (left ≡ [])
-IsAnswer (Action.Lint rules) name text met output left =
-    (count : ℕ) × AreLines name rules text output count × IsOutcomeOf met count × (left ≡ [])
-IsAnswer (Action.Fix rules) name text met output left =
-    (d : Done) × (new : SessionContents) × FixesText name rules (without_records text) d left new
+IsAnswer Action.Format name text met output errors =
+    (met ≡ FileOutcome.Nothing) × StepsTo Fmt text output × (errors ≡ [])
+IsAnswer Action.Check name text met output errors =
+    ChecksText text met × (output ≡ check_line name met) × (errors ≡ [])
+IsAnswer (Action.Lint rules) name text met output errors =
+    (count : ℕ) × AreLines name rules text output count × IsOutcomeOf met count × (errors ≡ [])
+IsAnswer (Action.Fix rules) name text met output errors =
+    (d : Done) × (new : SessionContents) × FixesText name rules (without_records text) d errors new
     × (output ≡ new.text) × IsOutcomeOf met d.left
-IsAnswer (Action.Revert number) name text met output left =
-    (met ≡ FileOutcome.Nothing) × (output ≡ []) × (left ≡ [])
-IsAnswer Action.List name text met output left =
-    (met ≡ FileOutcome.Nothing) × (output ≡ []) × (left ≡ [])
+IsAnswer (Action.Revert number) name text met output errors =
+    (met ≡ FileOutcome.Nothing) × (output ≡ []) × (errors ≡ [])
+IsAnswer Action.List name text met output errors =
+    (met ≡ FileOutcome.Nothing) × (output ≡ []) × (errors ≡ [])
 
 -- why a text is refused
 abbrev pub IsRefusal : (List ℕ → Fault → Type 0) → List ℕ → RunFault → Type 0
@@ -107,27 +107,27 @@ KeepsOutputs old new = (new.output ≡ old.output) × (new.errors ≡ old.errors
 
 -- both were printed, on standard output and then on standard error
 abbrev pub PrintsBoth : List ℕ → List ℕ → Console → Console → Type 0
-PrintsBoth output left old new =
-    PrintsAll output old.output new.output × PrintsAll left old.errors new.errors
+PrintsBoth output errors old new =
+    PrintsAll output old.output new.output × PrintsAll errors old.errors new.errors
 
 -- a call failed: for standard output, and nothing was printed on standard error; or for that
 abbrev pub FailsToPrintBoth : List ℕ → List ℕ → RunFault → Console → Console → Type 0
-FailsToPrintBoth output left fault old new =
+FailsToPrintBoth output errors fault old new =
     (FailsToPrint output fault old.output new.output × (new.errors ≡ old.errors))
-    ⊎ (PrintsAll output old.output new.output × FailsToPrint left fault old.errors new.errors)
+    ⊎ (PrintsAll output old.output new.output × FailsToPrint errors fault old.errors new.errors)
 
 -- what the action makes of a text was printed
 abbrev pub PrintsAnswer : Action → List ℕ → List ℕ → FileOutcome → Console → Console → Type 0
 PrintsAnswer action name text met old new =
-    (output : List ℕ) × (left : List ℕ) × IsAnswer action name text met output left
-    × PrintsBoth output left old new
+    (output : List ℕ) × (errors : List ℕ) × IsAnswer action name text met output errors
+    × PrintsBoth output errors old new
 
 -- the action makes nothing of a text, and nothing was printed; or not all that it makes was
 abbrev pub HasNoAnswer : Action → List ℕ → List ℕ → RunFault → Console → Console → Type 0
 HasNoAnswer action name text fault old new =
     (IsAnswerFault action text fault × KeepsOutputs old new)
-    ⊎ ((met : FileOutcome) × (output : List ℕ) × (left : List ℕ)
-    × IsAnswer action name text met output left × FailsToPrintBoth output left fault old new)
+    ⊎ ((met : FileOutcome) × (output : List ℕ) × (errors : List ℕ)
+    × IsAnswer action name text met output errors × FailsToPrintBoth output errors fault old new)
 
 -- what the action on this text has printed, and what is met
 abbrev pub AnswersText : Action → Bool → List ℕ → List ℕ → Result FileOutcome FileError

@@ -22,7 +22,7 @@ pub struct Answer {
     /// What is printed on standard output; none for the text itself.
     output: Option<Vec<u8>>,
     /// What is printed on standard error after it: of a fix, the lines of the issues that are left.
-    pub left: Vec<u8>,
+    pub errors: Vec<u8>,
 }
 
 impl Answer {
@@ -33,7 +33,7 @@ impl Answer {
     /// Those of the action: the text is refused; `Memory`.
     pub fn of(alloc: Global, action: Action, name: &str, text: &[u8]) -> Result<Answer, RunFault>
         ensures answer { IfOk result (λ answer. IsAnswer action name.now text.now answer.outcome
-            (fixed_text_or text.now answer.output) answer.left.items) }
+            (fixed_text_or text.now answer.output) answer.errors.items) }
         ensures fault { IfErr result (IsAnswerFault action text.now) }
     {
         match action {
@@ -59,12 +59,12 @@ impl Answer {
     fn of_output(alloc: Global, outcome: FileOutcome, output: Vec<u8>) -> Answer
         ensures outcome { result.outcome ≡ outcome }
         ensures output { (text : List ℕ) → fixed_text_or text result.output ≡ output.items }
-        ensures left { result.left.items ≡ [] }
+        ensures errors { result.errors.items ≡ [] }
     {
         Answer {
             outcome,
             output: Some(output),
-            left: Vec::new(alloc),
+            errors: Vec::new(alloc),
         }
     }
 
@@ -72,7 +72,7 @@ impl Answer {
     fn of_format(alloc: Global, text: &[u8]) -> Result<Answer, RunFault>
         ensures answer { IfOk result (λ answer. (answer.outcome ≡ FileOutcome.Nothing)
             × StepsTo Fmt text.now (fixed_text_or text.now answer.output)
-            × (answer.left.items ≡ [])) }
+            × (answer.errors.items ≡ [])) }
         ensures fault { IfErr result (IsAnswerFault Action.Format text.now) }
     {
         let new = format_without_session(alloc, text)?;
@@ -83,7 +83,7 @@ impl Answer {
     fn of_check(alloc: Global, name: &str, text: &[u8]) -> Result<Answer, RunFault>
         ensures answer { IfOk result (λ answer.
             IsAnswer Action.Check name.now text.now answer.outcome
-            (fixed_text_or text.now answer.output) answer.left.items) }
+            (fixed_text_or text.now answer.output) answer.errors.items) }
         ensures fault { IfErr result (IsAnswerFault Action.Check text.now) }
     {
         let yes = is_formatted(alloc, text)?;
@@ -96,7 +96,7 @@ impl Answer {
     fn of_lint(alloc: Global, name: &str, text: &[u8], rules: RuleSet) -> Result<Answer, RunFault>
         ensures answer { IfOk result (λ answer.
             IsAnswer (Action.Lint rules) name.now text.now answer.outcome
-            (fixed_text_or text.now answer.output) answer.left.items) }
+            (fixed_text_or text.now answer.output) answer.errors.items) }
         ensures fault { IfErr result (IsAnswerFault (Action.Lint rules) text.now) }
     {
         let (lines, count) = issue_lines(alloc, name, text, rules)?;
@@ -108,7 +108,7 @@ impl Answer {
     fn of_fix(alloc: Global, name: &str, text: &[u8], rules: RuleSet) -> Result<Answer, RunFault>
         ensures answer { IfOk result (λ answer.
             IsAnswer (Action.Fix rules) name.now text.now answer.outcome
-            (fixed_text_or text.now answer.output) answer.left.items) }
+            (fixed_text_or text.now answer.output) answer.errors.items) }
         ensures fault { IfErr result (IsAnswerFault (Action.Fix rules) text.now) }
     {
         let (output, done, left) = fix_alone(alloc, text, rules)?;
@@ -117,7 +117,7 @@ impl Answer {
         Ok(Answer {
             outcome: FileOutcome::from_issue_count(done.left),
             output,
-            left: lines.into_bytes(),
+            errors: lines.into_bytes(),
         })
     }
 }

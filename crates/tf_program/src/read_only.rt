@@ -144,7 +144,7 @@ fn print_answer<I: Read, O: Write, F: Write>(
 {
     let answer = Answer::of(alloc, action, name, text)?;
     print(answer.output(text), &mut streams.output)?;
-    print(&answer.left, &mut streams.errors)?;
+    print(&answer.errors, &mut streams.errors)?;
     Ok(answer.outcome)
 }
 
