@@ -1,7 +1,7 @@
 pub mod HeredocLemmas
 pub mod LineLemmas
 pub mod OpeningsLemmas
-pub mod PlainLemmas
+pub mod DollarLemmas
 pub mod SaidLemmas
 pub mod SequenceLemmas
 pub mod WithoutLemmas

@@ -7,7 +7,8 @@ use Rattle.hcl_scan.specs.declared.fault.ScanFault.TheVariants as fault
 use Rattle.hcl_explain.specs.Heredocs.{IsOpeningBefore}
 use Rattle.hcl_explain.specs.Lines.{line_start, line_end, closing_place, is_conflict_marker}
 use Rattle.hcl_explain.specs.Sequences.{IsClosedInComment, IsOpenBefore, IsEnded, IsBlamed}
-use Rattle.hcl_explain.specs.Sequences.{is_interpolation, EndsWithLine, IsUnclosed, IsUnclosedInPlain}
+use Rattle.hcl_explain.specs.Sequences.{is_interpolation, EndsWithLine}
+use Rattle.hcl_explain.specs.Sequences.{IsUnclosed, IsUnclosedWithoutDollars}
 use Rattle.hcl_explain.specs.declared.scan_error.ScanExplanation.{ScanExplanation}
 use Rattle.hcl_explain.specs.declared.scan_error.ScanReason.{ScanReason}
 use Rattle.hcl_explain.specs.declared.scan_error.ScanReason.TheVariants as reason
@@ -85,16 +86,16 @@ IsByLine text opened at e =
 
 -- of a `${` in a template sequence: that, if it is not closed without the `$` of each one in the
 -- line either
-abbrev pub IsByPlain : List ℕ → ℕ → ℕ → ScanExplanation → Type 0
-IsByPlain text opened at e =
-    (IsUnclosedInPlain text opened at × (e ≡ of opened reason.Sequence))
-    ⊎ ((IsUnclosedInPlain text opened at → ⊥) × (e ≡ of at (reason.InSequence opened)))
+abbrev pub IsByDollars : List ℕ → ℕ → ℕ → ScanExplanation → Type 0
+IsByDollars text opened at e =
+    (IsUnclosedWithoutDollars text opened at × (e ≡ of opened reason.Sequence))
+    ⊎ ((IsUnclosedWithoutDollars text opened at → ⊥) × (e ≡ of at (reason.InSequence opened)))
 
 -- or if it ends in a value before the `${`
 abbrev pub IsNestedIn : List ℕ → ℕ → ℕ → ScanExplanation → Type 0
 IsNestedIn text opened at e =
     (IsEnded text opened at × (e ≡ of opened reason.Sequence))
-    ⊎ ((IsEnded text opened at → ⊥) × IsByPlain text opened at e)
+    ⊎ ((IsEnded text opened at → ⊥) × IsByDollars text opened at e)
 
 -- of another character, by whether it ends in a value before that
 abbrev pub IsOtherIn : List ℕ → ℕ → ℕ → ScanExplanation → Type 0

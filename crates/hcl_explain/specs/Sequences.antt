@@ -202,21 +202,21 @@ abbrev pub without : List ℕ → ℕ → ℕ → List ℕ
 without text at count = take at text ++ drop count (drop at text)
 
 -- a line without the `$` of each `${`
-abbrev pub plain_line : List ℕ → List ℕ
-plain_line [] = []
-plain_line (b ∷ rest) =
-    if is_interpolation (b ∷ rest) then plain_line rest else b ∷ plain_line rest
+abbrev pub line_without_dollars : List ℕ → List ℕ
+line_without_dollars [] = []
+line_without_dollars (b ∷ rest) =
+    if is_interpolation (b ∷ rest) then line_without_dollars rest else b ∷ line_without_dollars rest
 
 -- the text without the `$` of each `${` in the line of byte `at`, from there on
-abbrev pub in_plain : List ℕ → ℕ → List ℕ
-in_plain text at =
-    (take at text ++ plain_line (first_line (drop at text))) ++ after_line (drop at text)
+abbrev pub without_dollars : List ℕ → ℕ → List ℕ
+without_dollars text at =
+    (take at text ++ line_without_dollars (first_line (drop at text))) ++ after_line (drop at text)
 
 -- the template sequence that begins at `opened` is shown not to be closed by the text, or by the
 -- text without these
-abbrev pub IsUnclosedInPlain : List ℕ → ℕ → ℕ → Type 0
-IsUnclosedInPlain text opened at =
-    EndsWithLine text opened ⊎ IsShownOpen (in_plain text at) opened
+abbrev pub IsUnclosedWithoutDollars : List ℕ → ℕ → ℕ → Type 0
+IsUnclosedWithoutDollars text opened at =
+    EndsWithLine text opened ⊎ IsShownOpen (without_dollars text at) opened
 
 -- the template sequence that begins at `opened` is shown not to be closed by the text, or by the
 -- text without the bytes at which its error is

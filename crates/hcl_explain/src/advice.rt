@@ -98,7 +98,7 @@ pub enum Advice {
     /// A function after a `.`.
     Method,
     /// `\` at the end of a line: in brackets, and elsewhere.
-    FreeNewline,
+    DroppedNewline,
     NoContinuation,
     /// `=~`, `!~` and `~=`.
     Match,
@@ -175,7 +175,7 @@ impl Advice {
                 "a type has no `?`; an attribute that may be missing is `optional(TYPE)`",
             Advice::KeyColon => "a key with a `:` is in double quotes, `\"`",
             Advice::Method => "there are no methods: a function is called as `f(x)`",
-            Advice::FreeNewline => "a newline here needs no `\\`",
+            Advice::DroppedNewline => "a newline here needs no `\\`",
             Advice::NoContinuation =>
                 "it continues no line; a value in parentheses can have several",
             Advice::HeredocSign => "a heredoc begins with `<<` or `<<-`",

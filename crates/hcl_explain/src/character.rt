@@ -195,12 +195,12 @@ fn is_line_end_next(rest: &[u8]) -> bool {
 
 /// Returns the advice for a `\` with which the line ends, after these tokens.
 fn at_backslash(scanned: &Scanned<'_>, found: Found<'_>) -> Advice {
-    let is_free = match innermost_open(scanned, scanned.len()) {
+    let drops_newline = match innermost_open(scanned, scanned.len()) {
         Some(open) => drops_lines(context_of(scanned, Some(open))),
         None => found.is_in_sequence,
     };
-    if is_free {
-        Advice::FreeNewline
+    if drops_newline {
+        Advice::DroppedNewline
     } else {
         Advice::NoContinuation
     }
@@ -292,15 +292,15 @@ fn push_unexpected(out: &mut String, c: char, rest: &[u8]) -> Result<(), AllocEr
     out.push_str("unexpected ")?;
     push_shown(out, c)?;
     match entity_form(rest) {
-        Some(plain) => write!(out, " of an HTML entity: write a plain `{plain}`"),
+        Some(ascii) => write!(out, " of an HTML entity: write a plain `{ascii}`"),
         None => push_in_place(out, c, rest),
     }
 }
 
 /// Adds what is written in place of a character, with which a text begins.
 fn push_in_place(out: &mut String, c: char, rest: &[u8]) -> Result<(), AllocError> {
-    match plain_form(c) {
-        Some(plain) => write!(out, ": write a plain `{plain}`"),
+    match ascii_form(c) {
+        Some(ascii) => write!(out, ": write a plain `{ascii}`"),
         None if rest.starts_with(b"$(") => out.push_str(SHELL_COMMAND),
         None => out.push_str(character_advice(c)),
     }
@@ -322,7 +322,7 @@ fn entity_form(rest: &[u8]) -> Option<char> {
 }
 
 /// Returns the character of ASCII that has a fullwidth form.
-fn plain_form(c: char) -> Option<char> {
+fn ascii_form(c: char) -> Option<char> {
     match c {
         '\u{ff01}'..='\u{ff5e}' => char::from_u32((c as u32).saturating_sub(0xfee0)),
         _ => None,

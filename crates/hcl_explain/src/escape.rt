@@ -26,7 +26,7 @@ fn push_advice(out: &mut String, rest: &[u8]) -> Result<(), AllocError> {
         [_, b'\n', ..] | [_, b'\r', b'\n', ..] => out.push_str(NEXT_LINE),
         [_, b'$', b'{', ..] => out.push_str("`${` as text is written `$${`"),
         [_, b'%', b'{', ..] => out.push_str("`%{` as text is written `%%{`"),
-        [_, b'\'' | b'/' | b'`' | b'$', ..] => push_plain(out, rest),
+        [_, b'\'' | b'/' | b'`' | b'$', ..] => push_unescaped(out, rest),
         [_, b'u' | b'U', next, ..] if is_number(*next) => {
             out.push_str("`\\u` has four hexadecimal digits, `\\U` eight")
         }
@@ -36,7 +36,7 @@ fn push_advice(out: &mut String, rest: &[u8]) -> Result<(), AllocError> {
 }
 
 /// Adds that a character needs no backslash.
-fn push_plain(out: &mut String, rest: &[u8]) -> Result<(), AllocError> {
+fn push_unescaped(out: &mut String, rest: &[u8]) -> Result<(), AllocError> {
     match rest.get(1) {
         Some(byte) => {
             let c = char::from(*byte);

@@ -226,7 +226,7 @@ fn has_brace(scanned: &Scanned<'_>, i: usize) -> bool {
 
 /// Returns the advice for a string with which a line of a body begins.
 pub fn quoted_name(scanned: &Scanned<'_>, found: usize) -> HeadAdvice {
-    if is_in_plain_block(scanned, found) && is_before_sign(scanned, found) {
+    if is_in_map_like_block(scanned, found) && is_before_sign(scanned, found) {
         HeadAdvice::MapEqual
     } else {
         HeadAdvice::NameQuoted
@@ -234,7 +234,7 @@ pub fn quoted_name(scanned: &Scanned<'_>, found: usize) -> HeadAdvice {
 }
 
 /// Whether token `found` is in a block that has no labels and is no `locals`.
-fn is_in_plain_block(scanned: &Scanned<'_>, found: usize) -> bool {
+fn is_in_map_like_block(scanned: &Scanned<'_>, found: usize) -> bool {
     if found >= scanned.len() {
         return false;
     }

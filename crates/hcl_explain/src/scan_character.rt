@@ -3,13 +3,13 @@
 ghost use Rattle.std.specs.Prelude.{IfOk, Some};
 ghost use Rattle.hcl_explain.specs.ScanExplanations.{HiddenOr, IsByUnclosed, IsByLine};
 ghost use Rattle.hcl_explain.specs.ScanExplanations.{IsCharacterExplanation, IsCharacterIn};
-ghost use Rattle.hcl_explain.specs.ScanExplanations.{IsNestedIn, IsOtherIn, IsByPlain, IsMarkerOr};
+ghost use Rattle.hcl_explain.specs.ScanExplanations.{IsNestedIn, IsOtherIn, IsByDollars, IsMarkerOr};
 
 use crate::lines::{bytes_from, line_start, prefix};
 use crate::marker::is_conflict_marker;
 use crate::scan_error::{ScanExplanation, ScanReason, explanation, is_ended, is_hidden};
 use crate::sequence::open_sequence;
-use crate::without::{ends_with_line, is_unclosed, is_unclosed_in_plain};
+use crate::without::{ends_with_line, is_unclosed, is_unclosed_without_dollars};
 use std::alloc::{AllocError, Global};
 
 /// Explains that no token begins at a byte, by the line of it if that shows a conflict of a merge.
@@ -94,7 +94,7 @@ fn nested(
     if is_ended(alloc, text, opened, at)? {
         Ok(explanation(opened, ScanReason::Sequence))
     } else {
-        by_plain(alloc, text, opened, at)
+        by_dollars(alloc, text, opened, at)
     }
 }
 
@@ -115,15 +115,15 @@ fn by_unclosed(
 }
 
 /// Explains it by whether this template sequence is closed without the `$` of each `${` in the line.
-fn by_plain(
+fn by_dollars(
     alloc: Global,
     text: &[u8],
     opened: usize,
     at: usize,
 ) -> Result<ScanExplanation, AllocError>
-    ensures { IfOk result (IsByPlain text.now opened at) }
+    ensures { IfOk result (IsByDollars text.now opened at) }
 {
-    if is_unclosed_in_plain(alloc, text, opened, at)? {
+    if is_unclosed_without_dollars(alloc, text, opened, at)? {
         Ok(explanation(opened, ScanReason::Sequence))
     } else {
         Ok(explanation(at, ScanReason::InSequence(opened)))

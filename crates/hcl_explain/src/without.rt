@@ -10,7 +10,7 @@ ghost use Rattle.hcl_explain.specs.Lines.{closing_place};
 ghost use Rattle.hcl_explain.specs.Sequences as spec;
 ghost use Rattle.hcl_explain.specs.Sequences.{EndsWithLine, IsMadeBy, MakesError, IsShownOpen, IsUnclosed};
 ghost use Rattle.hcl_explain.specs.Sequences.{IsOpenBefore, IsBlamed, IsEnded};
-ghost use Rattle.hcl_explain.specs.Sequences.{IsUnclosedInPlain};
+ghost use Rattle.hcl_explain.specs.Sequences.{IsUnclosedWithoutDollars};
 
 use crate::lines::{
     after_line, bytes_from, closing_place, first_line, line_end, prefix, whitespace_len,
@@ -64,63 +64,63 @@ fn without(alloc: Global, text: &[u8], at: usize, count: usize) -> Result<Vec<u8
 
 /// Whether the template sequence that begins at byte `opened` is not closed, by the text, or by the
 /// text without the `$` of each `${` in the line of byte `at`, from there on.
-pub fn is_unclosed_in_plain(
+pub fn is_unclosed_without_dollars(
     alloc: Global,
     text: &[u8],
     opened: usize,
     at: usize,
 ) -> Result<bool, AllocError>
-    ensures { IfOk result (λ b. Decides b (IsUnclosedInPlain text.now opened at)) }
+    ensures { IfOk result (λ b. Decides b (IsUnclosedWithoutDollars text.now opened at)) }
 {
     if ends_with_line(alloc, text, opened)? {
         return Ok(true);
     }
-    is_shown_in_plain(alloc, text, opened, at)
+    is_shown_without_dollars(alloc, text, opened, at)
 }
 
 /// Whether it is not, by the text without these.
-fn is_shown_in_plain(
+fn is_shown_without_dollars(
     alloc: Global,
     text: &[u8],
     opened: usize,
     at: usize,
 ) -> Result<bool, AllocError>
-    ensures { IfOk result (λ b. Decides b (IsShownOpen (spec.in_plain text.now at) opened)) }
+    ensures { IfOk result (λ b. Decides b (IsShownOpen (spec.without_dollars text.now at) opened)) }
 {
-    let plain = in_plain(alloc, text, at)?;
-    is_shown_open(alloc, plain.as_slice(), opened)
+    let shorter = without_dollars(alloc, text, at)?;
+    is_shown_open(alloc, shorter.as_slice(), opened)
 }
 
 /// Returns a text without these.
-fn in_plain(alloc: Global, text: &[u8], at: usize) -> Result<Vec<u8>, AllocError>
-    ensures { IfOk result (λ plain. plain.items ≡ spec.in_plain text.now at) }
+fn without_dollars(alloc: Global, text: &[u8], at: usize) -> Result<Vec<u8>, AllocError>
+    ensures { IfOk result (λ shorter. shorter.items ≡ spec.without_dollars text.now at) }
 {
     let rest = bytes_from(text, at);
-    let mut plain = Vec::with_capacity(alloc, text.len())?;
-    plain.extend_from_slice(prefix(text, at))?;
-    push_plain(&mut plain, first_line(rest))?;
-    plain.extend_from_slice(after_line(rest))?;
-    Ok(plain)
+    let mut shorter = Vec::with_capacity(alloc, text.len())?;
+    shorter.extend_from_slice(prefix(text, at))?;
+    push_without_dollars(&mut shorter, first_line(rest))?;
+    shorter.extend_from_slice(after_line(rest))?;
+    Ok(shorter)
 }
 
 /// Adds a line without the `$` of each `${`.
-fn push_plain(out: &mut Vec<u8>, line: &[u8]) -> Result<(), AllocError>
-    ensures { OnOk result (out.new.items ≡ out.old.items ++ spec.plain_line line.now) }
+fn push_without_dollars(out: &mut Vec<u8>, line: &[u8]) -> Result<(), AllocError>
+    ensures { OnOk result (out.new.items ≡ out.old.items ++ spec.line_without_dollars line.now) }
 {
     let mut at = 0usize;
     while at < line.len() {
-        push_plain_byte(out, line, at)?;
+        push_unless_dollar(out, line, at)?;
         at += 1;
     }
     Ok(())
 }
 
 /// Adds this byte of a line, if it is not the `$` of a `${`.
-#[tactic(auto, using(crate::proofs::PlainLemmas::skipped, crate::proofs::PlainLemmas::added))]
-fn push_plain_byte(out: &mut Vec<u8>, line: &[u8], at: usize) -> Result<(), AllocError>
+#[tactic(auto, using(crate::proofs::DollarLemmas::skipped, crate::proofs::DollarLemmas::added))]
+fn push_unless_dollar(out: &mut Vec<u8>, line: &[u8], at: usize) -> Result<(), AllocError>
     requires { at < length line.now }
-    ensures { OnOk result (out.new.items ++ spec.plain_line (drop (at + 1) line.now)
-        ≡ out.old.items ++ spec.plain_line (drop at line.now)) }
+    ensures { OnOk result (out.new.items ++ spec.line_without_dollars (drop (at + 1) line.now)
+        ≡ out.old.items ++ spec.line_without_dollars (drop at line.now)) }
 {
     if is_interpolation_at(line, at) {
         return Ok(());

@@ -1,5 +1,5 @@
 use Rattle.std.proofs.Common.{rules, ◌≡◌, true, inl, refl}
-use Rattle.hcl_explain.proofs.without.is_unclosed_in_plain.Goals as goal
+use Rattle.hcl_explain.proofs.without.is_unclosed_without_dollars.Goals as goal
 
 pub returns-then-branch : goal.returns-then-branch
 returns-then-branch c =

@@ -1,11 +1,12 @@
 use Rattle.std.proofs.Common.{length, ◌-◌, ◌≡◌, ◌++◌, ◌≤◌, drop}
-use Rattle.hcl_explain.specs.Sequences.{plain_line}
-use Rattle.hcl_explain.proofs.without.push_plain.Given as goal
+use Rattle.hcl_explain.specs.Sequences.{line_without_dollars}
+use Rattle.hcl_explain.proofs.without.push_without_dollars.Given as goal
 
 -- what was added, with what is left of the line, is all
 abbrev pub invariant-loop-at : goal.invariant-loop-at
 invariant-loop-at l =
-    (l.out.items ++ plain_line (drop l.at l.line) ≡ l.initial.out.items ++ plain_line l.line)
+    (l.out.items ++ line_without_dollars (drop l.at l.line)
+    ≡ l.initial.out.items ++ line_without_dollars l.line)
     × (l.at ≤ length l.line)
 
 abbrev pub decreases-loop-at : goal.decreases-loop-at
