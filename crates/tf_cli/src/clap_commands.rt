@@ -188,10 +188,10 @@ fn new_command<'a>(
     ensures { IfOk result (λ command.
         IsNewCommand name.entry.now arguments.entry.items command) }
 {
-    let plain = Command::new(alloc, name)
+    let empty = Command::new(alloc, name)
         .about(about)
         .after_help(after_help);
-    let command = plain.args(arguments)?;
+    let command = empty.args(arguments)?;
     Ok(command)
 }
 

@@ -8,11 +8,13 @@ use Rattle.tf_cli.proofs.clap_commands.new_command.Goals as goal
 
 pub returns : goal.returns
 returns c =
-    let plain = c.after_help-plain.result in
-    let about : app_of c.about.result ≡ new_app c.args.name.now = ap app_of_fields c.about.ensures ∙ c.new.ensures.app in
-    let app : app_of plain ≡ new_app c.args.name.now = ap app_of_fields c.after_help-plain.ensures ∙ about in
-    let local : globals_in (fields_of plain) ≡ false =
-    ap globals_in c.after_help-plain.ensures ∙ (ap globals_in c.about.ensures ∙ c.new.ensures.local) in
+    let empty = c.after_help-empty.result in
+    let about : app_of c.about.result ≡ new_app c.args.name.now =
+    ap app_of_fields c.about.ensures ∙ c.new.ensures.app in
+    let app : app_of empty ≡ new_app c.args.name.now = ap app_of_fields c.after_help-empty.ensures ∙ about in
+    let local : globals_in (fields_of empty) ≡ false =
+    ap globals_in c.after_help-empty.ensures ∙ (ap globals_in c.about.ensures ∙ c.new.ensures.local) in
     λ rules are.
-    let added = arguments_added rules c.args.arguments.items plain c.in_ok-command.command are c.in_ok-command.ensures local in
+    let added = arguments_added rules c.args.arguments.items empty c.in_ok-command.command are
+    c.in_ok-command.ensures local in
     (added.0 ∙ ap (λ (a : App). with_rules a rules) app, added.1)
