@@ -96,25 +96,25 @@ by_edits has rules text (Ok made) s n r fixes pushes =
 by_edits has rules text (Err fault) s n r refuses pushes = (Err fault, refuses, pushes)
 
 act_down : (command : Command) (p q : History) (s : Stack) (r : Result Done Fault) → IsNotTake command → MatchesStack p s → HistoryStep command p r q → (n : Stack) × StackStep command s r n × MatchesStack q n
-act_down Fmt p q s r plain h g =
+act_down Fmt p q s r untaken h g =
     let f = text_down Fmt Word.Fmt g.0 p q s r h g.2 in
     (f.0, (g.0, subst (λ (x : List ℕ). Rewrites Fmt x g.0) (shown_top p.first p.layers s.top s.below h) g.1, f.1), f.2)
-act_down (Fix rules) p q s r plain h g =
+act_down (Fix rules) p q s r untaken h g =
     let f = text_down (Fix rules) Word.Fix g.0 p q s r h g.2 in
     (f.0, (g.0, subst (λ (x : List ℕ). FixRewrites rules x g.0) (shown_top p.first p.layers s.top s.below h) (without_edits rules (top_text p) g.0 g.1), f.1), f.2)
-act_down Revert p q s r plain h g = off_down p q s.top s.below r h g
-act_down (Take n) p q s r plain h g = absurd plain
+act_down Revert p q s r untaken h g = off_down p q s.top s.below r h g
+act_down (Take n) p q s r untaken h g = absurd untaken
 
 act_up : FixHasEdits → (command : Command) (p : History) (s n : Stack) (r : Result Done Fault) → IsNotTake command → MatchesStack p s → StackStep command s r n → (q : History) × HistoryStep command p r q × MatchesStack q n
-act_up has Fmt p s n r plain h g =
+act_up has Fmt p s n r untaken h g =
     let f = text_up Fmt Word.Fmt g.0 p s n r h g.2 in
     (f.0, (g.0, subst (λ (x : List ℕ). Rewrites Fmt x g.0) (sym (shown_top p.first p.layers s.top s.below h)) g.1, f.1), f.2)
-act_up has (Fix rules) p s n r plain h g =
+act_up has (Fix rules) p s n r untaken h g =
     let (answer, by, pushes) = by_edits has rules s.top g.0 s n r g.1 g.2 in
     let f = text_up (Fix rules) Word.Fix answer p s n r h pushes in
     (f.0, (answer, subst (λ (x : List ℕ). FixRewritesBy rules x answer) (sym (shown_top p.first p.layers s.top s.below h)) by, f.1), f.2)
-act_up has Revert p s n r plain h g = off_up p s.top s.below n r h g
-act_up has (Take k) p s n r plain h g = absurd plain
+act_up has Revert p s n r untaken h g = off_up p s.top s.below n r h g
+act_up has (Take k) p s n r untaken h g = absurd untaken
 
 some_below : (first : List ℕ) (layers : List Layer) (top : List ℕ) (below : List StackEntry) → LayersMatchStack first layers top below → (layers ≡ [] → ⊥) → below ≡ [] → ⊥
 some_below first layers top [] h f e = f h.0
@@ -127,47 +127,48 @@ some_layers first layers top [] h f e = f refl
 some_layers first layers top (under ∷ rest) h f e = not_nil h.0 h.1 (sym h.2 ∙ e)
 
 allocation_down : (command : Command) (p : History) (s : Stack) → IsNotTake command → MatchesStack p s → HistoryMayAllocate command p → StackMayAllocate command s
-allocation_down Fmt p s plain h a = subst IsUtf8WithinLimit (shown_top p.first p.layers s.top s.below h) a
-allocation_down (Fix rules) p s plain h a = subst IsUtf8WithinLimit (shown_top p.first p.layers s.top s.below h) a
-allocation_down Revert p s plain h a = some_below p.first p.layers s.top s.below h a
-allocation_down (Take n) p s plain h a = absurd plain
+allocation_down Fmt p s untaken h a = subst IsUtf8WithinLimit (shown_top p.first p.layers s.top s.below h) a
+allocation_down (Fix rules) p s untaken h a = subst IsUtf8WithinLimit (shown_top p.first p.layers s.top s.below h) a
+allocation_down Revert p s untaken h a = some_below p.first p.layers s.top s.below h a
+allocation_down (Take n) p s untaken h a = absurd untaken
 
 allocation_up : (command : Command) (p : History) (s : Stack) → IsNotTake command → MatchesStack p s → StackMayAllocate command s → HistoryMayAllocate command p
-allocation_up Fmt p s plain h a = subst IsUtf8WithinLimit (sym (shown_top p.first p.layers s.top s.below h)) a
-allocation_up (Fix rules) p s plain h a = subst IsUtf8WithinLimit (sym (shown_top p.first p.layers s.top s.below h)) a
-allocation_up Revert p s plain h a = some_layers p.first p.layers s.top s.below h a
-allocation_up (Take n) p s plain h a = absurd plain
+allocation_up Fmt p s untaken h a =
+    subst IsUtf8WithinLimit (sym (shown_top p.first p.layers s.top s.below h)) a
+allocation_up (Fix rules) p s untaken h a = subst IsUtf8WithinLimit (sym (shown_top p.first p.layers s.top s.below h)) a
+allocation_up Revert p s untaken h a = some_layers p.first p.layers s.top s.below h a
+allocation_up (Take n) p s untaken h a = absurd untaken
 
 down_by : (b : Bool) (command : Command) (p q : History) (s : Stack) (r : Result Done Fault) → IsNotTake command → MatchesStack p s → MatchBool b (HistoryMayAllocate command p × (q ≡ p)) (HistoryStep command p r q)
     → (n : Stack) × MatchBool b (StackMayAllocate command s × (n ≡ s)) (StackStep command s r n) × MatchesStack q n
-down_by true command p q s r plain h g = (s, (allocation_down command p s plain h g.0, refl), subst (λ (x : History). MatchesStack x s) (sym g.1) h)
-down_by false command p q s r plain h g = act_down command p q s r plain h g
+down_by true command p q s r untaken h g = (s, (allocation_down command p s untaken h g.0, refl), subst (λ (x : History). MatchesStack x s) (sym g.1) h)
+down_by false command p q s r untaken h g = act_down command p q s r untaken h g
 
 up_by : FixHasEdits → (b : Bool) (command : Command) (p : History) (s n : Stack) (r : Result Done Fault) → IsNotTake command → MatchesStack p s → MatchBool b (StackMayAllocate command s × (n ≡ s)) (StackStep command s r n)
     → (q : History) × MatchBool b (HistoryMayAllocate command p × (q ≡ p)) (HistoryStep command p r q) × MatchesStack q n
-up_by has true command p s n r plain h g = (p, (allocation_up command p s plain h g.0, refl), subst (λ (x : Stack). MatchesStack p x) (sym g.1) h)
-up_by has false command p s n r plain h g = act_up has command p s n r plain h g
+up_by has true command p s n r untaken h g = (p, (allocation_up command p s untaken h g.0, refl), subst (λ (x : Stack). MatchesStack p x) (sym g.1) h)
+up_by has false command p s n r untaken h g = act_up has command p s n r untaken h g
 
 run_down : (commands : List Command) (replies : List (Result Done Fault)) (p q : History) (s : Stack) → WithoutTake commands → MatchesStack p s → HistoryRun p commands replies q → (n : Stack) × StackRun s commands replies n × MatchesStack q n
-run_down [] [] p q s plain h g = (s, refl, subst (λ (x : History). MatchesStack x s) (sym g) h)
-run_down [] (r ∷ replies) p q s plain h g = absurd g
-run_down (c ∷ commands) [] p q s plain h g = absurd g
-run_down (c ∷ commands) (r ∷ replies) p q s plain h g =
-    let d = down_by (is_memory r) c p g.0 s r plain.0 h g.1 in
-    let f = run_down commands replies g.0 q d.0 plain.1 d.2 g.2 in
+run_down [] [] p q s untaken h g = (s, refl, subst (λ (x : History). MatchesStack x s) (sym g) h)
+run_down [] (r ∷ replies) p q s untaken h g = absurd g
+run_down (c ∷ commands) [] p q s untaken h g = absurd g
+run_down (c ∷ commands) (r ∷ replies) p q s untaken h g =
+    let d = down_by (is_memory r) c p g.0 s r untaken.0 h g.1 in
+    let f = run_down commands replies g.0 q d.0 untaken.1 d.2 g.2 in
     (f.0, (d.0, d.1, f.1), f.2)
 
 run_up : FixHasEdits → (commands : List Command) (replies : List (Result Done Fault)) (p : History) (s n : Stack) → WithoutTake commands → MatchesStack p s → StackRun s commands replies n → (q : History) × HistoryRun p commands replies q × MatchesStack q n
-run_up has [] [] p s n plain h g = (p, refl, subst (λ (x : Stack). MatchesStack p x) (sym g) h)
-run_up has [] (r ∷ replies) p s n plain h g = absurd g
-run_up has (c ∷ commands) [] p s n plain h g = absurd g
-run_up has (c ∷ commands) (r ∷ replies) p s n plain h g =
-    let d = up_by has (is_memory r) c p s g.0 r plain.0 h g.1 in
-    let f = run_up has commands replies d.0 g.0 n plain.1 d.2 g.2 in
+run_up has [] [] p s n untaken h g = (p, refl, subst (λ (x : Stack). MatchesStack p x) (sym g) h)
+run_up has [] (r ∷ replies) p s n untaken h g = absurd g
+run_up has (c ∷ commands) [] p s n untaken h g = absurd g
+run_up has (c ∷ commands) (r ∷ replies) p s n untaken h g =
+    let d = up_by has (is_memory r) c p s g.0 r untaken.0 h g.1 in
+    let f = run_up has commands replies d.0 g.0 n untaken.1 d.2 g.2 in
     (f.0, (d.0, d.1, f.1), f.2)
 
 pub without_take_one_machine : FixHasEdits → MachinesAgreeWithoutTake
-without_take_one_machine has text commands replies plain = record {
-  history_to_stack = λ end g. run_down commands replies (initial_history text) end (initial_stack text) plain (refl, refl) g;
-  stack_to_history = λ end g. run_up has commands replies (initial_history text) (initial_stack text) end plain (refl, refl) g;
+without_take_one_machine has text commands replies untaken = record {
+  history_to_stack = λ end g. run_down commands replies (initial_history text) end (initial_stack text) untaken (refl, refl) g;
+  stack_to_history = λ end g. run_up has commands replies (initial_history text) (initial_stack text) end untaken (refl, refl) g;
 }
