@@ -3,6 +3,7 @@
 ghost use Rattle.std.specs.IoError.{raw_os_error};
 ghost use Rattle.std.specs.Prelude.{◌≡◌, true, Some};
 ghost use Rattle.tf_files.specs.Causes.{over_limit, refused_with, with_subject};
+ghost use Rattle.tf_files.specs.Causes.{is_missing, reason_of_link, cause_of_link, is_no_file};
 ghost use Rattle.tf_files.specs.Opening.{is_file_fault};
 
 use hcl_scan::MAX_TEXT;
@@ -140,19 +141,15 @@ impl Trouble {
 
     /// Returns this error of what a link leads to, as one of the link.
     pub fn of_link(self) -> Trouble
-        ensures { result.fault ≡ self.fault }
+        ensures fault { result.fault ≡ self.fault }
+        ensures cause { result.cause ≡ cause_of_link self.cause }
     {
         let cause = match self.cause {
-            Some(
-                Cause {
-                    subject,
-                    reason: Reason::System(NO_SUCH_FILE),
-                },
-            ) => Some(Cause {
+            Some(Cause { subject, reason }) => Some(Cause {
                 subject,
-                reason: Reason::LinkToNothing,
+                reason: reason.of_link(),
             }),
-            cause => cause,
+            None => None,
         };
         Trouble {
             fault: self.fault,
@@ -172,13 +169,38 @@ impl Trouble {
     }
 }
 
+impl Reason {
+    /// Returns whether there is no such file.
+    fn is_missing(self) -> bool
+        ensures { result ≡ is_missing self }
+    {
+        match self {
+            Reason::System(number) => number == NO_SUCH_FILE,
+            _ => false,
+        }
+    }
+
+    /// Returns this reason of what a link leads to, as one of the link.
+    fn of_link(self) -> Reason
+        ensures { result ≡ reason_of_link self }
+    {
+        if self.is_missing() {
+            Reason::LinkToNothing
+        } else {
+            self
+        }
+    }
+}
+
 impl Cause {
     /// Returns whether there is no file of the name that was given.
-    pub fn is_no_file(&self) -> bool {
-        matches!(
-            (self.subject, self.reason),
-            (Subject::File, Reason::System(NO_SUCH_FILE))
-        )
+    pub fn is_no_file(&self) -> bool
+        ensures { result ≡ is_no_file self.now }
+    {
+        match self.subject {
+            Subject::File => self.reason.is_missing(),
+            _ => false,
+        }
     }
 
     /// Returns the cause of a call that failed with this error; none if it isn't the system's.
