@@ -1,4 +1,3 @@
-pub mod Hints
 pub mod Lines
 pub mod Location
 pub mod Printing

@@ -9,7 +9,6 @@ use Rattle.hcl_scan.specs.Fault.{byte_of_fault}
 use Rattle.hcl_text_laws.specs.declared.fault.ParseFault.{ParseFault}
 use Rattle.hcl_text_laws.specs.declared.fault.ParseFault.TheVariants as parse
 use Rattle.hcl_token.specs.Place.{is_lf, clusters, last_line}
-use Rattle.hcl_explain.specs.Said.{IsSaidOfScan, IsSaidOfParse}
 use Rattle.tf_session.specs.declared.fault.RunFault.{RunFault}
 use Rattle.tf_session.specs.declared.fault.RunFault.TheVariants as fault
 use Rattle.tf_program.specs.declared.file_error.FileError.{FileError}
@@ -60,11 +59,3 @@ abbrev pub IsLocatedIn : List ℕ → Bool → FileError → Type 0
 IsLocatedIn text locate error =
     (locate ≡ true → IsLocationOf text (byte_of error.fault) error.location)
     × (locate ≡ false → error.location ≡ None)
-
--- what is said of an error of a text is printed here
-abbrev pub IsSaidAt : List ℕ → RunFault → Location → Type 0
-IsSaidAt text (fault.Scan error) location =
-    (at : ℕ) × IsSaidOfScan text error at × IsLocation text at location
-IsSaidAt text (fault.Parse error) location =
-    (at : ℕ) × IsSaidOfParse text error at × IsLocation text at location
-IsSaidAt text _ location = ⊥

@@ -2,8 +2,9 @@
 
 ghost use Rattle.std.specs.Prelude.{◌≡◌, ◌⊎◌, ℕ, List, [], IfSome, None, IfOk, OnOk, OnErr, length};
 ghost use Rattle.std.specs.Prelude.{string_bytes, codes};
-ghost use Rattle.tf_program.specs.Hints.{hint_of, hint_of_answer, said_if};
-ghost use Rattle.tf_program.specs.Location.{byte_of, IsLocation, IsLocationOf, IsLocatedIn, IsSaidAt};
+ghost use Rattle.tf_program.specs.Inner.Hints.{hint_of, hint_of_answer, said_if};
+ghost use Rattle.tf_program.specs.Inner.Sentences.{IsSaidAt};
+ghost use Rattle.tf_program.specs.Location.{byte_of, IsLocation, IsLocationOf, IsLocatedIn};
 ghost use Rattle.tf_program.specs.Printing.{channel_of, PrintsAll, PrintsPart, Prints, PrintsError};
 ghost use Rattle.tf_program.specs.Printing.{IsErrorText, IsShortErrorText, IsSecondLine};
 ghost use Rattle.tf_program.specs.Printing.{IsMessage, IsReasonLine};

@@ -1,7 +1,7 @@
 //! What an error of a command on a journal or of standard output means, and what to do.
 
 ghost use Rattle.std.specs.Prelude.{◌≡◌};
-ghost use Rattle.tf_program.specs.Hints.{hint_of, hint_of_answer, hint_of_refused, hint_of_unread};
+ghost use Rattle.tf_program.specs.Inner.Hints.{hint_of, hint_of_answer, hint_of_refused, hint_of_unread};
 
 use std::fmt;
 use tf_session::{Command, Refused, RunFault};
