@@ -3,7 +3,8 @@ use Rattle.std.proofs.Common.{◌≡◌, ◌⊎◌, ℕ, zero, suc, List, [], �
 use Rattle.tf_saving.specs.Adoption.{IsAdoptable}
 use Rattle.tf_saving.specs.Disk.{File, Names, Directory, Checks, Disk, Contents}
 use Rattle.tf_saving.specs.Runs.{Fate, Succeeds, Fails, FailsOnceDone, AnotherSyncs, Event, Recovers, LosesPower, Pair, State, as_files, HasNoNewFiles, stepped, stepped_by, reply, run, saving, recovering, nth, restored, after_event, after_events, all_durable}
-use Rattle.tf_saving.specs.Stable.{Each, InAll, Owns, HasNoNew, HasNew, OwnsWithNew, OwnsAlone, HoldsJournal, MayHaveStray, RecoversTo, IsStable, IsRenaming, IsOldOrNew}
+use Rattle.tf_saving.specs.Stable.{Each, InAll, Owns, HasNoNew, HasNew, OwnsAlone, HoldsJournal, MayHaveStray, RecoversTo, IsStable}
+use Rattle.tf_saving.proofs.Renaming.{OwnsWithNew, IsRenaming, IsOldOrNew}
 use Rattle.tf_saving.proofs.Holds.{HoldsForOne, HoldsWhileRenaming, HoldsWhileSaving, HoldsForNew, HoldsInRecovery}
 use Rattle.tf_saving.specs.Laws.{InitialIsStable, NothingIsLost, SuccessIsDurable, ErrorsChangeNothing, LateRecoversToNew, RecoveryEnds, UnfailingSaveSucceeds, IsGoingInPlace, FailureIsNotInPlace}
 use Rattle.tf_saving.specs.Steps.{choose, finish, call_of, step_after}
@@ -16,7 +17,8 @@ use Rattle.tf_saving.specs.declared.step.Step.{Step}
 use Rattle.tf_saving.specs.declared.step.Step.TheVariants.{FindNewJournal, FindNewText, ReadNewJournal, RemoveStray, OpenJournal, OpenText, SyncEarlierRename, CreateText, CopyTextAttributes, SyncTextName, CreateJournal, CopyJournalAttributes, WriteJournal, SyncJournal, WriteText, SyncText, SyncJournalName, CompareNewJournal, CompareNewText, CompareText, RenameText, CheckRename, SyncRename, RenameJournal, RemoveJournal, SyncRemoval, RemoveText, CompareInPlace, Ended}
 use Rattle.tf_saving.proofs.Lists.{always_restored, always_weaker}
 use Rattle.tf_saving.proofs.Checks.{stepped_checks}
-use Rattle.tf_saving.proofs.Saving.{new_unrenamed, made_unrenamed, rename_or_not, saving_stepped, new_stepped, holds_stepped}
+use Rattle.tf_saving.proofs.Saving.{new_unrenamed, made_unrenamed, rename_or_not, saving_stepped}
+use Rattle.tf_saving.proofs.Renamings.{new_stepped, holds_stepped}
 
 holds_run : (p : Pair) (s : Contents) (fates : List Fate) (m : State) → HoldsInRecovery p (as_files s) m.step m.disk
     → HoldsInRecovery p (as_files s) (run s fates m).step (run s fates m).disk

@@ -2,7 +2,8 @@
 use Rattle.std.specs.Prelude.{◌≡◌, ◌⊎◌, true, false, Some}
 use Rattle.tf_saving.specs.Disk.{File, Durable, Unsynced, Empty, Disk, Contents}
 use Rattle.tf_saving.specs.Runs.{Pair, as_files, HasNoNewFiles}
-use Rattle.tf_saving.specs.Stable.{Each, InAll, Owns, HasNoNew, HasNew, OwnsWithNew, OwnsAlone, IsUnrenamed, IsRenamed, HasOnlyStray, RecoversTo, IsStable, IsRenaming, IsOldOrNew}
+use Rattle.tf_saving.specs.Stable.{Each, InAll, Owns, HasNoNew, HasNew, OwnsAlone, IsUnrenamed, IsRenamed, HasOnlyStray, RecoversTo, IsStable}
+use Rattle.tf_saving.proofs.Renaming.{OwnsWithNew, IsRenaming, IsOldOrNew}
 use Rattle.tf_saving.specs.declared.step.End.{End}
 use Rattle.tf_saving.specs.declared.step.End.TheVariants.{Success, InPlace, Error, Unknown, Late}
 use Rattle.tf_saving.specs.declared.step.Step.{Step}

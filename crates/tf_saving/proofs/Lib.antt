@@ -2,8 +2,11 @@ pub mod AllRuns
 pub mod Checks
 pub mod Holds
 pub mod Lists
+pub mod WithoutRename
 pub mod OtherPrograms
 pub mod OtherSaves
 pub mod Recovering
+pub mod Renaming
 pub mod Saving
+pub mod Renamings
 pub mod Strays

@@ -2,7 +2,8 @@
 use Rattle.std.proofs.Common.{◌≡◌, ◌⊎◌, true, false, Option, Some, None, inl, inr, refl, ap, ◌∙◌}
 use Rattle.tf_saving.specs.Disk.{File, Durable, Unsynced, Empty, Torn, Names, Directory, Checks, Disk, Contents, with_new, directory_synced, new_after_power_loss, after_power_loss, when_done}
 use Rattle.tf_saving.specs.Runs.{Pair, as_files}
-use Rattle.tf_saving.specs.Stable.{InAll, MayHaveStray, HasOnlyStray, Owns, HasNoNew, HasNew, OwnsWithNew, OwnsAlone, IsUnrenamed, HoldsJournal, IsRenamed, RecoversTo, IsStable, IsRenaming, IsOldOrNew}
+use Rattle.tf_saving.specs.Stable.{InAll, MayHaveStray, HasOnlyStray, Owns, HasNoNew, HasNew, OwnsAlone, IsUnrenamed, HoldsJournal, IsRenamed, RecoversTo, IsStable}
+use Rattle.tf_saving.proofs.Renaming.{OwnsWithNew, IsRenaming, IsOldOrNew}
 use Rattle.tf_saving.proofs.Holds.{EndsAt, HoldsForOne, HoldsWhileRenaming, HasNewFiles, HasNewText, IsReady, HoldsWhileSaving}
 use Rattle.tf_saving.specs.declared.call.SavedFile.{SavedFile}
 use Rattle.tf_saving.specs.declared.call.SavedFile.TheVariants.{Text, Journal}

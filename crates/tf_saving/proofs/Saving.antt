@@ -1,21 +1,21 @@
 -- Each call of a save, and of the recovery after it, keeps what holds at its step.
 use Rattle.std.proofs.Common.{◌≡◌, ◌⊎◌, Bool, true, false, Option, Some, None, inl, inr, refl, ap}
 use Rattle.tf_saving.specs.Adoption.{IsAdoptable}
-use Rattle.tf_saving.specs.Disk.{File, Durable, Unsynced, Empty, Torn, Names, Disk, Contents, with_own, with_directory, created, new_written, new_torn, new_synced, if_new, replaced_new, directory_synced, renamed, new_removed, new_after_power_loss, if_found, if_not_found, if_same, if_adoptable}
+use Rattle.tf_saving.specs.Disk.{File, Durable, Unsynced, Empty, Torn, Names, Disk, Contents, with_own, with_directory, created, new_written, new_torn, new_synced, if_new, replaced_new, directory_synced, renamed, new_removed, new_after_power_loss, if_found, if_not_found, if_same}
 use Rattle.tf_saving.specs.Steps.{choose, choose_or_in_place, finish}
 use Rattle.tf_saving.specs.Runs.{Fate, Succeeds, Fails, IsRuledOut, FailsOnceDone, AnotherSyncs, Pair, as_files, stepped}
-use Rattle.tf_saving.specs.Stable.{InAll, Owns, HasNoNew, HasNew, OwnsWithNew, OwnsAlone, IsUnrenamed, HoldsJournal, IsRenamed, RecoversTo, IsStable, IsRenaming, IsOldOrNew}
-use Rattle.tf_saving.proofs.Holds.{HoldsWhileRenaming, HasNewFiles, HasNewText, IsReady, ChangesNothing, HoldsWhileSaving, HoldsForNew, HoldsInRecovery}
+use Rattle.tf_saving.specs.Stable.{InAll, Owns, HasNoNew, HasNew, OwnsAlone, IsUnrenamed, HoldsJournal, IsRenamed, RecoversTo, IsStable}
+use Rattle.tf_saving.proofs.Renaming.{OwnsWithNew, IsRenaming, IsOldOrNew}
+use Rattle.tf_saving.proofs.Holds.{HasNewFiles, HasNewText, IsReady, ChangesNothing, HoldsWhileSaving}
 use Rattle.tf_saving.specs.declared.call.SavedFile.{SavedFile}
 use Rattle.tf_saving.specs.declared.call.SavedFile.TheVariants.{Text, Journal}
 use Rattle.tf_saving.specs.declared.step.End.{End}
 use Rattle.tf_saving.specs.declared.step.End.TheVariants.{Success, InPlace, Error, Unknown, Late}
 use Rattle.tf_saving.specs.declared.step.Step.{Step}
-use Rattle.tf_saving.specs.declared.step.Step.TheVariants.{FindNewJournal, FindNewText, ReadNewJournal, RemoveStray, OpenJournal, OpenText, SyncEarlierRename, CreateText, CopyTextAttributes, SyncTextName, CreateJournal, CopyJournalAttributes, WriteJournal, SyncJournal, WriteText, SyncText, SyncJournalName, CompareNewJournal, CompareNewText, CompareText, RenameText, CheckRename, SyncRename, RenameJournal, RemoveJournal, SyncRemoval, RemoveText, CompareInPlace, Ended}
+use Rattle.tf_saving.specs.declared.step.Step.TheVariants.{OpenJournal, OpenText, SyncEarlierRename, CreateText, CopyTextAttributes, SyncTextName, CreateJournal, CopyJournalAttributes, WriteJournal, SyncJournal, WriteText, SyncText, SyncJournalName, CompareNewJournal, CompareNewText, CompareText, RenameText, CheckRename, SyncRename, RenameJournal, RemoveJournal, SyncRemoval, RemoveText, CompareInPlace, Ended}
 use Rattle.tf_saving.proofs.Lists.{each_or_changed, each_weaker, always_weaker, each_both, always_both}
-use Rattle.tf_saving.proofs.OtherSaves.{renaming_step_synced, saving_synced}
-use Rattle.tf_saving.proofs.Checks.{new_is, adoptable_seen, if_it_adoptable}
-use Rattle.tf_saving.proofs.Recovering.{owns_kept, unrenamed_stable, rename_journal, journal_rename, journal_removed, removal_kept, text_removed, one_stepped}
+use Rattle.tf_saving.proofs.OtherSaves.{saving_synced}
+use Rattle.tf_saving.proofs.Recovering.{owns_kept, unrenamed_stable, rename_journal, journal_rename, journal_removed, removal_kept, text_removed}
 
 -- --- The changes that a save makes ---
 
@@ -172,7 +172,7 @@ text_rename p s d f h =
       );
     }
 
-text_rename_kept : (p q : Pair) (d : Disk) → IsRenaming p q d → IsRenamed q (with_directory Text (directory_synced d.text) d)
+pub text_rename_kept : (p q : Pair) (d : Disk) → IsRenaming p q d → IsRenamed q (with_directory Text (directory_synced d.text) d)
 text_rename_kept p q d b =
     record {
       can_adopt = b.can_adopt;
@@ -353,53 +353,3 @@ saving_stepped p s CompareInPlace d IsRuledOut f h = h
 saving_stepped p s CompareInPlace d FailsOnceDone f h = h
 saving_stepped p s (Ended end) d fate f h = h
 saving_stepped p s step d fate f h = absurd h
-
-renaming_checks : (p : Pair) (s : Contents) (d : Disk) (new : Option File) → d.journal.current.new ≡ new → IsRenaming p (as_files s) d
-    → HoldsForNew p (as_files s) (choose (if_found new) (FindNewText true) (FindNewText false) (Ended Unknown)) d
-renaming_checks p s d None e b = absurd (let is = b.journal.0.0.1.1 in cc)
-renaming_checks p s d (Some file) e b = inl b
-
-renaming_finds : (p : Pair) (s : Contents) (d : Disk) (new : Option File) → d.text.current.new ≡ new → IsRenaming p (as_files s) d
-    → HoldsForNew p (as_files s) (choose (if_found new) (RemoveJournal Success) ReadNewJournal (Ended Unknown)) d
-renaming_finds p s d None e b = inl b
-renaming_finds p s d (Some file) e b = absurd (let is = b.current.1 in cc)
-
-renaming_adoptable : (p : Pair) (s : Contents) (d : Disk) → IsRenaming p (as_files s) d
-    → HoldsForNew p (as_files s) (choose (if_adoptable (d.checks.can_adopt d.text.current.own d.journal.current.own d.journal.current.new)) SyncRename RemoveStray (Ended Unknown)) d
-renaming_adoptable p s d b =
-    if_it_adoptable (λ (step : Step). HoldsForNew p (as_files s) step d) (d.checks.can_adopt d.text.current.own d.journal.current.own d.journal.current.new) SyncRename RemoveStray (Ended Unknown)
-    (adoptable_seen (as_files s) d b.can_adopt b.current.0 (new_is (Some (Durable s.journal)) d.journal.current b.journal.0.1 b.journal.0.0.1))
-    (inl b)
-
-pub renaming_stepped : (p : Pair) (s : Contents) (step : Step) (d : Disk) (fate : Fate) → HoldsWhileRenaming p (as_files s) step d
-    → let m = stepped s (record { step = step; disk = d }) fate in HoldsForNew p (as_files s) m.step m.disk
-renaming_stepped p s step d (AnotherSyncs part) h = inl (renaming_step_synced p (as_files s) part s step d h)
-renaming_stepped p s FindNewJournal d Succeeds h = renaming_checks p s d d.journal.current.new refl h
-renaming_stepped p s FindNewJournal d Fails h = inl h
-renaming_stepped p s FindNewJournal d IsRuledOut h = inl h
-renaming_stepped p s FindNewJournal d FailsOnceDone h = inl h
-renaming_stepped p s (FindNewText true) d Succeeds h = renaming_finds p s d d.text.current.new refl h
-renaming_stepped p s (FindNewText true) d Fails h = inl h
-renaming_stepped p s (FindNewText true) d IsRuledOut h = inl h
-renaming_stepped p s (FindNewText true) d FailsOnceDone h = inl h
-renaming_stepped p s ReadNewJournal d Succeeds h = renaming_adoptable p s d h
-renaming_stepped p s ReadNewJournal d Fails h = inl h
-renaming_stepped p s ReadNewJournal d IsRuledOut h = inl h
-renaming_stepped p s ReadNewJournal d FailsOnceDone h = inl h
-renaming_stepped p s SyncRename d Succeeds h = inr (text_rename_kept p (as_files s) d h, h.journal.0.0.1)
-renaming_stepped p s SyncRename d Fails h = inl h
-renaming_stepped p s SyncRename d IsRuledOut h = inl h
-renaming_stepped p s SyncRename d FailsOnceDone h = inr (inr (inl (text_rename_kept p (as_files s) d h)))
-renaming_stepped p s (Ended Unknown) d fate h = inl h
-renaming_stepped p s (Ended Late) d fate h = inl h
-renaming_stepped p s step d fate h = absurd h
-
-pub new_stepped : (p : Pair) (s : Contents) (step : Step) (d : Disk) (fate : Fate) → HoldsForNew p (as_files s) step d
-    → let m = stepped s (record { step = step; disk = d }) fate in HoldsForNew p (as_files s) m.step m.disk
-new_stepped p s step d fate (inl h) = renaming_stepped p s step d fate h
-new_stepped p s step d fate (inr h) = inr (one_stepped (as_files s) s step d fate h)
-
-pub holds_stepped : (p : Pair) (s : Contents) (step : Step) (d : Disk) (fate : Fate) → HoldsInRecovery p (as_files s) step d
-    → let m = stepped s (record { step = step; disk = d }) fate in HoldsInRecovery p (as_files s) m.step m.disk
-holds_stepped p s step d fate (inl h) = inl (one_stepped p s step d fate h)
-holds_stepped p s step d fate (inr h) = inr (new_stepped p s step d fate h)

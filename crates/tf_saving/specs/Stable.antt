@@ -23,10 +23,6 @@ HasNoNew n = n.new ≡ None
 abbrev pub HasNew : Names → Type 0
 HasNew n = (file : File) × (n.new ≡ Some file)
 
--- this is the part's own file, and there is a new one
-abbrev pub OwnsWithNew : Option File → Names → Type 0
-OwnsWithNew file n = Owns file n × HasNew n
-
 -- this is the part's own file, and there is no new one
 abbrev pub OwnsAlone : Option File → Names → Type 0
 OwnsAlone file n = Owns file n × HasNoNew n
@@ -66,14 +62,3 @@ pub record IsStable (p : Pair) (d : Disk) : Type 0 where
   pub recovers : RecoversTo p d
   pub is_found : found d ≡ p
   pub is_recovered : HasNoNew d.journal.current ⊎ HasNew d.text.current
-
--- the new text was renamed, which a power loss may still undo
-pub record IsRenaming (old new : Pair) (d : Disk) : Type 0 where
-  pub can_adopt : IsAdoptable d.checks new
-  pub current : OwnsAlone new.text d.text.current
-  pub possible : Each (λ n. OwnsWithNew old.text n ⊎ OwnsAlone new.text n) d.text.possible
-  pub journal : InAll (λ n. OwnsWithNew old.journal n × HoldsJournal new.journal n) d.journal
-
--- text and journal are both old or both new
-abbrev pub IsOldOrNew : Pair → Pair → Disk → Type 0
-IsOldOrNew old new d = RecoversTo old d ⊎ IsRenaming old new d ⊎ RecoversTo new d
