@@ -1,7 +1,7 @@
 use Rattle.std.proofs.Common.{◌++◌, ◌∙◌, ap, arith, ◌+◌, ◌≤◌, length}
 use Rattle.std.specs.List.{slice_range}
 use Rattle.hcl_token.specs.Pairs.{spans_from}
-use Rattle.hcl_rescan.proofs.LineLemmas.{lines_scanned}
+use Rattle.hcl_rescan.proofs.TakenLemmas.{lines_scanned}
 use Rattle.hcl_rescan.proofs.anew.scan_lines.Goals as goal
 
 pub returns-clause-rescanned : goal.returns-clause-rescanned

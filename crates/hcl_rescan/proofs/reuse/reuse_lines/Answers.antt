@@ -1,6 +1,7 @@
 use Rattle.std.proofs.Common.{List, ℕ, subst, sym, ap, ◌∙◌, ◌≤◌, length}
 use Rattle.std.specs.List.{slice_range}
-use Rattle.hcl_rescan.proofs.LineLemmas.{RangeText, lines_fit, range_text, taken}
+use Rattle.hcl_rescan.proofs.LineLemmas.{RangeText, range_text}
+use Rattle.hcl_rescan.proofs.TakenLemmas.{lines_fit, taken}
 use Rattle.hcl_rescan.proofs.reuse.reuse_lines.Goals as goal
 
 known : (c : goal.After-text) → RangeText c.args.old.now c.args.from.index c.args.from.at c.args.to.index c.args.to.at

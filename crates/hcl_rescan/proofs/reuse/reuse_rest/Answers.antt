@@ -2,7 +2,8 @@ use Rattle.std.proofs.Common.{◌≤◌, ◌++◌, ◌-◌, ◌+◌, ◌∙◌, 
 use Rattle.std.specs.List.{slice_range}
 use Rattle.hcl_token.specs.Pairs.{spans_from}
 use Rattle.hcl_rescan.specs.Inner.WholeLines.{IsRescanned}
-use Rattle.hcl_rescan.proofs.LineLemmas.{place_in, same_rest, rest_rescanned}
+use Rattle.hcl_rescan.proofs.LineLemmas.{place_in}
+use Rattle.hcl_rescan.proofs.TakenLemmas.{same_rest, rest_rescanned}
 use Rattle.hcl_rescan.proofs.reuse.reuse_rest.Goals as goal
 
 pub slice-bytes-requires-clause-ordered : goal.slice-bytes-requires-clause-ordered
