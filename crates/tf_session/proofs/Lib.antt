@@ -22,4 +22,5 @@ pub mod RevertRestores
 pub mod JournalRefusing
 pub mod RevertSucceeds
 pub mod Saving
+pub mod OneInvocation
 pub mod Invocations

@@ -7,7 +7,7 @@ use Rattle.tf_session.specs.Records.{DoesStep}
 use Rattle.tf_session.specs.Invocations.{StepOrLinesFault}
 use Rattle.tf_session.specs.Faults.{run_fault_of_record}
 use Rattle.tf_session.proofs.Contents.{with_same}
-use Rattle.tf_session.proofs.Invocations.{effect_steps, fault_steps}
+use Rattle.tf_session.proofs.OneInvocation.{effect_steps, fault_steps}
 use Rattle.tf_session.proofs.Saving.{lines_are, made, not_made}
 use Rattle.tf_session.proofs.invocation.invoke.Goals as goal
 

@@ -1,4 +1,4 @@
-use Rattle.tf_session.proofs.Invocations.{invocations_step}
+use Rattle.tf_session.proofs.OneInvocation.{invocations_step}
 use Rattle.tf_session.proofs.journal_laws.invocations_step_files.Goals as goal
 
 pub returns : goal.returns
