@@ -15,7 +15,7 @@ use tf_session::{MAX_JOURNAL, RunFault};
 pub const NO_SUCH_FILE: i32 = 2;
 
 /// The system's number of the error that a folder is read as a file: `EISDIR` of Linux.
-const IS_FOLDER: i32 = 21;
+pub const IS_FOLDER: i32 = 21;
 
 /// Which file a cause is about.
 #[derive(Clone, Copy)]

@@ -4,7 +4,7 @@ ghost use Rattle.std.specs.Prelude.{◌≡◌, ◌⊎◌, true, IfOk, IfErr};
 ghost use Rattle.tf_files.specs.Opening.{is_file_fault};
 ghost use Rattle.tf_files.specs.Inner.Reading.{IsAllOf, IsTextFault, IsJournalFault};
 
-use crate::cause::{Reason, Subject, Trouble};
+use crate::cause::{IS_FOLDER, Reason, Subject, Trouble};
 use crate::file_paths::FilePaths;
 use crate::folder::SystemFiles;
 use crate::leftovers::{Found, open_found, refusal};
@@ -16,9 +16,6 @@ use std::alloc::Global;
 use std::fs::{self, File, Metadata, OpenFile};
 use std::io::{self, Read};
 use tf_session::{RunFault, Told, take_journal, take_text};
-
-/// The system's number of the error that a file is a folder: `EISDIR` of Linux.
-const IS_A_FOLDER: i32 = 21;
 
 /// A file that was opened to be read.
 #[derive(Drop)]
@@ -134,7 +131,7 @@ fn open_text<R: SystemFiles>(rt: &R, path: &str) -> Result<OpenText, Trouble>
     };
     match file.metadata() {
         Ok(found) if found.is_dir() => {
-            let reason = Reason::System(IS_A_FOLDER);
+            let reason = Reason::System(IS_FOLDER);
             Err(Trouble::unread(Subject::File, reason))
         }
         found => Ok(OpenText { file, found }),

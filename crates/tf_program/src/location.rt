@@ -4,7 +4,7 @@ ghost use Rattle.std.specs.Prelude.{◌≡◌, ◌≤◌, count_by, length, take
 ghost use Rattle.hcl_scan.specs.Characters.{is_prefix_of};
 ghost use Rattle.hcl_scan.specs.Tokenization.{byte_order_mark};
 ghost use Rattle.hcl_token.specs.Place.{is_lf, last_line};
-ghost use Rattle.tf_program.specs.Location.{IsLocation, text_before, without_mark, columns};
+ghost use Rattle.tf_program.specs.Location.{IsLocation, without_mark, columns};
 ghost use Rattle.tf_program.specs.Location.{byte_of, byte_of_parse_fault};
 
 use hcl_token::clusters;
@@ -25,18 +25,11 @@ pub struct Location {
 pub fn location_of(text: &[u8], at: usize) -> Location
     ensures { IsLocation text.now at result }
 {
-    let before = text_before(text, at);
+    let before = without_mark(prefix(text, at));
     Location {
         line: 1 + count_line_feeds(before),
         column: 1 + columns(last_line(before)),
     }
-}
-
-/// Returns the text before a byte, without a byte order mark.
-fn text_before(text: &[u8], at: usize) -> &[u8]
-    ensures { result.now ≡ text_before text.now at }
-{
-    without_mark(prefix(text, at))
 }
 
 /// Returns the first `at` bytes of a text, or all of it if it has fewer.
