@@ -1,6 +1,6 @@
 """Texts that repeat one shape each: what a formatter or a linter could be slow at."""
 
-LEVELS = 100  # tfk's MAX_NESTING: how deep constructs may be nested
+from limits import MAX_NESTING as LEVELS
 
 OPERATORS = (" + b", " * c", " - d", " && e", " < f", " || g")
 
