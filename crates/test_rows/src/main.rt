@@ -1,7 +1,7 @@
 //! Rows of examples: each has a call, its text, and the expected answer.
 //!
 //! The arguments name subjects; the rows of a subject are in the file `SUBJECT.rows`. What is
-//! printed are the rows with another answer, each with that answer, and the number of rows.
+//! printed are the rows with another answer, each with that answer, and whether all were tried.
 #![tactic(auto)]
 
 mod actual;
@@ -24,23 +24,56 @@ use anyhow::Result;
 use row::Row;
 use std::{env, fs};
 
+/// How many rows there are at least.
+const LEAST: u64 = 2300;
+
 fn main(rt: HostRuntime) -> Result<()> {
     let words: Vec<String> = env::args(&rt)?.collect(rt.alloc())?;
+    let mut count = 0u64;
     for subject in words.iter().skip(1) {
-        run(&rt, subject.as_str())?;
+        let rows = run(&rt, subject.as_str())?;
+        count = count.saturating_add(rows);
+    }
+    if count < LEAST {
+        println!(rt; "{count} rows, fewer than {LEAST}")?;
     }
     Ok(())
 }
 
-fn run(rt: &HostRuntime, subject: &str) -> Result<()> {
+/// Tries the rows of a subject, and answers how many there are.
+fn run(rt: &HostRuntime, subject: &str) -> Result<u64> {
     let name = format!(in rt.alloc(); "{subject}.rows")?;
     let text = fs::read_to_string(rt, name.as_str())?;
     let count = match subject {
         "sessions" => sessions::try_rows(rt, text.as_str())?,
         _ => try_rows(rt, subject, text.as_str())?,
     };
-    println!(rt; "{name}: {count} rows")?;
+    print_count(rt, name.as_str(), count, rows_in(text.as_str()))?;
+    Ok(count)
+}
+
+/// Prints whether all rows of a file, which has some, were tried.
+fn print_count(rt: &HostRuntime, name: &str, count: u64, rows: u64) -> Result<()> {
+    if count == rows && rows > 0 {
+        println!(rt; "{name}: all rows")?;
+    } else {
+        println!(rt; "{name}: {count} of {rows} rows")?;
+    }
     Ok(())
+}
+
+/// The number of rows of a text, counted by the bytes with which lines begin, so that one that is
+/// not tried is found.
+fn rows_in(text: &str) -> u64 {
+    let mut count = 0u64;
+    let mut before = b'\n';
+    for byte in text.bytes() {
+        if before == b'\n' && byte != b'\n' && byte != b'#' {
+            count = count.saturating_add(1);
+        }
+        before = byte;
+    }
+    count
 }
 
 /// Tries the rows of a text, and answers how many there are.

@@ -1,6 +1,17 @@
 //! What is not as it is to be.
 
+use anyhow::Result;
 use std::alloc::Global;
+
+/// Prints how many there are: exactly, if there are fewer than there are to be.
+pub fn print_least(rt: &HostRuntime, count: usize, least: usize, what: &str) -> Result<()> {
+    if count < least {
+        println!(rt; "only {count} {what}")?;
+    } else {
+        println!(rt; "at least {least} {what}")?;
+    }
+    Ok(())
+}
 
 /// The first thing that does not hold, if there is one.
 #[derive(Drop)]
