@@ -1,5 +1,5 @@
 -- What is in a tree whose tokens are elsewhere too, and what is found there.
-use Rattle.std.proofs.Common.{◌≡◌, ℕ, Bool, false, List, [], ◌∷◌, ◌++◌, map, Option, refl, sym, subst, append-nil, append_assoc}
+use Rattle.std.proofs.Common.{◌≡◌, ℕ, Bool, false, List, [], ◌∷◌, ◌++◌, map, Option, refl, sym, subst, append-nil}
 use Rattle.std.specs.List.{flat_map}
 use Rattle.std.proofs.lemmas.Grind.{flat_map-append}
 use Rattle.hcl_grammar.specs.declared.tree.Attribute.{Attribute}
@@ -17,7 +17,7 @@ use Rattle.hcl_grammar.specs.declared.tree.Tail.{Tail, out-Tail}
 use Rattle.hcl_grammar.specs.declared.tree.Template.{Template}
 use Rattle.hcl_grammar.specs.declared.tree.Term.{Term}
 use Rattle.hcl_grammar.specs.Nodes as node
-use Rattle.hcl_grammar_laws.proofs.Opens.{open_conditional, open_chain, open_prefixed, open_tailed, open_plain, open_number, open_identifier, open_call, open_tuple, open_object, open_for_tuple, open_for_object, open_quoted, open_heredoc, open_parens, open_name, open_legacy, open_attribute_splat, open_full_splat, open_index, open_literal, open_interp, open_if, open_for, open_lines, open_line, open_attribute, open_block, call_arguments, for_tuple_intro, for_tuple_value, for_tuple_filter, for_object_intro, for_object_key, for_object_value, for_object_filter, if_directive_condition, if_directive_met, if_directive_unmet}
+use Rattle.hcl_grammar_laws.proofs.Opens.{open_conditional, open_chain, open_prefixed, open_tailed, open_plain, open_number, open_identifier, open_tuple, open_object, open_quoted, open_heredoc, open_parens, open_name, open_legacy, open_attribute_splat, open_full_splat, open_index, open_literal, open_interp, open_lines, open_line, open_attribute, open_block}
 use Rattle.hcl_scan.specs.Follows.{tokens_of}
 use Rattle.hcl_token.specs.Tokens.{Pair}
 use Rattle.tf_rules.specs.declared.role.Role.{Role}
@@ -30,6 +30,7 @@ use Rattle.tf_reuse.proofs.RenumberedNodes.{MovedExpr, MovedForm, MovedLinks, Mo
 use Rattle.tf_reuse.proofs.Renumbering.{Moves, append}
 use Rattle.tf_reuse.proofs.Renumbering as moves
 use Rattle.tf_rules_laws.proofs.Rules.{expr_moves, term_moves, tail_moves}
+use Rattle.tf_rules_laws.proofs.TreeNodes.{preorder-append, at_call, at_for_tuple, at_for_object, at_if, at_for}
 use Rattle.tf_reuse.proofs.Window.{Here, Same}
 use Rattle.tf_reuse.specs.SameTokens.{SameTokens}
 use Rattle.tf_rules.specs.declared.rule_set.RuleSet.{RuleSet}
@@ -43,11 +44,6 @@ pub record SameFound (rules : RuleSet) (old new : List Pair) (from to : ℕ) (ns
   pub is_preorder' : IsPreorder ns' nodes'
   pub found : Moves old new from to (flat_map (node_findings rules old) nodes) (flat_map (node_findings rules new) nodes')
 
--- what is in the nodes of two lists
-preorder_both : {ns xs ms ys : List Node} → IsPreorder ns xs → IsPreorder ms ys → IsPreorder (ns ++ ms) (xs ++ ys)
-preorder_both nodes.no_nodes b = b
-preorder_both {ys} (nodes.visit {n} {ns} {inside} {others} a c) b = rw (append_assoc inside others ys) (nodes.visit a (preorder_both c b))
-
 module _ {rules : RuleSet} {old new : List Pair} {from to : ℕ} where
   pub none : SameFound rules old new from to [] []
   none = record { nodes = []; nodes' = []; preorder = nodes.no_nodes; is_preorder' = nodes.no_nodes; found = moves.none }
@@ -57,8 +53,8 @@ module _ {rules : RuleSet} {old new : List Pair} {from to : ℕ} where
   both a b = record {
     nodes = a.nodes ++ b.nodes;
     nodes' = a.nodes' ++ b.nodes';
-    preorder = preorder_both a.preorder b.preorder;
-    is_preorder' = preorder_both a.is_preorder' b.is_preorder';
+    preorder = preorder-append a.preorder b.preorder;
+    is_preorder' = preorder-append a.is_preorder' b.is_preorder';
     found = rw (flat_map-append (node_findings rules new) a.nodes' b.nodes', flat_map-append (node_findings rules old) a.nodes b.nodes) (append a.found b.found);
   }
 
@@ -72,29 +68,6 @@ module _ {rules : RuleSet} {old new : List Pair} {from to : ℕ} where
     is_preorder' = nodes.visit a.is_preorder' nodes.no_nodes;
     found = append e (rw (append-nil a.nodes', append-nil a.nodes) a.found);
   }
-
--- ---- the parts of nodes whose fields do not compute
-
-at_call : (ns : List ℕ) (es : List Expr) (s : Bool) → primary_children (out-Primary (node.call ns es s)) ≡ map (expr Argument) es
-unfolding node.call
-at_call ns es s = simp (open_call) (simp (call_arguments) refl)
-
-at_for_tuple : (x : Intro) (v : Expr) (o : Option Expr) → primary_children (out-Primary (node.for_tuple x v o)) ≡ expr Elsewhere x.collection ∷ expr Elsewhere v ∷ filter_children o
-unfolding node.for_tuple
-at_for_tuple x v o = simp (open_for_tuple) (simp (for_tuple_intro, for_tuple_value, for_tuple_filter) refl)
-
-at_for_object : (x : Intro) (key v : Expr) (s : Bool) (o : Option Expr)
-    → primary_children (out-Primary (node.for_object x key v s o)) ≡ expr Elsewhere x.collection ∷ expr Elsewhere key ∷ expr Elsewhere v ∷ filter_children o
-unfolding node.for_object
-at_for_object x key v s o = simp (open_for_object) (simp (for_object_intro, for_object_key, for_object_value, for_object_filter) refl)
-
-at_if : (i j : ℕ) (c : Expr) (t : Template) (o : Option Template) → part_children (out-Part (node.if_part i j c t o)) ≡ expr Elsewhere c ∷ (map part t.parts ++ else_children o)
-unfolding node.if_part
-at_if i j c t o = simp (open_if) (simp (if_directive_condition, if_directive_met, if_directive_unmet) refl)
-
-at_for : (i j : ℕ) (x : Intro) (t : Template) → part_children (out-Part (node.for_part i j x t)) ≡ expr Elsewhere x.collection ∷ map part t.parts
-unfolding node.for_part
-at_for i j x t = simp (open_for) refl
 
 module _ {R T : ℕ → ℕ → Type 0} where
   splat_after_moved : (splat : Bool) {x x' : Tail} → MovedTail R T x x' → splat_after splat (out-Tail x') ≡ splat_after splat (out-Tail x)

@@ -3,7 +3,6 @@ use Rattle.std.proofs.Common.{◌≡◌, ◌∙◌, ℕ, Bool, true, false, not,
 use Rattle.std.specs.List.{flat_map, list_any}
 use Rattle.std.specs.Option.{option_map}
 use Rattle.hcl_grammar.specs.Nodes as node
-use Rattle.hcl_grammar.specs.TreeLayers.{ExprKindLayer, PrimaryLayer}
 use Rattle.hcl_grammar.specs.declared.tree.Attribute.{Attribute}
 use Rattle.hcl_grammar.specs.declared.tree.Block.{Block, roll-Block}
 use Rattle.hcl_grammar.specs.declared.tree.Content.{Content, out-Content}
@@ -13,12 +12,12 @@ use Rattle.hcl_grammar.specs.declared.tree.Label.{Label}
 use Rattle.hcl_grammar.specs.declared.tree.Member.{Member}
 use Rattle.hcl_grammar.specs.declared.tree.Part.{Part}
 use Rattle.hcl_grammar.specs.declared.tree.Primary.{out-Primary, Primary}
-use Rattle.hcl_grammar.specs.declared.tree.Term.{Term}
 use Rattle.hcl_grammar_laws.proofs.Opens as opens
 use Rattle.hcl_scan.specs.Follows.{tokens_of}
 use Rattle.hcl_token.specs.Tokens.{Pair}
+use Rattle.tf_reuse.proofs.MovedParts.{form_of, shape_of}
 use Rattle.tf_reuse.proofs.RenumberedNodes as moved
-use Rattle.tf_reuse.proofs.RenumberedNodes.{MovedExpr, MovedForm, MovedTerm, MovedShape, MovedParts, MovedNumber, MovedLabels, MovedContent, MovedMembers}
+use Rattle.tf_reuse.proofs.RenumberedNodes.{MovedExpr, MovedForm, MovedShape, MovedParts, MovedNumber, MovedLabels, MovedContent, MovedMembers}
 use Rattle.tf_reuse.proofs.RenumberedTrivia.{spelling_moved, moved_token}
 use Rattle.tf_reuse.proofs.Window.{Here, Same}
 use Rattle.tf_reuse.specs.SameTokens.{SameTokens}
@@ -34,14 +33,6 @@ message named name = record { kind = named; name = name }
 
 -- ---- `""`
 
-same_shape : (x x' : Primary) (s s' : PrimaryLayer) → out-Primary x ≡ s → out-Primary x' ≡ s' → is_empty_string_primary s' ≡ is_empty_string_primary s
-    → is_empty_string_primary (out-Primary x') ≡ is_empty_string_primary (out-Primary x)
-same_shape x x' s s' p q e = ap is_empty_string_primary q ∙ e ∙ sym (ap is_empty_string_primary p)
-
-same_form : (x x' : ExprKind) (s s' : ExprKindLayer) → out-ExprKind x ≡ s → out-ExprKind x' ≡ s' → is_empty_string_kind s' ≡ is_empty_string_kind s
-    → is_empty_string_kind (out-ExprKind x') ≡ is_empty_string_kind (out-ExprKind x)
-same_form x x' s s' p q e = ap is_empty_string_kind q ∙ e ∙ sym (ap is_empty_string_kind p)
-
 module _ (R T : ℕ → ℕ → Type 0) where
   empty_parts : {ps ps' : List Part} → MovedParts R T ps ps' → has_no_parts ps' ≡ has_no_parts ps
   empty_parts moved.no_parts = refl
@@ -51,29 +42,24 @@ module _ (R T : ℕ → ℕ → Type 0) where
   unfolding node.call node.for_tuple node.for_object node.template
   empty_shape moved.number = refl
   empty_shape moved.identifier = refl
-  empty_shape (moved.call s ns es) = same_shape _ _ _ _ (opens.open_call _) (opens.open_call _) refl
-  empty_shape (moved.tuple es) = same_shape _ _ _ _ (opens.open_tuple _) (opens.open_tuple _) refl
-  empty_shape (moved.object xs) = same_shape _ _ _ _ (opens.open_object _) (opens.open_object _) refl
-  empty_shape (moved.for_tuple x v o) = same_shape _ _ _ _ (opens.open_for_tuple _) (opens.open_for_tuple _) refl
-  empty_shape (moved.for_object g x key v o) = same_shape _ _ _ _ (opens.open_for_object _) (opens.open_for_object _) refl
-  empty_shape (moved.quoted (moved.template p q xs)) = same_shape _ _ _ _ (opens.open_quoted _) (opens.open_quoted _) (empty_parts xs)
-  empty_shape (moved.heredoc t) = same_shape _ _ _ _ (opens.open_heredoc _) (opens.open_heredoc _) refl
-  empty_shape (moved.parens e) = same_shape _ _ _ _ (opens.open_parens _) (opens.open_parens _) refl
-
-  empty_term : {t t' : Term} → MovedTerm R T t t' → is_empty_string_primary (out-Primary t'.kind) ≡ is_empty_string_primary (out-Primary t.kind)
-  unfolding node.term
-  empty_term (moved.moved_term p q l x) = empty_shape x
+  empty_shape (moved.call s ns es) = simp (opens.open_call) refl
+  empty_shape (moved.tuple es) = simp (opens.open_tuple) refl
+  empty_shape (moved.object xs) = simp (opens.open_object) refl
+  empty_shape (moved.for_tuple x v o) = simp (opens.open_for_tuple) refl
+  empty_shape (moved.for_object g x key v o) = simp (opens.open_for_object) refl
+  empty_shape (moved.quoted (moved.template p q xs)) = simp (opens.open_quoted) (empty_parts xs)
+  empty_shape (moved.heredoc t) = simp (opens.open_heredoc) refl
+  empty_shape (moved.parens e) = simp (opens.open_parens) refl
 
   empty_form : {x x' : ExprKind} → MovedForm R T x x' → is_empty_string_kind (out-ExprKind x') ≡ is_empty_string_kind (out-ExprKind x)
-  empty_form (moved.conditional c a b) = same_form _ _ _ _ (opens.open_conditional _ _ _) (opens.open_conditional _ _ _) refl
-  empty_form (moved.chain h ls) = same_form _ _ _ _ (opens.open_chain _ _) (opens.open_chain _ _) refl
-  empty_form (moved.prefixed op e) = same_form _ _ _ _ (opens.open_prefixed _ _) (opens.open_prefixed _ _) refl
-  empty_form (moved.tailed t xs) = same_form _ _ _ _ (opens.open_tailed _ _) (opens.open_tailed _ _) refl
-  empty_form (moved.plain t) = same_form _ _ _ _ (opens.open_plain _) (opens.open_plain _) (empty_term t)
+  empty_form (moved.conditional c a b) = simp (opens.open_conditional) refl
+  empty_form (moved.chain h ls) = simp (opens.open_chain) refl
+  empty_form (moved.prefixed op e) = simp (opens.open_prefixed) refl
+  empty_form (moved.tailed t xs) = simp (opens.open_tailed) refl
+  empty_form (moved.plain t) = simp (opens.open_plain) (empty_shape (shape_of t))
 
   empty_expr : {e e' : Expr} → MovedExpr R T e e' → is_empty_string e' ≡ is_empty_string e
-  unfolding node.expr
-  empty_expr (moved.moved_expr p q l x) = empty_form x
+  empty_expr x = empty_form (form_of x)
 
 module _ (old new : List Pair) {from to count : ℕ} (w : SameTokens (tokens_of old) (tokens_of new) from to count) where
   -- ---- words

@@ -1,5 +1,6 @@
 -- In the tree of a text each finding that a rule names is valid, so the test drops none.
-use Rattle.std.proofs.Common.{◌≡◌, List, [], ◌∷◌, refl, ap, length, map, suc}
+use Rattle.std.proofs.Common.{◌≡◌, List, [], ◌∷◌, length, map}
+use Rattle.std.proofs.lemmas.List.{length-map}
 use Rattle.std.specs.List.{AllByRecursion}
 use Rattle.hcl_grammar.specs.Tokens.{Token}
 use Rattle.hcl_grammar.specs.TreeLayers.{MemberLayer}
@@ -15,6 +16,7 @@ use Rattle.tf_rules_laws.proofs.Rules.{expr_is_valid, term_is_valid, tail_is_val
 use Rattle.tf_rules_laws.proofs.TreeNodes.{each_derived}
 use Rattle.tf_rules_laws.proofs.Valid as valid
 use Rattle.tf_rules_laws.proofs.Valid.{AreValid}
+use Rattle.tf_reuse.proofs.RenumberedTrivia.{token_of}
 use Rattle.tf_rules_laws.specs.NodeSpans.{DerivesMember, Derives}
 use Rattle.tf_rules_laws.specs.NothingDropped.{NoFindingIsDropped}
 
@@ -35,15 +37,11 @@ module _ (rules : RuleSet) (pairs : List Pair) (ts : List Token) (count : length
   node_is_valid (part x) s = valid.none
   node_is_valid (member m) s = valid.none
 
-count_tokens : (pairs : List Pair) → length (tokens_of pairs) ≡ length pairs
-count_tokens [] = refl
-count_tokens (p ∷ ps) = ap suc (count_tokens ps)
-
 pub none_dropped : PreorderIsUnique → NoFindingIsDropped
 none_dropped unique text tree parses rules nodes is_in_preorder =
     let pairs = parses.pairs in
     let ts = tokens_of pairs in
-    let count = count_tokens pairs in
+    let count = length-map pairs token_of in
     let each = each_derived unique parses.derived is_in_preorder in
     let ms = tree.body.members in
     let at_nodes = valid.mapped (node_findings rules pairs) nodes

@@ -11,9 +11,8 @@ use Rattle.hcl_grammar.specs.declared.tree.Content.TheVariants as inner
 use Rattle.hcl_grammar.specs.declared.tree.Elem.{Elem}
 use Rattle.hcl_grammar.specs.declared.tree.Expr.{Expr}
 use Rattle.hcl_grammar.specs.declared.tree.ExprKind.{out-ExprKind}
-use Rattle.hcl_grammar.specs.declared.tree.ExprKind.TheOpen.{Tail-F, Part-F}
+use Rattle.hcl_grammar.specs.declared.tree.ExprKind.TheOpen.{Tail-F}
 use Rattle.hcl_grammar.specs.declared.tree.ExprKind.TheVariants as form
-use Rattle.hcl_grammar.specs.declared.tree.IfDirective.{roll-IfDirective}
 use Rattle.hcl_grammar.specs.declared.tree.Intro.{Intro}
 use Rattle.hcl_grammar.specs.declared.tree.Label.{Label}
 use Rattle.hcl_grammar.specs.declared.tree.Member.{Member, out-Member}
@@ -136,29 +135,36 @@ module _ {ts : List Token} where
         indices = step ts m i k.DotIndex p ∙ ap (λ (z : TailLayer). (tail_number z ++ []) ++ legacy_from ts (after_next ts m i)) (sym h);
       }
 
--- ---- the nodes in what a production makes
+-- ---- the parts of nodes whose fields do not compute
 
-for_tuple_nodes : (a b : ℕ) (x : Intro) (value : Expr) (o : Option Expr)
-    → primary_children (out-Primary (node.term a b (node.for_tuple x value o)).kind) ≡ expr Elsewhere x.collection ∷ expr Elsewhere value ∷ filter_children o
-unfolding node.term node.for_tuple
-for_tuple_nodes a b x value o = ap primary_children (open_for_tuple _) ∙ rw (for_tuple_intro x value o, for_tuple_value x value o, for_tuple_filter x value o) refl
+pub at_call : (ns : List ℕ) (es : List Expr) (s : Bool)
+    → primary_children (out-Primary (node.call ns es s)) ≡ map (expr Argument) es
+unfolding node.call
+at_call ns es s = simp (open_call) (simp (call_arguments) refl)
 
-for_object_nodes : (a b : ℕ) (x : Intro) (key value : Expr) (grouped : Bool) (o : Option Expr)
-    → primary_children (out-Primary (node.term a b (node.for_object x key value grouped o)).kind)
-    ≡ expr Elsewhere x.collection ∷ expr Elsewhere key ∷ expr Elsewhere value ∷ filter_children o
-unfolding node.term node.for_object
-for_object_nodes a b x key value grouped o =
-    ap primary_children (open_for_object _)
-    ∙ rw (for_object_intro x key value grouped o, for_object_key x key value grouped o, for_object_value x key value grouped o, for_object_filter x key value grouped o) refl
+pub at_for_tuple : (x : Intro) (v : Expr) (o : Option Expr)
+    → primary_children (out-Primary (node.for_tuple x v o))
+    ≡ expr Elsewhere x.collection ∷ expr Elsewhere v ∷ filter_children o
+unfolding node.for_tuple
+at_for_tuple x v o = simp (open_for_tuple) (simp (for_tuple_intro, for_tuple_value, for_tuple_filter) refl)
 
-rolled_if_nodes : (a b : ℕ) (c : Expr) (t : Template) (u : Option Template)
-    → part_children (Part-F.If (roll-IfDirective (record { first = a; past = b; condition = c; then_branch = t; else_branch = u }))) ≡ expr Elsewhere c ∷ (map part t.parts ++ else_children u)
-rolled_if_nodes a b c t u = rw (if_directive_condition a b c t u, if_directive_met a b c t u, if_directive_unmet a b c t u) refl
+pub at_for_object : (x : Intro) (key v : Expr) (s : Bool) (o : Option Expr)
+    → primary_children (out-Primary (node.for_object x key v s o))
+    ≡ expr Elsewhere x.collection ∷ expr Elsewhere key ∷ expr Elsewhere v ∷ filter_children o
+unfolding node.for_object
+at_for_object x key v s o = simp (open_for_object)
+    (simp (for_object_intro, for_object_key, for_object_value, for_object_filter) refl)
 
-if_nodes : (a b : ℕ) (c : Expr) (x y : ℕ) (ps : List Part) (u : Option Template)
-    → part_children (out-Part (node.if_part a b c (node.template x y ps) u)) ≡ expr Elsewhere c ∷ (map part ps ++ else_children u)
-unfolding node.if_part node.template
-if_nodes a b c x y ps u = ap part_children (open_if _) ∙ rolled_if_nodes a b c (node.template x y ps) u
+pub at_if : (i j : ℕ) (c : Expr) (t : Template) (o : Option Template)
+    → part_children (out-Part (node.if_part i j c t o))
+    ≡ expr Elsewhere c ∷ (map part t.parts ++ else_children o)
+unfolding node.if_part
+at_if i j c t o = simp (open_if) (simp (if_directive_condition, if_directive_met, if_directive_unmet) refl)
+
+pub at_for : (i j : ℕ) (x : Intro) (t : Template)
+    → part_children (out-Part (node.for_part i j x t)) ≡ expr Elsewhere x.collection ∷ map part t.parts
+unfolding node.for_part
+at_for i j x t = simp (open_for) refl
 
 -- ---- the grammar
 
@@ -224,10 +230,10 @@ module _ {ts : List Token} where
     in_term (object {m} {xs} {i} {l} p w ls es) =
         same_nodes (ap primary_children (open_object xs)) (following (after (pass m i k.OpenBrace refl p) (pass_lines ls)) (in_elems es))
     in_term (for_tuple {m} {x} {value} {filter = o} {i} {j} {l} p y c v f) =
-        same_nodes (for_tuple_nodes (next_index ts m i) l x value o)
+        same_nodes (at_for_tuple x value o)
         (following (pass m i k.OpenBracket refl p) (cons (before (in_intro y) (pass true j k.Colon refl c)) (cons (an_expr Elsewhere v (in_expr Elsewhere v)) (in_filter refl f))))
     in_term (for_object {m} {x} {key} {value} {grouped} {filter = o} {i} {j} {n} {l} p y c a w v s f) =
-        same_nodes (for_object_nodes (next_index ts m i) l x key value grouped o)
+        same_nodes (at_for_object x key value grouped o)
         (following (pass m i k.OpenBrace refl p) (cons (before (in_intro y) (pass true j k.Colon refl c))
         (cons (before (an_expr Elsewhere a (in_expr Elsewhere a)) (pass true n k.FatArrow refl w))
         (cons (before (an_expr Elsewhere v (in_expr Elsewhere v)) (pass_dots s)) (in_filter refl f)))))
@@ -282,7 +288,8 @@ module _ {ts : List Token} where
     in_part (interp {m} {e} {i} {j} p x q) =
         same_nodes (ap part_children (open_interp e)) (following (pass m i k.InterpOpen refl p) (before (an_expr Interpolation x (in_expr Interpolation x)) (pass true j k.SeqClose refl q)))
     in_part (if_directive {m} {c} {then_branch} {else_branch} {i} {j} {n} {l} p w x q ps o) =
-        same_nodes (if_nodes (next_index ts m i) l c (first_token_in ts m (after_next ts true j) n) n then_branch else_branch)
+        same_nodes (at_if (next_index ts m i) l c
+        (node.template (first_token_in ts m (after_next ts true j) n) n then_branch) else_branch)
         (following (after (pass m i k.DirectiveOpen refl p) (word true _ (after_next ts m i) w))
         (cons (before (an_expr Elsewhere x (in_expr Elsewhere x)) (pass true j k.SeqClose refl q)) (joined (map part then_branch) (else_children else_branch) (in_parts ps) (in_else o))))
     in_part (for_directive {m} {x} {body} {i} {j} {n} {l} p y q ps s) =
