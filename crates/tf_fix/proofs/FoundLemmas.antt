@@ -1,24 +1,17 @@
 -- One rule's step, by what a set of rules found.
-use Rattle.std.proofs.Common.{◌≡◌, ◌⊎◌, ◌<◌, ◌≤◌, ℕ, List, true, length, refl, sym, ap, subst, ◌∙◌, inl, inr}
+use Rattle.std.proofs.Common.{◌≡◌, ◌⊎◌, ◌<◌, ◌≤◌, ℕ, List, length, sym, ap, subst, ◌∙◌, inl, inr}
 use Rattle.hcl_scan.specs.Tokenization.{MAX_TEXT}
 use Rattle.hcl_token.specs.TokenizedText.{TokenizedText}
 use Rattle.edit_record.specs.Lists.Pieces.{EditList, Transforms}
 use Rattle.tf_fix.specs.StepText.{fix_step_text}
 use Rattle.tf_fix.specs.Edits.StepEdits.{fix_step_edits}
 use Rattle.tf_rules.specs.SingleRule.{only}
-use Rattle.tf_rules.specs.RuleSets.{has_rule}
 use Rattle.tf_rules.specs.declared.finding.Finding.{Finding}
 use Rattle.tf_rules.specs.declared.rule.Rule.{Rule}
-use Rattle.tf_rules.specs.declared.rule.Rule.TheVariants.{CommentSyntax}
 use Rattle.tf_fix.specs.OneStep.{RulesFind, step_count_of, IsTooLong, IsFixStep}
 use Rattle.tf_fix.specs.declared.fault.LintFault.{LintFault}
 use Rattle.tf_fix.specs.declared.fault.LintFault.TheVariants.{TooLong, Memory}
 use Rattle.tf_fix.specs.declared.parsed.Parsed.{Parsed}
-
--- the set of one rule has it
-pub has_itself : (rule : Rule) → has_rule (only rule) rule ≡ true
-has_itself CommentSyntax = refl
-has_itself rule = refl
 
 pub step_of : (rule : Rule) (p : Parsed) (tokenized : TokenizedText) (found : List Finding) (count : ℕ) (edits : EditList) → p.scanned ≡ tokenized → RulesFind (only rule) p found
     → count ≡ step_count_of found → edits ≡ fix_step_edits rule tokenized found → Transforms edits tokenized.text (fix_step_text tokenized found) → length (fix_step_text tokenized found) ≤ MAX_TEXT

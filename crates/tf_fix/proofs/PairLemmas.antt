@@ -4,7 +4,7 @@ use Rattle.std.specs.List.{flat_map}
 use Rattle.std.specs.Prelude.{unwrap_or}
 use Rattle.std.specs.Option.{option_map}
 use Rattle.std.proofs.lemmas.Bool.{false≢true}
-use Rattle.std.proofs.lemmas.List.{append-nil}
+use Rattle.std.proofs.lemmas.List.{append-nil, drop-drop, drop-take}
 use Rattle.hcl_token.specs.declared.kind.Kind.{Kind}
 use Rattle.hcl_token.specs.TokenizedText.{TokenizedText}
 use Rattle.hcl_token.specs.Tokens.{Pair, whole_text}
@@ -15,7 +15,7 @@ use Rattle.tf_rules.specs.declared.fix.Insertion.{Insertion}
 use Rattle.tf_rules.specs.declared.fix.Insertion.TheVariants.{Nothing}
 use Rattle.tf_rules.specs.declared.fix.KeptTokens.{KeptTokens}
 use Rattle.tf_rules.specs.declared.rule.Rule.{Rule}
-use Rattle.tf_fix.specs.StepText.{is_empty, gap_at, with_gap, inserted_and_kept_pairs, fixed_pairs, fixed_pairs_from, settled_pair, settled_pairs, fix_step_text}
+use Rattle.tf_fix.specs.StepText.{gap_at, with_gap, inserted_and_kept_pairs, fixed_pairs, fixed_pairs_from, settled_pair, settled_pairs, fix_step_text}
 use Rattle.tf_rules.specs.ValidFindings.{AreValidFindings, ChangesEnd, AreInOrder}
 use Rattle.tf_fix.specs.Inner.Nonempty.{HasValidFix}
 use Rattle.tf_rules.specs.declared.rule.Rule.TheVariants.{CommentSyntax}
@@ -32,7 +32,7 @@ use Rattle.tf_fix.specs.Edits.SettledSpaces.{settled}
 use Rattle.tf_fix.specs.Selection.{selected}
 use Rattle.tf_fix.specs.declared.boundary.Boundary.{Boundary}
 use Rattle.tf_fix.specs.declared.boundary.Boundary.TheVariants.{Gap as BeforeGap, Token as BeforeToken}
-use Rattle.tf_fix.proofs.PartLemmas.{known, range_last, range_none, gap_and_token_first, token_first, parts_drop}
+use Rattle.tf_fix.proofs.PartLemmas.{known, range_first, range_last, range_none, gap_and_token_first, parts_drop}
 use Rattle.tf_fix.proofs.SelectionLemmas.{AreTaken, selected_are, selected_of, kept_le}
 
 body_append : (ps qs : List Pair) → pairs_parts (ps ++ qs) ≡ pairs_parts ps ++ pairs_parts qs
@@ -77,18 +77,14 @@ open_range pairs last a b le within =
 inner_range : (pairs : List Pair) (last gap : List ℕ) (a b : ℕ) → a < b → b ≤ length pairs → Gap gap ∷ slice_range (parts_of pairs last) (2 * a + 1) (2 * b) ≡ pairs_parts (with_gap gap (slice_range pairs a b))
 inner_range pairs last gap a b lt within =
     let (p, found, leading) = known pairs a (omega (arith, lt, within)) in
-    let k = b - a - 1 in
-    let parts_count : 2 * b - (2 * a + 1) ≡ suc (2 * k) = omega (arith, lt) in
-    let pairs_count : b - a ≡ suc k = omega (arith, lt) in
-    let next : 2 * a + 2 ≡ 2 * (a + 1) = omega arith in
-    let left = length-drop (a + 1) pairs in
-    let rest : take (2 * k) (drop (2 * a + 2) (parts_of pairs last)) ≡ pairs_parts (take k (drop (a + 1) pairs)) =
-    ap (λ n. take (2 * k) (drop n (parts_of pairs last))) next ∙ ap (λ t. take (2 * k) t) (parts_drop pairs last (a + 1) (omega (arith, lt, within)))
-    ∙ body_take k (drop (a + 1) pairs) last (omega (arith, left, lt, within)) in
-    let side : slice_range pairs a b ≡ p ∷ take k (drop (a + 1) pairs) = ap (λ n. take n (drop a pairs)) pairs_count ∙ ap (λ t. take (suc k) t) leading in
-    ap (λ n. Gap gap ∷ take n (drop (2 * a + 1) (parts_of pairs last))) parts_count
-    ∙ ap (λ t. Gap gap ∷ take (suc (2 * k)) t) (token_first pairs last a p found)
-    ∙ ap (λ t. Gap gap ∷ Token p.kind p.spelling ∷ t) rest
+    let xs = parts_of pairs last in
+    let side = range_first pairs a b p _ lt leading in
+    let count : 2 * b - 2 * a ≡ 1 + (2 * b - (2 * a + 1)) = omega (arith, lt) in
+    let whole : drop 1 (slice_range xs (2 * a) (2 * b)) ≡ slice_range xs (2 * a + 1) (2 * b) =
+    ap (λ n. drop 1 (take n (drop (2 * a) xs))) count ∙ drop-take 1 (2 * b - (2 * a + 1)) (drop (2 * a) xs)
+    ∙ ap (take (2 * b - (2 * a + 1))) (drop-drop 1 (2 * a) xs) in
+    let pairs_are = whole_range pairs last a b (omega (arith, lt)) within ∙ ap pairs_parts side in
+    ap (λ t. Gap gap ∷ t) (sym whole ∙ ap (drop 1) pairs_are)
     ∙ sym (ap (λ t. pairs_parts (with_gap gap t)) side)
 
 -- from a place on, what is before the first that is kept stays
@@ -142,9 +138,7 @@ gap_twice : (pairs : List Pair) (gap : List ℕ) (a b : ℕ) (rest : List Pair) 
     → with_gap gap (with_gap [] (slice_range pairs a b) ++ rest) ≡ with_gap gap (slice_range pairs a b) ++ rest
 gap_twice pairs gap a b rest lt within =
     let (p, found, leading) = known pairs a (omega (arith, lt, within)) in
-    let count : b - a ≡ suc (b - a - 1) = omega (arith, lt) in
-    let side : slice_range pairs a b ≡ p ∷ take (b - a - 1) (drop (a + 1) pairs) = ap (λ n. take n (drop a pairs)) count ∙ ap (λ t. take (suc (b - a - 1)) t) leading in
-    rw side refl
+    rw (range_first pairs a b p _ lt leading) refl
 
 -- what is written first
 data Written (pairs : List Pair) (first : ℕ) (w : Insertion) : Type 0 where
@@ -224,7 +218,7 @@ given met k s = if met then record { gap = space; kind = k; spelling = s } else 
 
 settle_if : (met : Bool) (k : Kind) (s rest : List ℕ) (more : List TextPart) → text_of_parts (settled (Some (k, s)) more) ≡ rest
     → text_of_parts (if met then Gap space ∷ Token k s ∷ settled (Some (k, s)) more else Token k s ∷ settled (Some (k, s)) more)
-    ≡ (given met k s).gap ++ (s ++ rest)
+    ≡ (given met k s).gap ++ ((given met k s).spelling ++ rest)
 settle_if true k s rest more e = ap (λ t. space ++ (s ++ t)) e
 settle_if false k s rest more e = ap (λ t. s ++ t) e
 
@@ -232,26 +226,21 @@ settle_last : (prev : Prev) (last : List ℕ) → text_of_parts (settled prev (G
 settle_last prev [] = refl
 settle_last prev (b ∷ last) = append-nil (b ∷ last)
 
-abbrev spaced : Bool → Pair → Pair
-spaced here p = if here then record p { gap = space } else p
+abbrev settled_one : Prev → List ℕ → Kind → List ℕ → Pair
+settled_one prev gap k s = settled_pair prev (record { gap = gap; kind = k; spelling = s })
 
-same_if : (here : Bool) (p : Pair) (rest : List ℕ) → (spaced here p).gap ++ (p.spelling ++ rest) ≡ (spaced here p).gap ++ ((spaced here p).spelling ++ rest)
-same_if true p rest = refl
-same_if false p rest = refl
-
-same_spelling : (prev : Prev) (p : Pair) (rest : List ℕ) → (settled_pair prev p).gap ++ (p.spelling ++ rest) ≡ (settled_pair prev p).gap ++ ((settled_pair prev p).spelling ++ rest)
-same_spelling prev p rest = same_if (is_empty p.gap && joins_prev prev p.kind p.spelling) p rest
-
-settle_one : (prev : Prev) (gap : List ℕ) (k : Kind) (s rest : List ℕ) (more : List TextPart) → text_of_parts (settled (Some (k, s)) more) ≡ rest
-    → text_of_parts (settled prev (Gap gap ∷ Token k s ∷ more)) ≡ (settled_pair prev (record { gap = gap; kind = k; spelling = s })).gap ++ (s ++ rest)
+settle_one : (prev : Prev) (gap : List ℕ) (k : Kind) (s rest : List ℕ) (more : List TextPart)
+    → text_of_parts (settled (Some (k, s)) more) ≡ rest
+    → text_of_parts (settled prev (Gap gap ∷ Token k s ∷ more))
+    ≡ (settled_one prev gap k s).gap ++ ((settled_one prev gap k s).spelling ++ rest)
 settle_one prev [] k s rest more e = settle_if (joins_prev prev k s) k s rest more e
 settle_one prev (b ∷ gap) k s rest more e = ap (λ t. (b ∷ gap) ++ (s ++ t)) e
 
 pub pairs_settled : (prev : Prev) (ps : List Pair) (last : List ℕ) → text_of_parts (settled prev (parts_of ps last)) ≡ whole_text (settled_pairs prev ps) last
 pairs_settled prev [] last = settle_last prev last
 pairs_settled prev (p ∷ ps) last =
-    settle_one prev p.gap p.kind p.spelling (whole_text (settled_pairs (Some (p.kind, p.spelling)) ps) last) (parts_of ps last) (pairs_settled (Some (p.kind, p.spelling)) ps last)
-    ∙ same_spelling prev p _
+    settle_one prev p.gap p.kind p.spelling _ (parts_of ps last)
+    (pairs_settled (Some (p.kind, p.spelling)) ps last)
 
 -- the text of a step, by pairs
 pub by_pairs : (rule : Rule) (tokenized : TokenizedText) (findings : List Finding) → is_comment_rule rule ≡ false → AreOfRule rule tokenized.pairs findings → AreValidFindings (length tokenized.pairs) findings

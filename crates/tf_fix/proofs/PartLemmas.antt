@@ -1,6 +1,6 @@
 -- The parts of a text by number.
-use Rattle.std.proofs.Common.{◌≡◌, ℕ, zero, suc, ◌+◌, ◌-◌, ◌*◌, ◌≤◌, ◌<◌, false, List, [], ◌∷◌, ◌++◌, length, take, drop, slice_range, slice_get, Some, None, refl, sym, ap, ◌∙◌, arith, length-append, length-drop, inl, inr}
-use Rattle.std.proofs.lemmas.List.{append-nil, take-append-drop, drop_more, take_all, drop-drop}
+use Rattle.std.proofs.Common.{◌≡◌, ℕ, zero, suc, ◌+◌, ◌-◌, ◌*◌, ◌≤◌, ◌<◌, false, List, [], ◌∷◌, ◌++◌, length, take, drop, slice_range, slice_get, Some, None, refl, sym, ap, ap₂, ◌∙◌, arith, length-append, length-drop, inl, inr}
+use Rattle.std.proofs.lemmas.List.{append-nil, take-append-drop, take-take, drop-take, drop_more, take_all, drop-drop}
 use Rattle.std.proofs.lemmas.List.Folds.{drop_split}
 use Rattle.std.proofs.lemmas.Option.{slice_get_cases}
 use Rattle.std.proofs.Math.Seq.{take-append_seam, drop-append_seam}
@@ -16,15 +16,10 @@ use Rattle.tf_fix.proofs.SettledLemmas.{written-append, after-append}
 
 -- ---- slices
 
-take_none : {X : Type 0} (n : ℕ) → ◌≡◌ {A = List X} (take n []) []
-take_none zero = refl
-take_none (suc n) = refl
-
 pub take_sum : {X : Type 0} (n a b : ℕ) (xs : List X) → n ≡ a + b → take n xs ≡ take a xs ++ take b (drop a xs)
-take_sum n zero b xs e = ap (λ k. take k xs) (omega (arith, e))
-take_sum n (suc a) b [] e = take_none n ∙ sym (take_none b)
-take_sum zero (suc a) b (x ∷ xs) e = absurd (omega (arith, e))
-take_sum (suc n) (suc a) b (x ∷ xs) e = ap (λ t. x ∷ t) (take_sum n a b xs (omega (arith, e)))
+take_sum n a b xs e =
+    ap (λ k. take k xs) e ∙ sym (take-append-drop a (take (a + b) xs))
+    ∙ ap₂ (λ s t. s ++ t) (take-take a (a + b) xs (omega arith)) (drop-take a b xs)
 
 pub take_range : {X : Type 0} (xs : List X) (from to : ℕ) → from ≤ to → take to xs ≡ take from xs ++ slice_range xs from to
 take_range xs from to le = take_sum to from (to - from) xs (omega (arith, le))
@@ -83,13 +78,8 @@ gap_and_token_first (q ∷ ps) last (suc i) p found =
 
 pub token_first : (pairs : List Pair) (last : List ℕ) (i : ℕ) (p : Pair) → slice_get pairs i ≡ Some p
     → drop (2 * i + 1) (parts_of pairs last) ≡ Token p.kind p.spelling ∷ drop (2 * i + 2) (parts_of pairs last)
-token_first [] last i p found = absurd (cc found)
-token_first (q ∷ ps) last zero p found = let same : q ≡ p = cc found in ap (λ (x : Pair). Token x.kind x.spelling ∷ parts_of ps last) same
-token_first (q ∷ ps) last (suc i) p found =
-    let three : 2 * suc i + 1 ≡ suc (suc (2 * i + 1)) = omega arith in
-    let four : 2 * suc i + 2 ≡ suc (suc (2 * i + 2)) = omega arith in
-    ap (λ k. drop k (parts_of (q ∷ ps) last)) three ∙ token_first ps last i p found
-    ∙ ap (λ k. Token p.kind p.spelling ∷ drop k (parts_of (q ∷ ps) last)) (sym four)
+token_first pairs last i p found =
+    sym (drop-drop 1 (2 * i) (parts_of pairs last)) ∙ ap (drop 1) (gap_and_token_first pairs last i p found)
 
 -- ---- what is before a place, as text
 

@@ -1,5 +1,5 @@
 use Rattle.std.proofs.Common.{arith}
-use Rattle.tf_fix.proofs.NonemptyLemmas.{few_tokens}
+use Rattle.hcl_scan.proofs.TokenCount.{few_tokens}
 use Rattle.tf_fix.proofs.SelectionLemmas.{selected_few}
 use Rattle.tf_fix.proofs.laws.selected_are_within_limit.Goals as goal
 

@@ -5,7 +5,7 @@ use Rattle.tf_fix.specs.OneStep.{RulesFind, IsTooLong}
 use Rattle.tf_fix.specs.declared.fault.LintFault.{LintFault}
 use Rattle.tf_fix.specs.declared.fault.LintFault.TheVariants.{TooLong, Memory}
 use Rattle.tf_fix.specs.declared.parsed.Parsed.{Parsed}
-use Rattle.tf_fix.proofs.FoundLemmas.{has_itself}
+use Rattle.tf_rules_laws.proofs.OneRule.{has_itself}
 use Rattle.tf_fix.proofs.StepLemmas.{handed_on}
 use Rattle.tf_fix.proofs.step.fix_step.Goals as goal
 
