@@ -108,7 +108,12 @@ module _ (unique_tokens : TokensAreUnique) (one_parse : OneParse) (one_found : F
       let e : Err f ≡ Ok more = same_steps v (runs_again rule p d c gs fs y x read reads w) in absurd (cc)
   same_steps (breaks_later {rule} {p = p} {next = c} fs _ x _ reads v)
       (breaks_later {next = d} gs _ y _ read w) = same_steps v (runs_again rule p d c gs fs y x read reads w)
-  same_steps _ _ = absurd (cc)
+  same_steps (not_in_set absent v) (breaks _ has _ _) = absurd (cc)
+  same_steps (not_in_set absent v) (stepped _ has _ _ _ _) = absurd (cc)
+  same_steps (not_in_set absent v) (breaks_later _ has _ _ _ _) = absurd (cc)
+  same_steps (breaks _ has _ _) (not_in_set absent w) = absurd (cc)
+  same_steps (stepped _ has _ _ _ _) (not_in_set absent w) = absurd (cc)
+  same_steps (breaks_later _ has _ _ _ _) (not_in_set absent w) = absurd (cc)
 
   same_runs : (rules : RuleSet) (text : List ℕ) (c d : Parsed) (a b : Result Steps FixFault) → IsParseOf text c → IsParseOf text d → RunSteps rules fix_order c a → RunSteps rules fix_order d b → a ≡ b
   same_runs rules text c d a b p q runs other =
