@@ -1,7 +1,7 @@
 //! A search for what the rules of a set find in a text.
 
-ghost use Rattle.std.specs.Prelude.{◌≡◌, ◌++◌, length, OnOk};
-ghost use Rattle.tf_rules.specs.Findings.{finding_at, valid_findings};
+ghost use Rattle.std.specs.Prelude.{OnOk};
+ghost use Rattle.tf_rules.specs.Findings.{finding_at, Adds};
 
 use crate::finding::is_valid_at;
 use crate::{Finding, Fix, Message, Rule, RuleSet};
@@ -31,9 +31,7 @@ impl<'s, 't> LintContext<'s, 't> {
         fix: Option<Fix>,
         found: &mut Vec<Finding>,
     ) -> Result<(), AllocError>
-        ensures { OnOk result
-            (found.new.items ≡ found.old.items
-            ++ valid_findings (length self.now.scanned.now.pairs)
+        ensures { OnOk result (Adds self.now.scanned.now.pairs found.old.items found.new.items
             (finding_at rule first past message fix)) }
     {
         // what is given is tested: a finding would have to be unpacked again

@@ -1,12 +1,12 @@
 //! The rules, a module each, and what they find: at a node, without the nodes inside of it, and at
 //! the blocks of a text at top level.
 
-ghost use Rattle.std.specs.Prelude.{◌≡◌, ◌++◌, OnOk, length};
+ghost use Rattle.std.specs.Prelude.{◌≡◌, OnOk};
 ghost use Rattle.tf_rules.specs.Rules.{node_findings, top_level_block_findings};
 ghost use Rattle.tf_rules.specs.Rules.{top_level_member_findings, top_level_findings};
 ghost use Rattle.tf_rules.specs.Rules.{may_find_at_call, may_find_at_quoted, may_find_at_operand};
 ghost use Rattle.tf_rules.specs.Preorder.{expr, term, tail};
-ghost use Rattle.tf_rules.specs.Findings.{valid_findings};
+ghost use Rattle.tf_rules.specs.Findings.{Adds};
 ghost use Rattle.tf_rules.specs.Unbroken.{AreUnbroken};
 
 pub mod comment_syntax;
@@ -37,9 +37,7 @@ pub fn check_expr(
     e: &Expr,
     found: &mut Vec<Finding>,
 ) -> Result<(), AllocError>
-    ensures { OnOk result
-        (found.new.items ≡ found.old.items
-        ++ valid_findings (length cx.now.scanned.now.pairs)
+    ensures { OnOk result (Adds cx.now.scanned.now.pairs found.old.items found.new.items
         (node_findings cx.now.rules cx.now.scanned.now.pairs (expr role e.now))) }
 {
     match &e.kind {
@@ -69,9 +67,7 @@ pub fn check_term_beyond(
     found: &mut Vec<Finding>,
 ) -> Result<(), AllocError>
     requires { AreUnbroken cx.now.scanned.now.pairs unbroken.old.first unbroken.old.past }
-    ensures found { OnOk result
-        (found.new.items ≡ found.old.items
-        ++ valid_findings (length cx.now.scanned.now.pairs)
+    ensures found { OnOk result (Adds cx.now.scanned.now.pairs found.old.items found.new.items
         (node_findings cx.now.rules cx.now.scanned.now.pairs (term role t.now))) }
     ensures unbroken { AreUnbroken cx.now.scanned.now.pairs unbroken.new.first unbroken.new.past }
 {
@@ -104,9 +100,7 @@ pub fn check_tail(
     t: &Tail,
     found: &mut Vec<Finding>,
 ) -> Result<(), AllocError>
-    ensures { OnOk result
-        (found.new.items ≡ found.old.items
-        ++ valid_findings (length cx.now.scanned.now.pairs)
+    ensures { OnOk result (Adds cx.now.scanned.now.pairs found.old.items found.new.items
         (node_findings cx.now.rules cx.now.scanned.now.pairs (tail splat t.now))) }
 {
     match t {
@@ -154,9 +148,7 @@ fn check_block(
     b: &Block,
     found: &mut Vec<Finding>,
 ) -> Result<(), AllocError>
-    ensures { OnOk result
-        (found.new.items ≡ found.old.items
-        ++ valid_findings (length cx.now.scanned.now.pairs)
+    ensures { OnOk result (Adds cx.now.scanned.now.pairs found.old.items found.new.items
         (top_level_block_findings cx.now.rules cx.now.scanned.now.pairs b.now)) }
 {
     naming::check(cx, b, found)?;
@@ -170,9 +162,7 @@ fn check_member(
     m: &Member,
     found: &mut Vec<Finding>,
 ) -> Result<(), AllocError>
-    ensures { OnOk result
-        (found.new.items ≡ found.old.items
-        ++ valid_findings (length cx.now.scanned.now.pairs)
+    ensures { OnOk result (Adds cx.now.scanned.now.pairs found.old.items found.new.items
         (top_level_member_findings cx.now.rules cx.now.scanned.now.pairs m.now)) }
 {
     match m {
@@ -187,9 +177,7 @@ fn check_members(
     members: &[Member],
     found: &mut Vec<Finding>,
 ) -> Result<(), AllocError>
-    ensures { OnOk result
-        (found.new.items ≡ found.old.items
-        ++ valid_findings (length cx.now.scanned.now.pairs)
+    ensures { OnOk result (Adds cx.now.scanned.now.pairs found.old.items found.new.items
         (top_level_findings cx.now.rules cx.now.scanned.now.pairs members.now)) }
 {
     for m in members {
@@ -211,9 +199,7 @@ pub fn add_top_level_findings(
     rules: RuleSet,
     found: &mut Vec<Finding>,
 ) -> Result<(), AllocError>
-    ensures { OnOk result
-        (found.new.items ≡ found.old.items
-        ++ valid_findings (length scanned.now.pairs)
+    ensures { OnOk result (Adds scanned.now.pairs found.old.items found.new.items
         (top_level_findings rules scanned.now.pairs tree.now.body.members)) }
 {
     check_members(
@@ -237,9 +223,7 @@ pub fn add_top_level_member_findings(
     m: &Member,
     found: &mut Vec<Finding>,
 ) -> Result<(), AllocError>
-    ensures { OnOk result
-        (found.new.items ≡ found.old.items
-        ++ valid_findings (length scanned.now.pairs)
+    ensures { OnOk result (Adds scanned.now.pairs found.old.items found.new.items
         (top_level_member_findings rules scanned.now.pairs m.now)) }
 {
     check_member(&LintContext { scanned, rules }, m, found)

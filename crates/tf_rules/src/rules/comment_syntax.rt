@@ -1,8 +1,8 @@
 //! Comments that begin with `//`.
 
-ghost use Rattle.std.specs.Prelude.{◌≡◌, ◌++◌, ◌<◌, ◌==◌, ◌&&◌, Some, slice_get, slice_index, length, OnOk};
+ghost use Rattle.std.specs.Prelude.{◌≡◌, ◌<◌, ◌==◌, ◌&&◌, Some, slice_get, slice_index, length, OnOk};
 ghost use Rattle.std.specs.Option.{option_map};
-ghost use Rattle.tf_rules.specs.Findings.{valid_findings};
+ghost use Rattle.tf_rules.specs.Findings.{Adds};
 ghost use Rattle.hcl_token.specs.Tokens.{Pair};
 ghost use Rattle.tf_rules.specs.Rules.CommentSyntax.{is_slash_comment, comment_finding, comment_finding_at};
 
@@ -34,9 +34,8 @@ fn add_comment_finding(
     found: &mut Vec<Finding>,
 ) -> Result<(), AllocError>
     requires { i < length scanned.now.pairs }
-    ensures { OnOk result
-        (found.new.items ≡ found.old.items
-        ++ valid_findings (length scanned.now.pairs) (comment_finding i has_slashes)) }
+    ensures { OnOk result (Adds scanned.now.pairs found.old.items found.new.items
+        (comment_finding i has_slashes)) }
 {
     let count = scanned.count();
     if !has_slashes {
@@ -61,8 +60,8 @@ pub fn check_comment(
 ) -> Result<(), AllocError>
     requires { i < length scanned.now.pairs }
     ensures { (p : Pair) → slice_get scanned.now.pairs i ≡ Some p
-        → OnOk result (found.new.items ≡ found.old.items
-        ++ valid_findings (length scanned.now.pairs) (comment_finding_at rules i p)) }
+        → OnOk result (Adds scanned.now.pairs found.old.items found.new.items
+        (comment_finding_at rules i p)) }
 {
     if !rules.has(Rule::CommentSyntax) {
         return Ok(());

@@ -1,13 +1,13 @@
 //! Comparisons with an empty list.
 
-ghost use Rattle.std.specs.Prelude.{◌≡◌, ◌++◌, ◌+◌, ◌-◌, ◌==◌, ◌&&◌, not, true, OnOk, length, []};
+ghost use Rattle.std.specs.Prelude.{◌≡◌, ◌+◌, ◌-◌, ◌==◌, ◌&&◌, not, true, OnOk, length, []};
 ghost use Rattle.std.specs.Prelude.{if◌then◌else◌};
 ghost use Rattle.tf_rules.specs.Rules.Equality.{is_empty_list, is_equality, is_equal, length_fix};
 ghost use Rattle.tf_rules.specs.Rules.Equality.{operation_findings, chain_findings, may_find};
 ghost use Rattle.tf_rules.specs.Fixes.{when};
 ghost use Rattle.tf_rules.specs.declared.rule.Rule.TheVariants.{EmptyListEquality};
 ghost use Rattle.tf_rules.specs.RuleSets.{has_rule};
-ghost use Rattle.tf_rules.specs.Findings.{plain_message, finding_at, valid_findings};
+ghost use Rattle.tf_rules.specs.Findings.{plain_message, finding_at, Adds};
 ghost use Rattle.tf_rules.specs.Trivia.{token_range, has_trivia, is_here_close};
 
 use crate::context::LintContext;
@@ -91,9 +91,7 @@ fn check_operation(
     operation: &Operation,
     found: &mut Vec<Finding>,
 ) -> Result<(), AllocError>
-    ensures { OnOk result
-        (found.new.items ≡ found.old.items
-        ++ valid_findings (length cx.now.scanned.now.pairs)
+    ensures { OnOk result (Adds cx.now.scanned.now.pairs found.old.items found.new.items
         (operation_findings cx.now.scanned.now.pairs first is_first left.now operation.now)) }
 {
     if !is_equality(operation.operator) {
@@ -126,9 +124,7 @@ fn add_comparison(
     is_zero_test: bool,
     found: &mut Vec<Finding>,
 ) -> Result<(), AllocError>
-    ensures { OnOk result
-        (found.new.items ≡ found.old.items
-        ++ valid_findings (length cx.now.scanned.now.pairs)
+    ensures { OnOk result (Adds cx.now.scanned.now.pairs found.old.items found.new.items
         (finding_at EmptyListEquality first past plain_message
         (when fixable (length_fix operand.0 operand.1 is_zero_test)))) }
 {
@@ -146,9 +142,7 @@ fn check_chain(
     operations: &[Operation],
     found: &mut Vec<Finding>,
 ) -> Result<(), AllocError>
-    ensures { OnOk result
-        (found.new.items ≡ found.old.items
-        ++ valid_findings (length cx.now.scanned.now.pairs)
+    ensures { OnOk result (Adds cx.now.scanned.now.pairs found.old.items found.new.items
         (chain_findings cx.now.scanned.now.pairs first true head.now operations.now)) }
 {
     let mut is_first = true;
@@ -170,9 +164,7 @@ pub fn check(
     operations: &[Operation],
     found: &mut Vec<Finding>,
 ) -> Result<(), AllocError>
-    ensures { OnOk result
-        (found.new.items ≡ found.old.items
-        ++ valid_findings (length cx.now.scanned.now.pairs)
+    ensures { OnOk result (Adds cx.now.scanned.now.pairs found.old.items found.new.items
         ((if has_rule cx.now.rules EmptyListEquality
         then chain_findings cx.now.scanned.now.pairs first true head.now operations.now
         else []))) }

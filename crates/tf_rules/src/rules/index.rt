@@ -1,10 +1,10 @@
 //! Legacy indices.
 
-ghost use Rattle.std.specs.Prelude.{◌≡◌, ◌++◌, OnOk, length, [], if◌then◌else◌};
+ghost use Rattle.std.specs.Prelude.{OnOk, [], if◌then◌else◌};
 ghost use Rattle.tf_rules.specs.Rules.Index.{index_findings};
 ghost use Rattle.tf_rules.specs.RuleSets.{has_rule};
 ghost use Rattle.tf_rules.specs.declared.rule.Rule.TheVariants.{DeprecatedIndex};
-ghost use Rattle.tf_rules.specs.Findings.{valid_findings};
+ghost use Rattle.tf_rules.specs.Findings.{Adds};
 
 use crate::context::LintContext;
 use crate::{Finding, Fix, Insertion, Message, Rule};
@@ -17,9 +17,7 @@ fn check_legacy_index(
     n: u32,
     found: &mut Vec<Finding>,
 ) -> Result<(), AllocError>
-    ensures { OnOk result
-        (found.new.items ≡ found.old.items
-        ++ valid_findings (length cx.now.scanned.now.pairs)
+    ensures { OnOk result (Adds cx.now.scanned.now.pairs found.old.items found.new.items
         (index_findings cx.now.scanned.now.pairs splat n)) }
 {
     if n >= cx.scanned.count() {
@@ -41,9 +39,7 @@ pub fn check(
     n: u32,
     found: &mut Vec<Finding>,
 ) -> Result<(), AllocError>
-    ensures { OnOk result
-        (found.new.items ≡ found.old.items
-        ++ valid_findings (length cx.now.scanned.now.pairs)
+    ensures { OnOk result (Adds cx.now.scanned.now.pairs found.old.items found.new.items
         ((if has_rule cx.now.rules DeprecatedIndex
         then index_findings cx.now.scanned.now.pairs splat n else []))) }
 {

@@ -1,6 +1,6 @@
 //! Quoted text that is one interpolation.
 
-ghost use Rattle.std.specs.Prelude.{◌≡◌, ◌++◌, ◌+◌, ◌-◌, false, Some, OnOk, option_map, length, ◌∷◌, []};
+ghost use Rattle.std.specs.Prelude.{◌≡◌, ◌+◌, ◌-◌, false, Some, OnOk, option_map, []};
 ghost use Rattle.std.specs.Prelude.{if◌then◌else◌};
 ghost use Rattle.hcl_grammar.specs.declared.tree.Part.{out-Part};
 ghost use Rattle.tf_rules.specs.Rules.Interpolation.{is_post, is_object_key, is_elsewhere, sole_part};
@@ -9,7 +9,7 @@ ghost use Rattle.tf_rules.specs.Rules.Interpolation.{is_interpolation_fixable, i
 ghost use Rattle.tf_rules.specs.Trivia.{token_range, has_line_end};
 ghost use Rattle.tf_rules.specs.Unbroken.{AreUnbroken};
 ghost use Rattle.tf_rules.specs.RuleSets.{has_rule};
-ghost use Rattle.tf_rules.specs.Findings.{plain_message, finding_at, valid_findings};
+ghost use Rattle.tf_rules.specs.Findings.{plain_message, finding_at, Adds};
 ghost use Rattle.tf_rules.specs.declared.rule.Rule.TheVariants.{DeprecatedInterpolation};
 
 use crate::context::LintContext;
@@ -81,9 +81,7 @@ fn report(
     fix: Option<Fix>,
     found: &mut Vec<Finding>,
 ) -> Result<(), AllocError>
-    ensures { OnOk result
-        (found.new.items ≡ found.old.items
-        ++ valid_findings (length cx.now.scanned.now.pairs)
+    ensures { OnOk result (Adds cx.now.scanned.now.pairs found.old.items found.new.items
         (finding_at DeprecatedInterpolation first past plain_message fix)) }
 {
     let rule = Rule::DeprecatedInterpolation;
@@ -101,9 +99,7 @@ fn check_quoted(
     found: &mut Vec<Finding>,
 ) -> Result<(), AllocError>
     requires { AreUnbroken cx.now.scanned.now.pairs unbroken.old.first unbroken.old.past }
-    ensures found { OnOk result
-        (found.new.items ≡ found.old.items
-        ++ valid_findings (length cx.now.scanned.now.pairs)
+    ensures found { OnOk result (Adds cx.now.scanned.now.pairs found.old.items found.new.items
         (quoted_findings cx.now.scanned.now.pairs role first past t.now)) }
     ensures unbroken { AreUnbroken cx.now.scanned.now.pairs unbroken.new.first unbroken.new.past }
 {
@@ -124,9 +120,7 @@ fn check_interpolation(
     found: &mut Vec<Finding>,
 ) -> Result<(), AllocError>
     requires { AreUnbroken cx.now.scanned.now.pairs unbroken.old.first unbroken.old.past }
-    ensures found { OnOk result
-        (found.new.items ≡ found.old.items
-        ++ valid_findings (length cx.now.scanned.now.pairs)
+    ensures found { OnOk result (Adds cx.now.scanned.now.pairs found.old.items found.new.items
         (interpolation_findings cx.now.scanned.now.pairs role first past (Some e.now))) }
     ensures unbroken { AreUnbroken cx.now.scanned.now.pairs unbroken.new.first unbroken.new.past }
 {
@@ -204,9 +198,7 @@ pub fn check(
     found: &mut Vec<Finding>,
 ) -> Result<(), AllocError>
     requires { AreUnbroken cx.now.scanned.now.pairs unbroken.old.first unbroken.old.past }
-    ensures found { OnOk result
-        (found.new.items ≡ found.old.items
-        ++ valid_findings (length cx.now.scanned.now.pairs)
+    ensures found { OnOk result (Adds cx.now.scanned.now.pairs found.old.items found.new.items
         ((if has_rule cx.now.rules DeprecatedInterpolation
         then quoted_findings cx.now.scanned.now.pairs role first past t.now else []))) }
     ensures unbroken { AreUnbroken cx.now.scanned.now.pairs unbroken.new.first unbroken.new.past }

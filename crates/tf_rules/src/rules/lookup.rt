@@ -1,6 +1,6 @@
 //! Calls of `lookup` with two arguments.
 
-ghost use Rattle.std.specs.Prelude.{◌≡◌, ◌++◌, Some, OnOk, option_map, length, [], if◌then◌else◌};
+ghost use Rattle.std.specs.Prelude.{◌≡◌, Some, OnOk, option_map, [], if◌then◌else◌};
 ghost use Rattle.hcl_grammar.specs.declared.tree.Call.{out-Call};
 ghost use Rattle.hcl_grammar.specs.declared.tree.ExprKind.{out-ExprKind};
 ghost use Rattle.hcl_token.specs.TokenizedText.{spelling_of};
@@ -11,7 +11,7 @@ ghost use Rattle.tf_rules.specs.Rules.Lookup.{call_findings, is_lookup_name, may
 ghost use Rattle.tf_rules.specs.Unbroken.{AreUnbroken};
 ghost use Rattle.tf_rules.specs.RuleSets.{has_rule};
 ghost use Rattle.tf_rules.specs.declared.rule.Rule.TheVariants.{DeprecatedLookup};
-ghost use Rattle.tf_rules.specs.Findings.{valid_findings};
+ghost use Rattle.tf_rules.specs.Findings.{Adds};
 
 use crate::context::LintContext;
 use crate::summary::Count;
@@ -133,9 +133,7 @@ fn check_call(
     found: &mut Vec<Finding>,
 ) -> Result<(), AllocError>
     requires { AreUnbroken cx.now.scanned.now.pairs unbroken.old.first unbroken.old.past }
-    ensures found { OnOk result
-        (found.new.items ≡ found.old.items
-        ++ valid_findings (length cx.now.scanned.now.pairs)
+    ensures found { OnOk result (Adds cx.now.scanned.now.pairs found.old.items found.new.items
         (call_findings cx.now.scanned.now.pairs first past (out-Call c.now))) }
     ensures unbroken { AreUnbroken cx.now.scanned.now.pairs unbroken.new.first unbroken.new.past }
 {
@@ -159,9 +157,7 @@ fn check_arguments(
     found: &mut Vec<Finding>,
 ) -> Result<(), AllocError>
     requires { AreUnbroken cx.now.scanned.now.pairs unbroken.old.first unbroken.old.past }
-    ensures found { OnOk result
-        (found.new.items ≡ found.old.items
-        ++ valid_findings (length cx.now.scanned.now.pairs)
+    ensures found { OnOk result (Adds cx.now.scanned.now.pairs found.old.items found.new.items
         (pair_findings cx.now.scanned.now.pairs first past (Some (a.now, b.now)))) }
     ensures unbroken { AreUnbroken cx.now.scanned.now.pairs unbroken.new.first unbroken.new.past }
 {
@@ -195,9 +191,7 @@ pub fn check(
     found: &mut Vec<Finding>,
 ) -> Result<(), AllocError>
     requires { AreUnbroken cx.now.scanned.now.pairs unbroken.old.first unbroken.old.past }
-    ensures found { OnOk result
-        (found.new.items ≡ found.old.items
-        ++ valid_findings (length cx.now.scanned.now.pairs)
+    ensures found { OnOk result (Adds cx.now.scanned.now.pairs found.old.items found.new.items
         ((if has_rule cx.now.rules DeprecatedLookup
         then call_findings cx.now.scanned.now.pairs first past (out-Call c.now) else []))) }
     ensures unbroken { AreUnbroken cx.now.scanned.now.pairs unbroken.new.first unbroken.new.past }

@@ -1,10 +1,10 @@
 //! Variables without a type, variables and outputs without a description.
 
-ghost use Rattle.std.specs.Prelude.{◌≡◌, ◌++◌, Some, slice_get, OnOk, length};
+ghost use Rattle.std.specs.Prelude.{◌≡◌, Some, slice_get, OnOk};
 ghost use Rattle.tf_rules.specs.Attributes.{attributes};
 ghost use Rattle.tf_rules.specs.Rules.Missing.{is_undocumented, missing_finding, untyped_findings};
 ghost use Rattle.tf_rules.specs.Rules.Missing.{undocumented_findings, missing_findings};
-ghost use Rattle.tf_rules.specs.Findings.{valid_findings};
+ghost use Rattle.tf_rules.specs.Findings.{Adds};
 
 use crate::attributes::{has_attribute, has_empty_attribute};
 use crate::context::LintContext;
@@ -29,9 +29,8 @@ fn add_missing(
     name: Option<u32>,
     found: &mut Vec<Finding>,
 ) -> Result<(), AllocError>
-    ensures { OnOk result
-        (found.new.items ≡ found.old.items
-        ++ valid_findings (length cx.now.scanned.now.pairs) (missing_finding rule b.now name)) }
+    ensures { OnOk result (Adds cx.now.scanned.now.pairs found.old.items found.new.items
+        (missing_finding rule b.now name)) }
 {
     let word = b.block_type;
     if word >= cx.scanned.count() {
@@ -48,9 +47,7 @@ fn check_type(
     l: &Label,
     found: &mut Vec<Finding>,
 ) -> Result<(), AllocError>
-    ensures { OnOk result
-        (found.new.items ≡ found.old.items
-        ++ valid_findings (length cx.now.scanned.now.pairs)
+    ensures { OnOk result (Adds cx.now.scanned.now.pairs found.old.items found.new.items
         (untyped_findings cx.now.rules cx.now.scanned.now.pairs b.now l.now)) }
 {
     if !cx.rules.has(Rule::TypedVariables) {
@@ -74,9 +71,7 @@ fn check_description(
     l: &Label,
     found: &mut Vec<Finding>,
 ) -> Result<(), AllocError>
-    ensures { OnOk result
-        (found.new.items ≡ found.old.items
-        ++ valid_findings (length cx.now.scanned.now.pairs)
+    ensures { OnOk result (Adds cx.now.scanned.now.pairs found.old.items found.new.items
         (undocumented_findings cx.now.rules cx.now.scanned.now.pairs rule block_type.now b.now
         l.now)) }
 {
@@ -99,9 +94,7 @@ fn check_labelled(
     l: &Label,
     found: &mut Vec<Finding>,
 ) -> Result<(), AllocError>
-    ensures { OnOk result
-        (found.new.items ≡ found.old.items
-        ++ valid_findings (length cx.now.scanned.now.pairs)
+    ensures { OnOk result (Adds cx.now.scanned.now.pairs found.old.items found.new.items
         (missing_findings cx.now.rules cx.now.scanned.now.pairs b.now (Some l.now))) }
 {
     check_type(cx, b, l, found)?;
@@ -116,9 +109,7 @@ pub fn check(
     b: &Block,
     found: &mut Vec<Finding>,
 ) -> Result<(), AllocError>
-    ensures { OnOk result
-        (found.new.items ≡ found.old.items
-        ++ valid_findings (length cx.now.scanned.now.pairs)
+    ensures { OnOk result (Adds cx.now.scanned.now.pairs found.old.items found.new.items
         (missing_findings cx.now.rules cx.now.scanned.now.pairs b.now
         (slice_get b.now.labels 0))) }
 {

@@ -1,6 +1,6 @@
 //! Names that are not in snake_case.
 
-ghost use Rattle.std.specs.Prelude.{◌≡◌, ◌++◌, [], Some, slice_get, OnOk, option_map, length, if◌then◌else◌};
+ghost use Rattle.std.specs.Prelude.{◌≡◌, [], Some, OnOk, option_map, if◌then◌else◌};
 ghost use Rattle.std.specs.List.{flat_map};
 ghost use Rattle.tf_rules.specs.Attributes.{member_attributes, optional_attribute, attributes};
 ghost use Rattle.tf_rules.specs.Spelling.{token_text};
@@ -9,7 +9,7 @@ ghost use Rattle.tf_rules.specs.Rules.Naming.{declared_findings, local_findings,
 ghost use Rattle.tf_rules.specs.Rules.Naming.{naming_findings};
 ghost use Rattle.tf_rules.specs.RuleSets.{has_rule};
 ghost use Rattle.tf_rules.specs.declared.rule.Rule.TheVariants.{NamingConvention};
-ghost use Rattle.tf_rules.specs.Findings.{valid_findings};
+ghost use Rattle.tf_rules.specs.Findings.{Adds};
 
 use crate::context::LintContext;
 use crate::snake_case::is_snake_case;
@@ -51,9 +51,7 @@ fn check_name(
     past: u32,
     found: &mut Vec<Finding>,
 ) -> Result<(), AllocError>
-    ensures { OnOk result
-        (found.new.items ≡ found.old.items
-        ++ valid_findings (length cx.now.scanned.now.pairs)
+    ensures { OnOk result (Adds cx.now.scanned.now.pairs found.old.items found.new.items
         (naming_finding cx.now.scanned.now.pairs named name first past)) }
 {
     if is_snake_case(name_text(cx.scanned, name)) {
@@ -73,9 +71,7 @@ fn check_label(
     l: Option<&Label>,
     found: &mut Vec<Finding>,
 ) -> Result<(), AllocError>
-    ensures { OnOk result
-        (found.new.items ≡ found.old.items
-        ++ valid_findings (length cx.now.scanned.now.pairs)
+    ensures { OnOk result (Adds cx.now.scanned.now.pairs found.old.items found.new.items
         (label_findings cx.now.scanned.now.pairs named (option_map (λ x. x.now) l.entry))) }
 {
     match l {
@@ -90,9 +86,7 @@ fn check_declaration(
     b: &Block,
     found: &mut Vec<Finding>,
 ) -> Result<(), AllocError>
-    ensures { OnOk result
-        (found.new.items ≡ found.old.items
-        ++ valid_findings (length cx.now.scanned.now.pairs)
+    ensures { OnOk result (Adds cx.now.scanned.now.pairs found.old.items found.new.items
         (declared_findings cx.now.scanned.now.pairs b.now
         (declared_name (token_text cx.now.scanned.now.pairs b.now.block_type)))) }
 {
@@ -108,9 +102,7 @@ fn check_local(
     a: &Attribute,
     found: &mut Vec<Finding>,
 ) -> Result<(), AllocError>
-    ensures { OnOk result
-        (found.new.items ≡ found.old.items
-        ++ valid_findings (length cx.now.scanned.now.pairs)
+    ensures { OnOk result (Adds cx.now.scanned.now.pairs found.old.items found.new.items
         (local_findings cx.now.scanned.now.pairs a.now)) }
 {
     if a.name >= cx.scanned.count() {
@@ -125,9 +117,7 @@ fn check_optional_local(
     a: &Option<Boxed<Attribute>>,
     found: &mut Vec<Finding>,
 ) -> Result<(), AllocError>
-    ensures { OnOk result
-        (found.new.items ≡ found.old.items
-        ++ valid_findings (length cx.now.scanned.now.pairs)
+    ensures { OnOk result (Adds cx.now.scanned.now.pairs found.old.items found.new.items
         (flat_map (local_findings cx.now.scanned.now.pairs) (optional_attribute a.now))) }
 {
     match a {
@@ -142,9 +132,7 @@ fn check_local_member(
     m: &Member,
     found: &mut Vec<Finding>,
 ) -> Result<(), AllocError>
-    ensures { OnOk result
-        (found.new.items ≡ found.old.items
-        ++ valid_findings (length cx.now.scanned.now.pairs)
+    ensures { OnOk result (Adds cx.now.scanned.now.pairs found.old.items found.new.items
         (flat_map (local_findings cx.now.scanned.now.pairs) (member_attributes m.now))) }
 {
     match m {
@@ -159,9 +147,7 @@ fn check_local_members(
     members: &[Member],
     found: &mut Vec<Finding>,
 ) -> Result<(), AllocError>
-    ensures { OnOk result
-        (found.new.items ≡ found.old.items
-        ++ valid_findings (length cx.now.scanned.now.pairs)
+    ensures { OnOk result (Adds cx.now.scanned.now.pairs found.old.items found.new.items
         (flat_map (local_findings cx.now.scanned.now.pairs)
         (flat_map member_attributes members.now))) }
 {
@@ -177,9 +163,7 @@ fn check_local_attributes(
     b: &Block,
     found: &mut Vec<Finding>,
 ) -> Result<(), AllocError>
-    ensures { OnOk result
-        (found.new.items ≡ found.old.items
-        ++ valid_findings (length cx.now.scanned.now.pairs)
+    ensures { OnOk result (Adds cx.now.scanned.now.pairs found.old.items found.new.items
         (flat_map (local_findings cx.now.scanned.now.pairs) (attributes b.now))) }
 {
     match &b.content {
@@ -194,9 +178,7 @@ fn check_locals(
     b: &Block,
     found: &mut Vec<Finding>,
 ) -> Result<(), AllocError>
-    ensures { OnOk result
-        (found.new.items ≡ found.old.items
-        ++ valid_findings (length cx.now.scanned.now.pairs)
+    ensures { OnOk result (Adds cx.now.scanned.now.pairs found.old.items found.new.items
         (locals_findings cx.now.scanned.now.pairs b.now)) }
 {
     if !is_spelled(token_text(cx.scanned, b.block_type), b"locals") {
@@ -211,9 +193,7 @@ fn check_block(
     b: &Block,
     found: &mut Vec<Finding>,
 ) -> Result<(), AllocError>
-    ensures { OnOk result
-        (found.new.items ≡ found.old.items
-        ++ valid_findings (length cx.now.scanned.now.pairs)
+    ensures { OnOk result (Adds cx.now.scanned.now.pairs found.old.items found.new.items
         (naming_findings cx.now.scanned.now.pairs b.now)) }
 {
     check_declaration(cx, b, found)?;
@@ -228,9 +208,7 @@ pub fn check(
     b: &Block,
     found: &mut Vec<Finding>,
 ) -> Result<(), AllocError>
-    ensures { OnOk result
-        (found.new.items ≡ found.old.items
-        ++ valid_findings (length cx.now.scanned.now.pairs)
+    ensures { OnOk result (Adds cx.now.scanned.now.pairs found.old.items found.new.items
         ((if has_rule cx.now.rules NamingConvention
         then naming_findings cx.now.scanned.now.pairs b.now else []))) }
 {
