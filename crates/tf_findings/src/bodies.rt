@@ -4,7 +4,7 @@ ghost use Rattle.std.specs.Prelude.{◌≡◌, ◌∷◌, [], map, OnOk, IfOk};
 ghost use Rattle.hcl_grammar.specs.declared.tree.Content.{out-Content};
 ghost use Rattle.hcl_grammar.specs.declared.tree.Member.{out-Member};
 ghost use Rattle.tf_rules.specs.Unbroken.{AreUnbroken};
-ghost use Rattle.tf_findings.specs.Inner.Collects.{Collects};
+ghost use Rattle.tf_findings.specs.Inner.Collects.{Walked};
 ghost use Rattle.tf_findings.specs.TreeFindings.{AreAddedFindings, AreTreeFindings};
 ghost use Rattle.tf_rules.specs.Preorder.{member, member_children, content_children, option_children};
 
@@ -24,9 +24,7 @@ fn walk_members(
     found: &mut Vec<Finding>,
 ) -> Result<(), AllocError>
     requires { AreUnbroken cx.now.lint.scanned.now.pairs cx.now.unbroken.first cx.now.unbroken.past }
-    ensures { OnOk result
-        (Collects cx.now.lint.rules cx.now.lint.scanned.now.pairs
-        (map member members.now) found.old.items found.new.items) }
+    ensures { OnOk result (Walked cx.now (map member members.now) found.old.items found.new.items) }
 {
     for x in members.as_slice() {
         walk_member(cx, x, found)?;
@@ -43,8 +41,7 @@ fn walk_member(
 ) -> Result<(), AllocError>
     requires { AreUnbroken cx.now.lint.scanned.now.pairs cx.now.unbroken.first cx.now.unbroken.past }
     ensures { OnOk result
-        (Collects cx.now.lint.rules cx.now.lint.scanned.now.pairs
-        (member_children (out-Member x.now)) found.old.items found.new.items) }
+        (Walked cx.now (member_children (out-Member x.now)) found.old.items found.new.items) }
 {
     match x {
         Member::Attribute(a) => walk_expr(cx, Role::AttributeValue, a.value.get(), found),
@@ -61,8 +58,7 @@ fn walk_content(
 ) -> Result<(), AllocError>
     requires { AreUnbroken cx.now.lint.scanned.now.pairs cx.now.unbroken.first cx.now.unbroken.past }
     ensures { OnOk result
-        (Collects cx.now.lint.rules cx.now.lint.scanned.now.pairs
-        (content_children (out-Content content.now)) found.old.items found.new.items) }
+        (Walked cx.now (content_children (out-Content content.now)) found.old.items found.new.items) }
 {
     match content {
         Content::Body(body) => walk_members(cx, &body.get().members, found),
@@ -77,9 +73,7 @@ fn walk_optional_attribute(
     found: &mut Vec<Finding>,
 ) -> Result<(), AllocError>
     requires { AreUnbroken cx.now.lint.scanned.now.pairs cx.now.unbroken.first cx.now.unbroken.past }
-    ensures { OnOk result
-        (Collects cx.now.lint.rules cx.now.lint.scanned.now.pairs
-        (option_children a.now) found.old.items found.new.items) }
+    ensures { OnOk result (Walked cx.now (option_children a.now) found.old.items found.new.items) }
 {
     match a {
         Some(a) => walk_expr(cx, Role::AttributeValue, a.get().value.get(), found),

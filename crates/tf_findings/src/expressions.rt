@@ -9,7 +9,7 @@ ghost use Rattle.hcl_grammar.specs.declared.tree.Tail.{out-Tail};
 ghost use Rattle.hcl_grammar.specs.declared.tree.Part.{out-Part};
 ghost use Rattle.tf_rules.specs.declared.role.Role.TheVariants as role;
 ghost use Rattle.tf_rules.specs.Unbroken.{AreUnbroken};
-ghost use Rattle.tf_findings.specs.Inner.Collects.{Collects};
+ghost use Rattle.tf_findings.specs.Inner.Collects.{Walked};
 ghost use Rattle.tf_rules.specs.Preorder.{Node, expr, term, tail, part, elem_children, expr_kind_children};
 ghost use Rattle.tf_rules.specs.Preorder.{primary_children, nodes_of_tails, filter_children, else_children};
 ghost use Rattle.tf_rules.specs.Preorder.{part_children, for_tuple_children, for_object_children};
@@ -33,9 +33,7 @@ pub fn walk_expr(
     found: &mut Vec<Finding>,
 ) -> Result<(), AllocError>
     requires { AreUnbroken cx.now.lint.scanned.now.pairs cx.now.unbroken.first cx.now.unbroken.past }
-    ensures { OnOk result
-        (Collects cx.now.lint.rules cx.now.lint.scanned.now.pairs
-        (expr role e.now ∷ []) found.old.items found.new.items) }
+    ensures { OnOk result (Walked cx.now (expr role e.now ∷ []) found.old.items found.new.items) }
 {
     check_expr(&cx.lint, role, e, found)?;
     walk_expr_kind(cx, role, &e.kind, found)?;
@@ -52,8 +50,7 @@ fn walk_expr_kind(
 ) -> Result<(), AllocError>
     requires { AreUnbroken cx.now.lint.scanned.now.pairs cx.now.unbroken.first cx.now.unbroken.past }
     ensures { OnOk result
-        (Collects cx.now.lint.rules cx.now.lint.scanned.now.pairs
-        (expr_kind_children role (out-ExprKind kind.now)) found.old.items found.new.items) }
+        (Walked cx.now (expr_kind_children role (out-ExprKind kind.now)) found.old.items found.new.items) }
 {
     match kind {
         ExprKind::Conditional(c, then_branch, else_branch) => {
@@ -92,9 +89,7 @@ fn walk_boxed(
     found: &mut Vec<Finding>,
 ) -> Result<(), AllocError>
     requires { AreUnbroken cx.now.lint.scanned.now.pairs cx.now.unbroken.first cx.now.unbroken.past }
-    ensures { OnOk result
-        (Collects cx.now.lint.rules cx.now.lint.scanned.now.pairs
-        (expr role e.now ∷ []) found.old.items found.new.items) }
+    ensures { OnOk result (Walked cx.now (expr role e.now ∷ []) found.old.items found.new.items) }
 {
     walk_expr(cx, role, e.get(), found)
 }
@@ -108,9 +103,8 @@ fn walk_operations(
 ) -> Result<(), AllocError>
     requires { AreUnbroken cx.now.lint.scanned.now.pairs cx.now.unbroken.first cx.now.unbroken.past }
     ensures { OnOk result
-        (Collects cx.now.lint.rules cx.now.lint.scanned.now.pairs
-        (map (λ (l : Operation). expr role.Elsewhere l.operand) operations.now) found.old.items
-        found.new.items) }
+        (Walked cx.now (map (λ (l : Operation). expr role.Elsewhere l.operand) operations.now)
+        found.old.items found.new.items) }
 {
     for link in operations.as_slice() {
         walk_expr(cx, Role::Elsewhere, &link.operand, found)?;
@@ -127,8 +121,7 @@ fn walk_tails(
 ) -> Result<(), AllocError>
     requires { AreUnbroken cx.now.lint.scanned.now.pairs cx.now.unbroken.first cx.now.unbroken.past }
     ensures { OnOk result
-        (Collects cx.now.lint.rules cx.now.lint.scanned.now.pairs
-        (nodes_of_tails false tails.now) found.old.items found.new.items) }
+        (Walked cx.now (nodes_of_tails false tails.now) found.old.items found.new.items) }
 {
     let mut splat = false;
     for t in tails.as_slice() {
@@ -147,9 +140,7 @@ fn walk_tail(
     found: &mut Vec<Finding>,
 ) -> Result<(), AllocError>
     requires { AreUnbroken cx.now.lint.scanned.now.pairs cx.now.unbroken.first cx.now.unbroken.past }
-    ensures { OnOk result
-        (Collects cx.now.lint.rules cx.now.lint.scanned.now.pairs
-        (tail splat t.now ∷ []) found.old.items found.new.items) }
+    ensures { OnOk result (Walked cx.now (tail splat t.now ∷ []) found.old.items found.new.items) }
 {
     check_tail(&cx.lint, splat, t, found)?;
     walk_tail_children(cx, t, found)?;
@@ -165,8 +156,7 @@ fn walk_tail_children(
 ) -> Result<(), AllocError>
     requires { AreUnbroken cx.now.lint.scanned.now.pairs cx.now.unbroken.first cx.now.unbroken.past }
     ensures { OnOk result
-        (Collects cx.now.lint.rules cx.now.lint.scanned.now.pairs
-        (tail_children (out-Tail t.now)) found.old.items found.new.items) }
+        (Walked cx.now (tail_children (out-Tail t.now)) found.old.items found.new.items) }
 {
     match t {
         Tail::Name(_) => Ok(()),
@@ -186,9 +176,7 @@ fn walk_exprs(
     found: &mut Vec<Finding>,
 ) -> Result<(), AllocError>
     requires { AreUnbroken cx.now.lint.scanned.now.pairs cx.now.unbroken.first cx.now.unbroken.past }
-    ensures { OnOk result
-        (Collects cx.now.lint.rules cx.now.lint.scanned.now.pairs
-        (map (expr role) es.now) found.old.items found.new.items) }
+    ensures { OnOk result (Walked cx.now (map (expr role) es.now) found.old.items found.new.items) }
 {
     for e in es.as_slice() {
         walk_expr(cx, role, e, found)?;
@@ -205,8 +193,7 @@ fn walk_elems(
 ) -> Result<(), AllocError>
     requires { AreUnbroken cx.now.lint.scanned.now.pairs cx.now.unbroken.first cx.now.unbroken.past }
     ensures { OnOk result
-        (Collects cx.now.lint.rules cx.now.lint.scanned.now.pairs
-        (flat_map elem_children xs.now) found.old.items found.new.items) }
+        (Walked cx.now (flat_map elem_children xs.now) found.old.items found.new.items) }
 {
     for x in xs.as_slice() {
         walk_expr(cx, Role::ObjectKey, &x.key, found)?;
@@ -224,8 +211,7 @@ fn walk_filter(
 ) -> Result<(), AllocError>
     requires { AreUnbroken cx.now.lint.scanned.now.pairs cx.now.unbroken.first cx.now.unbroken.past }
     ensures { OnOk result
-        (Collects cx.now.lint.rules cx.now.lint.scanned.now.pairs
-        (filter_children filter.now) found.old.items found.new.items) }
+        (Walked cx.now (filter_children filter.now) found.old.items found.new.items) }
 {
     match filter {
         Some(e) => walk_expr(cx, Role::Elsewhere, e.get(), found),
@@ -243,9 +229,7 @@ fn walk_term(
     found: &mut Vec<Finding>,
 ) -> Result<(), AllocError>
     requires { AreUnbroken cx.now.lint.scanned.now.pairs cx.now.unbroken.first cx.now.unbroken.past }
-    ensures { OnOk result
-        (Collects cx.now.lint.rules cx.now.lint.scanned.now.pairs
-        (term role t.now ∷ []) found.old.items found.new.items) }
+    ensures { OnOk result (Walked cx.now (term role t.now ∷ []) found.old.items found.new.items) }
 {
     match &t.kind {
         // no rule finds anything here, and no nodes are inside
@@ -280,8 +264,7 @@ fn walk_primary(
 ) -> Result<(), AllocError>
     requires { AreUnbroken cx.now.lint.scanned.now.pairs cx.now.unbroken.first cx.now.unbroken.past }
     ensures { OnOk result
-        (Collects cx.now.lint.rules cx.now.lint.scanned.now.pairs
-        (primary_children (out-Primary primary.now)) found.old.items found.new.items) }
+        (Walked cx.now (primary_children (out-Primary primary.now)) found.old.items found.new.items) }
 {
     match primary {
         Primary::Number => Ok(()),
@@ -306,8 +289,7 @@ fn walk_for_tuple(
 ) -> Result<(), AllocError>
     requires { AreUnbroken cx.now.lint.scanned.now.pairs cx.now.unbroken.first cx.now.unbroken.past }
     ensures { OnOk result
-        (Collects cx.now.lint.rules cx.now.lint.scanned.now.pairs
-        (for_tuple_children f.now) found.old.items found.new.items) }
+        (Walked cx.now (for_tuple_children f.now) found.old.items found.new.items) }
 {
     walk_expr(cx, Role::Elsewhere, &f.intro.collection, found)?;
     walk_expr(cx, Role::Elsewhere, &f.value, found)?;
@@ -324,8 +306,7 @@ fn walk_for_object(
 ) -> Result<(), AllocError>
     requires { AreUnbroken cx.now.lint.scanned.now.pairs cx.now.unbroken.first cx.now.unbroken.past }
     ensures { OnOk result
-        (Collects cx.now.lint.rules cx.now.lint.scanned.now.pairs
-        (for_object_children f.now) found.old.items found.new.items) }
+        (Walked cx.now (for_object_children f.now) found.old.items found.new.items) }
 {
     walk_expr(cx, Role::Elsewhere, &f.intro.collection, found)?;
     walk_expr(cx, Role::Elsewhere, &f.key, found)?;
@@ -342,9 +323,7 @@ fn walk_parts(
     found: &mut Vec<Finding>,
 ) -> Result<(), AllocError>
     requires { AreUnbroken cx.now.lint.scanned.now.pairs cx.now.unbroken.first cx.now.unbroken.past }
-    ensures { OnOk result
-        (Collects cx.now.lint.rules cx.now.lint.scanned.now.pairs
-        (map part parts.now) found.old.items found.new.items) }
+    ensures { OnOk result (Walked cx.now (map part parts.now) found.old.items found.new.items) }
 {
     for x in parts.as_slice() {
         walk_part(cx, x, found)?;
@@ -357,8 +336,7 @@ fn walk_parts(
 fn walk_part(cx: &WalkContext<'_, '_>, x: &Part, found: &mut Vec<Finding>) -> Result<(), AllocError>
     requires { AreUnbroken cx.now.lint.scanned.now.pairs cx.now.unbroken.first cx.now.unbroken.past }
     ensures { OnOk result
-        (Collects cx.now.lint.rules cx.now.lint.scanned.now.pairs
-        (part_children (out-Part x.now)) found.old.items found.new.items) }
+        (Walked cx.now (part_children (out-Part x.now)) found.old.items found.new.items) }
 {
     match x {
         Part::Literal(_) => Ok(()),
@@ -376,9 +354,7 @@ fn walk_if_directive(
     found: &mut Vec<Finding>,
 ) -> Result<(), AllocError>
     requires { AreUnbroken cx.now.lint.scanned.now.pairs cx.now.unbroken.first cx.now.unbroken.past }
-    ensures { OnOk result
-        (Collects cx.now.lint.rules cx.now.lint.scanned.now.pairs
-        (if_children d.now) found.old.items found.new.items) }
+    ensures { OnOk result (Walked cx.now (if_children d.now) found.old.items found.new.items) }
 {
     walk_expr(cx, Role::Elsewhere, &d.condition, found)?;
     walk_parts(cx, &d.then_branch.parts, found)?;
@@ -395,8 +371,7 @@ fn walk_else_branch(
 ) -> Result<(), AllocError>
     requires { AreUnbroken cx.now.lint.scanned.now.pairs cx.now.unbroken.first cx.now.unbroken.past }
     ensures { OnOk result
-        (Collects cx.now.lint.rules cx.now.lint.scanned.now.pairs
-        (else_children else_branch.now) found.old.items found.new.items) }
+        (Walked cx.now (else_children else_branch.now) found.old.items found.new.items) }
 {
     match else_branch {
         Some(t) => walk_parts(cx, &t.parts, found),
@@ -413,9 +388,8 @@ fn walk_for_directive(
 ) -> Result<(), AllocError>
     requires { AreUnbroken cx.now.lint.scanned.now.pairs cx.now.unbroken.first cx.now.unbroken.past }
     ensures { OnOk result
-        (Collects cx.now.lint.rules cx.now.lint.scanned.now.pairs
-        (expr role.Elsewhere d.now.intro.collection
-        ∷ map part d.now.body.parts) found.old.items found.new.items) }
+        (Walked cx.now (expr role.Elsewhere d.now.intro.collection ∷ map part d.now.body.parts)
+        found.old.items found.new.items) }
 {
     walk_expr(cx, Role::Elsewhere, &d.intro.collection, found)?;
     walk_parts(cx, &d.body.parts, found)?;
