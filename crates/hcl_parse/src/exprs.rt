@@ -11,7 +11,7 @@ ghost use Rattle.hcl_parse.specs.Rules.{Yields};
 
 use crate::builder::{Builder, Taken, Tokens};
 use crate::opens::enter;
-use crate::plain::{Unread, eat_plain_expr};
+use crate::plain::{Portion, eat_plain_expr};
 use crate::tails::{has_tail, more_tails, post};
 use crate::terms::is_called;
 use hcl_grammar::fault::TokenFault;
@@ -66,14 +66,14 @@ pub fn expr_next<S: Builder>(
         (spec.expr (S.make builder.now) reader.now at.old) result at.new }
 {
     match eat_plain_expr::<S>(builder, reader, next, at)? {
-        Unread::Nothing(made) => Ok(made),
-        Unread::Term {
+        Portion::Whole(made) => Ok(made),
+        Portion::Term {
             turns,
             end,
             head,
             tails,
         } => { expr_after_term::<S>(builder, reader, next.0, turns, end, head, tails, at) }
-        Unread::All => general_expr::<S>(builder, reader, at),
+        Portion::Nothing => general_expr::<S>(builder, reader, at),
     }
 }
 

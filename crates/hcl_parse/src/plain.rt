@@ -14,12 +14,12 @@ use crate::opens::enter;
 use hcl_reader::{Next, Reader, same_kind};
 use hcl_token::Kind;
 
-/// What of an `Expr` was not taken.
+/// How much of an `Expr` was taken.
 #[derive(Drop)]
-pub enum Unread<E, T, L> {
-    /// All of it.
-    All,
-    /// All of it, but a term and tails of it were read.
+pub enum Portion<E, T, L> {
+    /// Nothing.
+    Nothing,
+    /// Nothing, but a term and tails of it were read.
     Term {
         /// How many tails may follow at most.
         turns: u32,
@@ -30,8 +30,8 @@ pub enum Unread<E, T, L> {
         /// Its tails.
         tails: L,
     },
-    /// Nothing.
-    Nothing(E),
+    /// All of it.
+    Whole(E),
 }
 
 /// A term and tails of it that were read.
@@ -244,7 +244,7 @@ pub fn eat_plain_expr<S: Builder>(
     reader: &Reader,
     next: Next,
     at: &mut u32,
-) -> Made<Unread<S::Expr, S::Term, S::Tails>>
+) -> Made<Portion<S::Expr, S::Term, S::Tails>>
     requires number { next.0 ≡ tokens.next_index reader.now at.old }
     requires kind { next.1 ≡ tokens.next_kind reader.now at.old }
     requires fits { OnSome next.1 (next.0 + 1 < 2 ^ 32) }
@@ -259,7 +259,7 @@ pub fn eat_plain_expr<S: Builder>(
             match eat_term::<S>(builder, reader, first, kind, &mut end)? {
                 Some(Read { turns, head, tails }) => {
                     if !ends_expr::<S>(builder, reader, end) {
-                        return Ok(Unread::Term {
+                        return Ok(Portion::Term {
                             turns,
                             end,
                             head,
@@ -268,11 +268,11 @@ pub fn eat_plain_expr<S: Builder>(
                     }
                     *at = end;
                     let made = builder.postfix(Tokens { first, past: end }, head, tails)?;
-                    Ok(Unread::Nothing(made))
+                    Ok(Portion::Whole(made))
                 }
-                None => Ok(Unread::All),
+                None => Ok(Portion::Nothing),
             }
         }
-        None => Ok(Unread::All),
+        None => Ok(Portion::Nothing),
     }
 }
