@@ -8,9 +8,9 @@ use Rattle.edit_record.specs.Text.{record_text, OldRecord, old_record_text}
 use Rattle.edit_record.specs.declared.fault.FaultKind.TheVariants.{End}
 use Rattle.edit_record.specs.declared.fault.TextError.{TextError}
 use Rattle.edit_record.specs.Parsing.{expect}
-use Rattle.edit_record.specs.OldParsing.{step_at, steps_at, OldHead, old_head_at, old_record_at, SquashAt, SquashError, StepsError, OldRecordError}
+use Rattle.edit_record.specs.OldParsing.{step_at, steps_at, OldHead, old_head_at, SquashAt, SquashError, StepsError, OldRecordError}
 use Rattle.edit_record.specs.Decoding.{IsVersion, IsTextOf, RecordError, IsFirstError}
-use Rattle.edit_record.specs.Inner.ParseResults.{OldRecordAt, RecordAt, RecordsAt}
+use Rattle.edit_record.specs.Inner.ParseResults.{OldRecordAt, RecordAt, RecordsAt, old_record_at}
 use Rattle.edit_record.proofs.Choices.{ok_is, err_ok, through, through_one}
 use Rattle.edit_record.proofs.Steps.{squash_unique, none_read, none_squashed, back}
 use Rattle.edit_record.proofs.Journals.{new_alike, old_alike, record_one, from_text, from_old_text}

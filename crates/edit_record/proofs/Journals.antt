@@ -16,9 +16,9 @@ use Rattle.edit_record.specs.Lists.Validity.{IsValidList}
 use Rattle.edit_record.specs.declared.fault.TextError.{TextError}
 use Rattle.edit_record.specs.Decoding.{RecordError, IsVersion}
 use Rattle.edit_record.specs.Parsing.{record_at}
-use Rattle.edit_record.specs.OldParsing.{old_record_at, OldRecordError}
+use Rattle.edit_record.specs.OldParsing.{OldRecordError}
 use Rattle.edit_record.specs.Inner.Allocating.{allocates}
-use Rattle.edit_record.specs.Inner.ParseResults.{IsRead, ParsesAs, IsStopFor, OldRecordAt, RecordAt, RecordsAt, StartsWith, HasError, IsReadResult}
+use Rattle.edit_record.specs.Inner.ParseResults.{IsRead, ParsesAs, IsStopFor, OldRecordAt, RecordAt, RecordsAt, StartsWith, HasError, IsReadResult, old_record_at}
 use Rattle.edit_record.proofs.Choices.{ok_is, err_ok}
 use Rattle.edit_record.proofs.Allocating.{UnreadOrAllocates, runs_out}
 use Rattle.edit_record.proofs.Records.{three, four, record_takes, record_again, old_takes, old_again}

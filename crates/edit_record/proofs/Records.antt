@@ -13,7 +13,8 @@ use Rattle.edit_record.specs.Lists.Journal.{JournalEntry}
 use Rattle.edit_record.specs.Text.{space, newline, number_text, edit_text, list_head, list_text, word_text, record_text, OldRecord, steps, step_text, old_record_text}
 use Rattle.edit_record.specs.declared.fault.FaultKind.TheVariants.{Head, End}
 use Rattle.edit_record.specs.Parsing.{strip, expect, number_at, edits_at, if_valid, list_head_at, edit_list_at, word_of, bare_word_at, word_at, record_at}
-use Rattle.edit_record.specs.OldParsing.{step_at, steps_at, OldHead, old_head_at, old_record_at}
+use Rattle.edit_record.specs.OldParsing.{step_at, steps_at, OldHead, old_head_at}
+use Rattle.edit_record.specs.Inner.ParseResults.{old_record_at}
 use Rattle.edit_record.proofs.Choices.{ok_is, through, through_one, continues_with, part}
 use Rattle.edit_record.proofs.Many.{many_take, many_again}
 use Rattle.edit_record.proofs.Numbers.{number_takes, number_again}

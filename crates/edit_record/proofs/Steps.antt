@@ -14,10 +14,10 @@ use Rattle.edit_record.specs.Text.{OldRecord}
 use Rattle.edit_record.specs.declared.fault.FaultKind.TheVariants.{End, Steps}
 use Rattle.edit_record.specs.declared.fault.TextError.{TextError}
 use Rattle.edit_record.specs.Parsing.{expect, repeat_at}
-use Rattle.edit_record.specs.OldParsing.{step_at, steps_at, OldHead, old_head_at, old_record_at, SquashAt, StepsError, OldRecordError}
+use Rattle.edit_record.specs.OldParsing.{step_at, steps_at, OldHead, old_head_at, SquashAt, StepsError, OldRecordError}
 use Rattle.edit_record.specs.Inner.Allocating.{is_ok_and, old_head_allocates, steps_allocate, old_record_allocates}
 use Rattle.edit_record.specs.Inner.Faults.{stop_of}
-use Rattle.edit_record.specs.Inner.ParseResults.{IsStop, IsStopFor, IsSquashOrStop, OldRecordAt, HasError}
+use Rattle.edit_record.specs.Inner.ParseResults.{IsStop, IsStopFor, IsSquashOrStop, OldRecordAt, HasError, old_record_at}
 use Rattle.edit_record.proofs.Choices.{ok_is, err_ok, through, through_one, continues_with}
 
 pub squash_unique : (a b c d : EditList) → IsSquash a b c → IsSquash a b d → c ≡ d

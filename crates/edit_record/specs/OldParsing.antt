@@ -8,7 +8,7 @@ use Rattle.edit_record.specs.declared.version_1.TheConstants.{MAX_STEPS}
 use Rattle.edit_record.specs.Lists.Pieces.{EditList}
 use Rattle.edit_record.specs.Squashes.Squash.{IsSquash}
 use Rattle.edit_record.specs.Squashes.SquashLists.{SquashAll}
-use Rattle.edit_record.specs.Text.{OldRecord, newline}
+use Rattle.edit_record.specs.Text.{newline}
 use Rattle.edit_record.specs.Parsing.{◌>>=◌, expect, number_at, edit_list_at, word_at, repeat_at}
 
 unfoldable pub step_at : List ℕ → Result (EditList × List ℕ) TextError
@@ -32,13 +32,6 @@ old_head_at t = do
   count ← number_at 1 MAX_STEPS newline word.1
   first ← step_at count.1
   Ok (record { word = word.0; first = first.0; others = count.0 - 1 }, first.1)
-
-unfoldable pub old_record_at : List ℕ → Result (OldRecord × List ℕ) TextError
-old_record_at t = do
-  head ← old_head_at t
-  others ← steps_at head.0.others head.1
-  rest ← expect (codes "end\n") End others.1
-  Ok (record { word = head.0.word; first = head.0.first; others = others.0 }, rest)
 
 -- n steps follow the first, and squash with it to e
 abbrev pub SquashAt : EditList → ℕ → List ℕ → EditList → List ℕ → Type 0

@@ -1,5 +1,6 @@
 -- What the readers of the code return.
 use Rattle.std.specs.Prelude.{◌≡◌, ℕ, List, [], ◌∷◌, ◌++◌, Result, Ok, Err, Bool, true, false, ⊤}
+use Rattle.std.specs.Prelude.{codes}
 use Rattle.edit_record.specs.Lists.Pieces.{EditEntry, EditList}
 use Rattle.edit_record.specs.Lists.Journal.{JournalEntry}
 use Rattle.edit_record.specs.Squashes.Squash.{IsSquash, SquashMayAllocate}
@@ -8,8 +9,9 @@ use Rattle.edit_record.specs.Text.{record_text, OldRecord, old_record_text, Migr
 use Rattle.edit_record.specs.Lists.Validity.{IsValidList}
 use Rattle.edit_record.specs.Decoding.{DecodeMayAllocate, IsTextOf, IsFirstError}
 use Rattle.edit_record.specs.declared.fault.TextError.{TextError}
-use Rattle.edit_record.specs.Parsing.{edit_at}
-use Rattle.edit_record.specs.OldParsing.{old_record_at}
+use Rattle.edit_record.specs.Parsing.{◌>>=◌, expect, edit_at}
+use Rattle.edit_record.specs.OldParsing.{old_head_at, steps_at}
+use Rattle.edit_record.specs.declared.fault.FaultKind.TheVariants.{End}
 use Rattle.edit_record.specs.declared.fault.DecodeStop.{DecodeStop}
 use Rattle.edit_record.specs.declared.fault.DecodeStop.TheVariants as stops
 
@@ -75,6 +77,14 @@ IsReadResult text (Ok rs) = IsJournalText text rs
 IsReadResult text (Err stops.Memory) = DecodeMayAllocate text
 IsReadResult text (Err (stops.Bad e)) =
     ((rs : List JournalEntry) → IsJournalText text rs → ⊥) × IsFirstError text e
+
+-- the old record at the start of a text
+unfoldable pub old_record_at : List ℕ → Result (OldRecord × List ℕ) TextError
+old_record_at t = do
+  head ← old_head_at t
+  others ← steps_at head.0.others head.1
+  rest ← expect (codes "end\n") End others.1
+  Ok (record { word = head.0.word; first = head.0.first; others = others.0 }, rest)
 
 -- the text begins with an old record, whose steps squash to this one
 abbrev pub OldRecordAt : List ℕ → JournalEntry → List ℕ → Type 0
