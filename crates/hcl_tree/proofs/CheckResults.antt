@@ -12,12 +12,31 @@ use Rattle.hcl_grammar.specs.Pure.BodyParser as bodies
 use Rattle.hcl_grammar.specs.Pure.NodeMakers.{nodes}
 use Rattle.hcl_reader.specs.ReaderRules.{ReaderState}
 use Rattle.hcl_parse.specs.Roots.{Ends}
-use Rattle.hcl_tree.specs.CheckResult.{IsDeep, IsCheckResult, IsTooDeep}
+use Rattle.hcl_tree.specs.CheckResult.{IsTooDeep}
 use Rattle.hcl_grammar_laws.proofs.BodyComplete.{file_answers}
 use Rattle.hcl_grammar_laws.proofs.Steps.{Answers, found, deep}
 use Rattle.hcl_token.specs.TokenizedText.{TokenizedText}
 use Rattle.hcl_text_laws.specs.Faults.{to_parse_fault}
 use Rattle.hcl_text_laws.specs.declared.fault.ParseFault.TheVariants as byte
+
+-- too much nests
+abbrev pub IsDeep : TokenFault → Type 0
+IsDeep (TooDeep at) = Unit {0}
+IsDeep (Syntax at) = ⊥
+IsDeep Memory = ⊥
+
+-- what an answer has to be that says whether there is a tree
+pub record IsCheckResult (ts : List Token) (b : ℕ) (answer : Result (Unit {0}) TokenFault) : Type 0 where
+  -- where there is no error, a tree is derived
+  pub derived : OnOk answer ((t : Tree) × IsFile ts b t)
+  -- where a tree is derived, there is no error
+  pub only : (t : Tree) → IsFile ts b t → answer ≡ Ok tt
+  -- where one is derived with whatever nesting, there is no error, or it nests too deep
+  pub deeper : (d : ℕ) (t : Tree) → IsFile ts d t → IfErr answer IsDeep
+  -- no memory is taken, so that it does not run out
+  pub no_memory : IfErr answer (λ e. e ≢ Memory)
+  -- the error is that of the grammar's parser
+  pub first : IfErr answer (λ e. bodies.file nodes ts b 0 ≡ Err e)
 
 deep_is : (at : ℕ) (f : TokenFault) (o : Outcome Tree) → o ≡ Err (TooDeep at) → o ≡ Err f → IsDeep f
 deep_is at (TooDeep x) o h e = tt
