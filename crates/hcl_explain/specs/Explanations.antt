@@ -32,20 +32,6 @@ ClosesNothing pairs found =
     (kind : Kind) × (kind_of pairs found ≡ Some kind) × (closes kind ≡ true)
     × (ClosesAny pairs found kind → ⊥)
 
--- the reason is one that is printed at the token that was found
-abbrev pub IsAtFound : List Pair → Reason → ℕ → Type 0
-IsAtFound pairs reason.NotClosed found = ⊥
-IsAtFound pairs reason.NoEnd found = ⊥
-IsAtFound pairs reason.TooDeep found = ⊥
-IsAtFound pairs (reason.Expected expected) found = Unit {0}
-IsAtFound pairs reason.ClosesNothing found = ClosesNothing pairs found
-IsAtFound pairs (reason.Advice advice) found = Unit {0}
-IsAtFound pairs (reason.Before advice) found = ⊥
-
--- and none that says of an opening that it is not closed
-abbrev pub IsOfFound : List Pair → Reason → ℕ → Type 0
-IsOfFound pairs why found = (why ≢ reason.NotClosed) × IsAtFound pairs why found
-
 -- the token to be printed: the innermost opening that is not closed before the token that was
 -- found; the opening of a directive before it; a token before it in its line; or that token itself
 abbrev pub IsToken : List Pair → Reason → ℕ → ℕ → Type 0
@@ -58,11 +44,6 @@ IsToken pairs reason.ClosesNothing token found = (token ≡ found) × ClosesNoth
 IsToken pairs (reason.Advice advice) token found = token ≡ found
 IsToken pairs (reason.Before advice) token found =
     (first_in_line pairs found ≤ token) × (token < found)
-
--- an explanation at this token that says of no opening that it is not closed
-abbrev pub IsOtherExplanation : List Pair → ℕ → Explanation → Type 0
-IsOtherExplanation pairs found e =
-    (e.found ≡ found) × (e.reason ≢ reason.NotClosed) × IsToken pairs e.reason e.token found
 
 -- an explanation of a syntax error at this token, or at the end of the text
 pub record IsSyntaxExplanation (t : TokenizedText) (number : ℕ) (e : Explanation) : Type 0 where

@@ -5,3 +5,4 @@ pub mod Openings
 pub mod Said
 pub mod ScanExplanations
 pub mod Sequences
+pub mod Inner

@@ -6,7 +6,8 @@ ghost use Rattle.hcl_token.specs.declared.kind.Kind.{Kind};
 ghost use Rattle.hcl_text_laws.specs.Faults.{byte_offset};
 ghost use Rattle.hcl_explain.specs.Openings.{closes, innermost_open, ClosesOuter};
 ghost use Rattle.hcl_explain.specs.Explanations.{IsExplanation, IsSyntaxExplanation, IsAtNoToken};
-ghost use Rattle.hcl_explain.specs.Explanations.{IsToken, IsOfFound, IsOtherExplanation};
+ghost use Rattle.hcl_explain.specs.Explanations.{IsToken};
+ghost use Rattle.hcl_explain.specs.Inner.Found.{IsOfFound, IsOtherExplanation};
 ghost use Rattle.hcl_explain.specs.Explanations.{ClosesNothing};
 ghost use Rattle.hcl_explain.specs.declared.explanation.Reason.TheVariants.{NotClosed, Before};
 
