@@ -11,7 +11,8 @@ use Rattle.clap.specs.declared.builder.command.Command.TheOpen.{Command-F}
 use Rattle.clap.specs.declared.builder.range.ValueRange.{ValueRange}
 use Rattle.clap.specs.declared.builder.value_parser.ValueParser.{ValueParser}
 use Rattle.tf_cli.specs.Options.{has_flag}
-use Rattle.tf_cli.specs.Parsing.{AddsCommand, AddsFlag, AreArguments, HasParser, HasRange, IsArgumentOf, IsCommand, command_app, flag_rule, flag_rules, with_command, with_rules}
+use Rattle.tf_cli.specs.Parsing.{command_app, flag_rule, flag_rules, with_command, with_rules}
+use Rattle.tf_cli.specs.Inner.ClapValues.{AddsCommand, AddsFlag, AreArguments, HasParser, HasRange, IsArgumentOf, IsCommand}
 use Rattle.tf_cli.specs.declared.options.Flag.{Flag}
 use Rattle.tf_cli.specs.declared.options.Subcommand.{Subcommand}
 

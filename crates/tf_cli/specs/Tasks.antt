@@ -5,7 +5,7 @@ use Rattle.std.specs.Prelude.{option_map, if◌then◌else◌, ⊤}
 use Rattle.std.specs.Borrow.{Bor}
 use Rattle.std.specs.List.{list_any}
 use Rattle.std.specs.Str.Parse.{IsNumeral, digits_value, without_leading_plus}
-use Rattle.clap.specs.Words.{Row, all_of, one_of, rows_of, found_of}
+use Rattle.clap.specs.Words.{Row, all_of, one_of}
 use Rattle.clap.specs.Words.{subcommand_name_of, subcommand_rows_of}
 use Rattle.clap.specs.declared.parser.matches.ArgMatches.{ArgMatches}
 use Rattle.tf_rules.specs.declared.rule.Rule.{Rule}
@@ -24,10 +24,6 @@ use Rattle.tf_cli.specs.declared.options.Subcommand.{Subcommand}
 use Rattle.tf_cli.specs.declared.rule_choice.Choice.{Choice}
 
 -- ---- what clap has read
-
--- the rows of a command's arguments
-abbrev pub rows_in : ArgMatches → List Row
-rows_in matches = rows_of (found_of matches)
 
 -- the values of an option or of FILE, in the order given; none if it is not given
 abbrev pub values_of : List Row → List ℕ → List (List ℕ)

@@ -3,7 +3,7 @@
 //! former is left out where nothing is said, too.
 
 ghost use Rattle.std.specs.Prelude.{◌≡◌, false, IfSome};
-ghost use Rattle.tf_cli.specs.Advice.{advice_writes};
+ghost use Rattle.tf_cli.specs.Inner.Advice.{advice_writes};
 
 mod arguments;
 mod missing;

@@ -6,10 +6,10 @@ ghost use Rattle.tf_cli.specs.Options.{file_count_of, flag_value};
 ghost use Rattle.tf_cli.specs.Parsing.{one_value, some_values, number_parser, with_flag_value};
 ghost use Rattle.tf_cli.specs.Parsing.{with_file_count};
 ghost use Rattle.tf_cli.specs.Parsing.{named_rule, flag_rule, flag_rules, file_rule, command_rules};
-ghost use Rattle.tf_cli.specs.Parsing.{IsArgumentOf, AreArguments};
-ghost use Rattle.tf_cli.specs.Parsing.{HasRange, HasParser, HasChangedRule, AddsFlag};
-ghost use Rattle.tf_cli.specs.Parsing.{command_app, empty_program, program_app, IsCommand};
-ghost use Rattle.tf_cli.specs.Parsing.{IsNewCommand, AddsCommand};
+ghost use Rattle.tf_cli.specs.Parsing.{command_app, empty_program, program_app};
+ghost use Rattle.tf_cli.specs.Inner.ClapValues.{IsArgumentOf, AreArguments};
+ghost use Rattle.tf_cli.specs.Inner.ClapValues.{HasRange, HasParser, HasChangedRule, AddsFlag};
+ghost use Rattle.tf_cli.specs.Inner.ClapValues.{IsCommand, IsNewCommand, AddsCommand};
 
 use crate::command_line::{PROGRAM, VERSION};
 use crate::help;

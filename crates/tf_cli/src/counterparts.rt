@@ -9,7 +9,7 @@
 //! help.
 
 ghost use Rattle.std.specs.Prelude.{◌≡◌};
-ghost use Rattle.tf_cli.specs.Advice.{line_writes};
+ghost use Rattle.tf_cli.specs.Inner.Advice.{line_writes};
 
 mod changes;
 mod commands;

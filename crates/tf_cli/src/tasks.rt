@@ -3,10 +3,11 @@
 ghost use Rattle.std.specs.Prelude.{◌≡◌, None, map, string_bytes, IfOk, IfErr};
 ghost use Rattle.tf_cli.specs.Choices.{IsName, AreNames, SaysUnknownRule, IsUnknownRule};
 ghost use Rattle.tf_cli.specs.Choices.{HasUnknownRule, unknown_rule_text};
-ghost use Rattle.tf_cli.specs.Tasks.{rows_in, values_of, option_values, IsNamesFault};
+ghost use Rattle.tf_cli.specs.Tasks.{values_of, option_values, IsNamesFault};
 ghost use Rattle.tf_cli.specs.Tasks.{AreChosenRules, IsRulesFault, IsGiven, IsTakenNumber};
 ghost use Rattle.tf_cli.specs.Tasks.{IsAction, IsActionFault, IsTask, IsTaskFault};
 ghost use Rattle.tf_cli.specs.Tasks.{IsTaskOfName, IsTaskOfNameFault, IsTaskOf, IsTaskOfFault};
+ghost use Rattle.tf_cli.specs.Inner.ClapValues.{rows_in};
 
 use crate::clap_commands::FILE;
 use crate::exits::{Exit, usage_error};

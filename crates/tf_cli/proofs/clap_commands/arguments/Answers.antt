@@ -2,7 +2,8 @@
 use Rattle.std.proofs.Common.{◌≡◌, [], ◌∷◌, ◌++◌, List, rules, subst, sym}
 use Rattle.clap.specs.declared.builder.arg.Arg.{Arg}
 use Rattle.tf_cli.specs.Options.{all_flags, file_count_of}
-use Rattle.tf_cli.specs.Parsing.{AreArguments, command_rules, file_rule, flag_rules}
+use Rattle.tf_cli.specs.Parsing.{command_rules, file_rule, flag_rules}
+use Rattle.tf_cli.specs.Inner.ClapValues.{AreArguments}
 use Rattle.tf_cli.specs.declared.options.Flag.{Flag}
 use Rattle.tf_cli.proofs.Building.{argument_pushed}
 use Rattle.tf_cli.proofs.clap_commands.arguments.Goals as goal

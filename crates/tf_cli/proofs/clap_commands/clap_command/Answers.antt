@@ -2,7 +2,8 @@
 use Rattle.std.proofs.Common.{ℕ, List, subst}
 use Rattle.std.proofs.lemmas.Result.{IfOk-weaker}
 use Rattle.clap.specs.Simple.{new_app}
-use Rattle.tf_cli.specs.Parsing.{IsCommand, command_rules, with_rules}
+use Rattle.tf_cli.specs.Parsing.{command_rules, with_rules}
+use Rattle.tf_cli.specs.Inner.ClapValues.{IsCommand}
 use Rattle.tf_cli.proofs.clap_commands.clap_command.Goals as goal
 
 pub returns : goal.returns

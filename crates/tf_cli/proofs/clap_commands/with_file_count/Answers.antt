@@ -1,6 +1,7 @@
 -- How many files the command takes is in its row.
 use Rattle.std.proofs.Common.{◌∙◌, refl, subst, sym}
-use Rattle.tf_cli.specs.Parsing.{HasChangedRule, with_file_count}
+use Rattle.tf_cli.specs.Parsing.{with_file_count}
+use Rattle.tf_cli.specs.Inner.ClapValues.{HasChangedRule}
 use Rattle.tf_cli.specs.declared.options.FileCount.{FileCount}
 use Rattle.tf_cli.proofs.clap_commands.with_file_count.Goals as goal
 

@@ -1,6 +1,7 @@
 -- What follows the option is in its row.
 use Rattle.std.proofs.Common.{◌∙◌, subst, sym}
-use Rattle.tf_cli.specs.Parsing.{HasChangedRule, with_flag_value}
+use Rattle.tf_cli.specs.Parsing.{with_flag_value}
+use Rattle.tf_cli.specs.Inner.ClapValues.{HasChangedRule}
 use Rattle.tf_cli.specs.declared.options.FlagValue.{FlagValue}
 use Rattle.tf_cli.proofs.clap_commands.with_flag_value.Goals as goal
 

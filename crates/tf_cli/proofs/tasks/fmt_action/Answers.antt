@@ -1,6 +1,7 @@
 -- --check is given or not.
 use Rattle.std.proofs.Common.{Bool, true, false, refl, subst}
-use Rattle.tf_cli.specs.Tasks.{IsGiven, rows_in}
+use Rattle.tf_cli.specs.Tasks.{IsGiven}
+use Rattle.tf_cli.specs.Inner.ClapValues.{rows_in}
 use Rattle.tf_cli.specs.declared.options.Flag.{Flag}
 use Rattle.tf_cli.proofs.tasks.fmt_action.Goals as goal
 

@@ -2,7 +2,7 @@
 use Rattle.std.proofs.Common.{◌∙◌, ℕ, List, ap}
 use Rattle.clap.specs.Words.{found_of, one_of}
 use Rattle.clap.proofs.WalkLemmas.{one_text-rows}
-use Rattle.tf_cli.specs.Tasks.{rows_in}
+use Rattle.tf_cli.specs.Inner.ClapValues.{rows_in}
 use Rattle.tf_cli.proofs.tasks.is_given.Goals as goal
 
 pub returns : goal.returns

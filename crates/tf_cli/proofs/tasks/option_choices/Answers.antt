@@ -3,7 +3,8 @@ use Rattle.std.proofs.Common.{◌≡◌, ◌∙◌, ℕ, List, Bor, Err, IfOk, I
 use Rattle.std.proofs.lemmas.Result.{IfErr-weaker}
 use Rattle.tf_cli.specs.declared.exits.Exit.TheVariants.{Memory}
 use Rattle.tf_cli.specs.Choices.{AreNames, HasUnknownRule}
-use Rattle.tf_cli.specs.Tasks.{rows_in, values_of}
+use Rattle.tf_cli.specs.Tasks.{values_of}
+use Rattle.tf_cli.specs.Inner.ClapValues.{rows_in}
 use Rattle.tf_cli.proofs.tasks.option_choices.Goals as goal
 
 pub returns-in_err-names-clause-unknown : goal.returns-in_err-names-clause-unknown

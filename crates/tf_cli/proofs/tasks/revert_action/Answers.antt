@@ -1,6 +1,7 @@
 -- Only --take is given, or neither; or only --list; or both.
 use Rattle.std.proofs.Common.{ℕ, Bool, true, false, Option, None, refl, subst}
-use Rattle.tf_cli.specs.Tasks.{IsGiven, IsTakenNumber, rows_in}
+use Rattle.tf_cli.specs.Tasks.{IsGiven, IsTakenNumber}
+use Rattle.tf_cli.specs.Inner.ClapValues.{rows_in}
 use Rattle.tf_cli.specs.declared.options.Flag.{Flag}
 use Rattle.tf_cli.proofs.tasks.revert_action.Goals as goal
 

@@ -3,7 +3,7 @@ use Rattle.std.proofs.Common.{◌∙◌, ℕ, List, ap}
 use Rattle.std.specs.Str.Parse.{ParsesUnsigned, ExplainsUnsignedError, HasUnsignedDigitsIfOk}
 use Rattle.clap.specs.Words.{found_of, one_of}
 use Rattle.clap.proofs.WalkLemmas.{one_text-rows}
-use Rattle.tf_cli.specs.Tasks.{rows_in}
+use Rattle.tf_cli.specs.Inner.ClapValues.{rows_in}
 use Rattle.tf_cli.proofs.Values.{number_read}
 use Rattle.tf_cli.proofs.tasks.taken_number.Goals as goal
 

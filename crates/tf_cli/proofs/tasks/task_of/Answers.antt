@@ -1,7 +1,7 @@
 -- The command that clap has found, if there is one.
 use Rattle.std.proofs.Common.{sym, inl, inr}
 use Rattle.std.proofs.lemmas.Result.{IfOk-weaker, IfErr-weaker}
-use Rattle.tf_cli.specs.Tasks.{rows_in}
+use Rattle.tf_cli.specs.Inner.ClapValues.{rows_in}
 use Rattle.tf_cli.proofs.tasks.task_of.Goals as goal
 
 pub returns-in-Some-clause-task : goal.returns-in-Some-clause-task

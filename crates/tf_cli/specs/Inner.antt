@@ -1,0 +1,2 @@
+pub mod Advice
+pub mod ClapValues
