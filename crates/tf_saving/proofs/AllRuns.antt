@@ -112,7 +112,7 @@ recovers_restored p s d k l (inl b) =
     inl (record {
       text = always_restored (Owns p.text) d.text k b.text;
       journal = always_restored (Owns p.journal) d.journal l b.journal;
-      no_lone_journal = elim b.no_lone_journal [ inl free ↦ inl (always_restored HasNoNew d.journal l free) | inr taken ↦ inr (always_restored HasNew d.text k taken) ];
+      no_lone_journal = elim b.no_lone_journal [ inl no_new ↦ inl (always_restored HasNoNew d.journal l no_new) | inr taken ↦ inr (always_restored HasNew d.text k taken) ];
     })
 recovers_restored p s d k l (inr (inl placed)) =
     inr (inl (record {

@@ -59,7 +59,7 @@ pub adoptable_seen : (p : Pair) (d : Disk) → IsAdoptable d.checks p → d.text
 adoptable_seen p d can_adopt text journal = rw (text, journal) (can_adopt d.journal.current.own)
 
 stray_new : (checks : Checks) (p : Pair) (n : Names) → MayHaveStray checks p n → HasNew n → checks.can_adopt p.text p.journal n.new ≡ false
-stray_new checks p n (own, inl free) taken = absurd (let is = taken.1 in cc)
+stray_new checks p n (own, inl no_new) taken = absurd (let is = taken.1 in cc)
 stray_new checks p n (own, inr unadoptable) taken = unadoptable.0
 
 pub unadoptable_seen : (p : Pair) (d : Disk) → MayHaveStray d.checks p d.journal.current → HasNew d.journal.current → d.text.current.own ≡ p.text

@@ -218,7 +218,7 @@ edited_unrenamed p m file b =
     record {
       text = (refl, each_map (Owns p.text) (Owns (Some file)) (with_text file) (λ n h. refl) m.disk.text.possible b.text.1);
       journal = b.journal;
-      no_lone_journal = elim b.no_lone_journal [ inl free ↦ inl free | inr taken ↦ inr (taken.0, each_map HasNew HasNew (with_text file) (λ n h. h) m.disk.text.possible taken.1) ];
+      no_lone_journal = elim b.no_lone_journal [ inl no_new ↦ inl no_new | inr taken ↦ inr (taken.0, each_map HasNew HasNew (with_text file) (λ n h. h) m.disk.text.possible taken.1) ];
     }
 
 edited_owns_with : (p : Pair) (m : State) (file : File) → InAll (OwnsWithNew p.text) m.disk.text → InAll (OwnsWithNew (Some file)) (edited file m).disk.text

@@ -41,13 +41,13 @@ unrenamed_synced p Text s d b =
     record {
       text = kept_names (Owns p.text) (owns_lost p.text) d.text b.text;
       journal = b.journal;
-      no_lone_journal = elim b.no_lone_journal [ inl free ↦ inl free | inr taken ↦ inr (kept_names HasNew taken_lost d.text taken) ];
+      no_lone_journal = elim b.no_lone_journal [ inl no_new ↦ inl no_new | inr taken ↦ inr (kept_names HasNew taken_lost d.text taken) ];
     }
 unrenamed_synced p Journal s d b =
     record {
       text = b.text;
       journal = kept_names (Owns p.journal) (owns_lost p.journal) d.journal b.journal;
-      no_lone_journal = elim b.no_lone_journal [ inl free ↦ inl (kept_names HasNoNew no_new_lost d.journal free) | inr taken ↦ inr taken ];
+      no_lone_journal = elim b.no_lone_journal [ inl no_new ↦ inl (kept_names HasNoNew no_new_lost d.journal no_new) | inr taken ↦ inr taken ];
     }
 
 renamed_synced : (p : Pair) (part : SavedFile) (s : Contents) (d : Disk) → IsRenamed p d → IsRenamed p (when_done (SyncDirectory part) s d)
@@ -64,7 +64,7 @@ lost_twice (Some Empty) = refl
 lost_twice (Some Torn) = refl
 
 may_have_stray_lost : (checks : Checks) (p : Pair) (n : Names) → MayHaveStray checks p n → MayHaveStray checks p (with_new (new_after_power_loss n.new) n)
-may_have_stray_lost checks p n (own, inl free) = (own, inl (no_new_lost n free))
+may_have_stray_lost checks p n (own, inl no_new) = (own, inl (no_new_lost n no_new))
 may_have_stray_lost checks p n (own, inr unadoptable) = (own, inr (unadoptable.1, ap (λ (new : Option File). checks.can_adopt p.text p.journal new) (lost_twice n.new) ∙ unadoptable.1))
 
 stray_synced : (p : Pair) (part : SavedFile) (s : Contents) (d : Disk) → HasOnlyStray p d → HasOnlyStray p (when_done (SyncDirectory part) s d)

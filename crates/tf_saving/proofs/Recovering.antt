@@ -29,7 +29,7 @@ unrenamed_stable p d b =
     record {
       recovers = inl b;
       is_found = found_by p d b.text.0 b.journal.0;
-      is_recovered = elim b.no_lone_journal [ inl free ↦ inl free.0 | inr taken ↦ inr taken.0 ];
+      is_recovered = elim b.no_lone_journal [ inl no_new ↦ inl no_new.0 | inr taken ↦ inr taken.0 ];
     }
 
 unrenamed_ends : (p : Pair) (end : End) (d : Disk) → IsUnrenamed p d → HoldsForOne p (finish end) d
@@ -47,37 +47,37 @@ find_journal p d (Some file) e h = (h, (file, e))
 find_text_with : (p : Pair) (d : Disk) (new : Option File) → d.text.current.new ≡ new → RecoversTo p d → HasNew d.journal.current
     → HoldsForOne p (choose (if_found new) (RemoveJournal Success) ReadNewJournal (Ended Unknown)) d
 find_text_with p d None e (inl b) taken =
-    elim b.no_lone_journal [ inl free ↦ absurd (let was = free.0 in let is = taken.1 in cc) | inr texts ↦ absurd (let was = texts.0.1 in cc) ]
+    elim b.no_lone_journal [ inl no_new ↦ absurd (let was = no_new.0 in let is = taken.1 in cc) | inr texts ↦ absurd (let was = texts.0.1 in cc) ]
 find_text_with p d None e (inr lone) taken = (lone, taken)
 find_text_with p d (Some file) e (inl b) taken = b
 find_text_with p d (Some file) e (inr (inl placed)) taken = absurd (let was = placed.text.0.1 in cc)
 find_text_with p d (Some file) e (inr (inr strayed)) taken = absurd (let was = strayed.text.0.1 in cc)
 
 owns_no_new : (journal : Option File) (n : Names) → HoldsJournal journal n → HasNoNew n → Owns journal n
-owns_no_new journal n (inl h) free = h.0
-owns_no_new journal n (inr h) free = absurd (let was = h.1 in cc)
+owns_no_new journal n (inl h) no_new = h.0
+owns_no_new journal n (inr h) no_new = absurd (let was = h.1 in cc)
 
 strayed_stable : (p : Pair) (d : Disk) → HasOnlyStray p d → HasNoNew d.journal.current → IsStable p d
-strayed_stable p d strayed free =
+strayed_stable p d strayed no_new =
     record {
       recovers = inr (inr strayed);
       is_found = found_by p d strayed.text.0.0 strayed.journal.0.0;
-      is_recovered = inl free;
+      is_recovered = inl no_new;
     }
 
 find_text_without : (p : Pair) (d : Disk) (new : Option File) → d.text.current.new ≡ new → RecoversTo p d → HasNoNew d.journal.current
     → HoldsForOne p (choose (if_found new) (RemoveJournal Success) (Ended Success) (Ended Unknown)) d
-find_text_without p d None e (inl b) free = unrenamed_stable p d b
-find_text_without p d None e (inr (inl placed)) free =
+find_text_without p d None e (inl b) no_new = unrenamed_stable p d b
+find_text_without p d None e (inr (inl placed)) no_new =
     record {
       recovers = inr (inl placed);
-      is_found = found_by p d placed.text.0.0 (owns_no_new p.journal d.journal.current placed.journal.0 free);
-      is_recovered = inl free;
+      is_found = found_by p d placed.text.0.0 (owns_no_new p.journal d.journal.current placed.journal.0 no_new);
+      is_recovered = inl no_new;
     }
-find_text_without p d None e (inr (inr strayed)) free = strayed_stable p d strayed free
-find_text_without p d (Some file) e (inl b) free = b
-find_text_without p d (Some file) e (inr (inl placed)) free = absurd (let was = placed.text.0.1 in cc)
-find_text_without p d (Some file) e (inr (inr strayed)) free = absurd (let was = strayed.text.0.1 in cc)
+find_text_without p d None e (inr (inr strayed)) no_new = strayed_stable p d strayed no_new
+find_text_without p d (Some file) e (inl b) no_new = b
+find_text_without p d (Some file) e (inr (inl placed)) no_new = absurd (let was = placed.text.0.1 in cc)
+find_text_without p d (Some file) e (inr (inr strayed)) no_new = absurd (let was = strayed.text.0.1 in cc)
 
 read_journal : (p : Pair) (d : Disk) → IsRenamed p d ⊎ HasOnlyStray p d → HasNew d.journal.current
     → HoldsForOne p (choose (if_adoptable (d.checks.can_adopt d.text.current.own d.journal.current.own d.journal.current.new)) SyncRename RemoveStray (Ended Unknown)) d
@@ -143,7 +143,7 @@ journal_removed p d b =
     record {
       text = b.text;
       journal = (b.journal.0, owns_kept p.journal None d.journal.possible b.journal.1);
-      no_lone_journal = elim b.no_lone_journal [ inl free ↦ inl (refl, no_new_kept d.journal.possible free.1) | inr taken ↦ inr taken ];
+      no_lone_journal = elim b.no_lone_journal [ inl no_new ↦ inl (refl, no_new_kept d.journal.possible no_new.1) | inr taken ↦ inr taken ];
     }
 
 remove_journal : (p : Pair) (end : End) (d : Disk) (new : Option File) → IsUnrenamed p d
@@ -153,21 +153,21 @@ remove_journal p end d (Some file) b = (journal_removed p d b, refl)
 
 pub removal_kept : (p : Pair) (d : Disk) → IsUnrenamed p d → HasNoNew d.journal.current
     → let after = with_directory Journal (directory_synced d.journal) d in IsUnrenamed p after × InAll HasNoNew after.journal
-removal_kept p d b free = (
+removal_kept p d b no_new = (
   record {
     text = b.text;
     journal = (b.journal.0, (b.journal.0, tt));
-    no_lone_journal = inl (free, (ap new_after_power_loss free, tt));
+    no_lone_journal = inl (no_new, (ap new_after_power_loss no_new, tt));
   },
-  (free, (ap new_after_power_loss free, tt)),
+  (no_new, (ap new_after_power_loss no_new, tt)),
 )
 
 pub text_removed : (p : Pair) (d : Disk) → IsUnrenamed p d → InAll HasNoNew d.journal → IsUnrenamed p (with_directory Text (new_removed d.text) d)
-text_removed p d b free =
+text_removed p d b no_new =
     record {
       text = (b.text.0, owns_kept p.text None d.text.possible b.text.1);
       journal = b.journal;
-      no_lone_journal = inl free;
+      no_lone_journal = inl no_new;
     }
 
 -- a comparison changes nothing

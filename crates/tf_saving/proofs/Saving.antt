@@ -60,34 +60,34 @@ old_names_kept p d r = kept_of r.recovers
         record {
           text = b.text;
           journal = (b.journal.0, (b.journal.0, tt));
-          no_lone_journal = elim b.no_lone_journal [ inl free ↦ inl (free.0, (ap new_after_power_loss free.0, tt)) | inr taken ↦ inr taken ];
+          no_lone_journal = elim b.no_lone_journal [ inl no_new ↦ inl (no_new.0, (ap new_after_power_loss no_new.0, tt)) | inr taken ↦ inr taken ];
         }
     kept_of (inr (inr strayed)) =
-        let free : HasNoNew d.journal.current = elim r.is_recovered [ inl free ↦ free | inr taken ↦ absurd (let was = strayed.text.0.1 in let is = taken.1 in cc) ] in
+        let no_new : HasNoNew d.journal.current = elim r.is_recovered [ inl no_new ↦ no_new | inr taken ↦ absurd (let was = strayed.text.0.1 in let is = taken.1 in cc) ] in
         record {
           text = always_weaker (OwnsAlone p.text) (Owns p.text) (λ n h. h.0) d.text strayed.text;
           journal = (strayed.journal.0.0, (strayed.journal.0.0, tt));
-          no_lone_journal = inl (free, (ap new_after_power_loss free, tt));
+          no_lone_journal = inl (no_new, (ap new_after_power_loss no_new, tt));
         }
     kept_of (inr (inl placed)) =
-        let free : HasNoNew d.journal.current = elim r.is_recovered [ inl free ↦ free | inr taken ↦ absurd (let was = placed.text.0.1 in let is = taken.1 in cc) ] in
+        let no_new : HasNoNew d.journal.current = elim r.is_recovered [ inl no_new ↦ no_new | inr taken ↦ absurd (let was = placed.text.0.1 in let is = taken.1 in cc) ] in
         record {
           text = always_weaker (OwnsAlone p.text) (Owns p.text) (λ n h. h.0) d.text placed.text;
           journal = (ap (λ (q : Pair). q.journal) r.is_found, (ap (λ (q : Pair). q.journal) r.is_found, tt));
-          no_lone_journal = inl (free, (ap new_after_power_loss free, tt));
+          no_lone_journal = inl (no_new, (ap new_after_power_loss no_new, tt));
         }
 
 make_text : (p : Pair) (s : Contents) (d : Disk) (new : Option File) → d.text.current.new ≡ new → IsUnrenamed p d
     → HoldsWhileSaving p s (choose_or_in_place (if_not_found new) CopyTextAttributes CompareInPlace (RemoveJournal (Error Text))) (with_directory Text (created new d.text) d)
 make_text p s d None e b =
-    let free : InAll HasNoNew d.journal = elim b.no_lone_journal [ inl free ↦ free | inr taken ↦ absurd (let is = taken.0.1 in cc) ] in (
+    let no_new : InAll HasNoNew d.journal = elim b.no_lone_journal [ inl no_new ↦ no_new | inr taken ↦ absurd (let is = taken.0.1 in cc) ] in (
       record {
         text = (b.text.0, owns_kept p.text (Some Torn) d.text.possible b.text.1);
         journal = b.journal;
-        no_lone_journal = inl free;
+        no_lone_journal = inl no_new;
       },
       refl,
-      free,
+      no_new,
     )
 make_text p s d (Some file) e b = unrenamed_stable p d b
 
@@ -214,7 +214,7 @@ text_made p d None e b =
     record {
       text = (b.text.0, owns_kept p.text (Some Torn) d.text.possible b.text.1);
       journal = b.journal;
-      no_lone_journal = inl (elim b.no_lone_journal [ inl free ↦ free | inr taken ↦ absurd (let is = taken.0.1 in cc) ]);
+      no_lone_journal = inl (elim b.no_lone_journal [ inl no_new ↦ no_new | inr taken ↦ absurd (let is = taken.0.1 in cc) ]);
     }
 text_made p d (Some file) e b = b
 
