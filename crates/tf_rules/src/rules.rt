@@ -113,7 +113,7 @@ pub fn check_tail(
 }
 
 /// Whether a rule may find something at a call of the function that token `name` names, if its name
-/// is one token, with so many arguments, of which the last is expanded.
+/// is one token, by how many arguments it has, and whether the last is expanded (`...`).
 #[inline(always)]
 pub fn may_find_at_call(
     scanned: &Scanned<'_>,

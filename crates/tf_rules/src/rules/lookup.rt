@@ -203,7 +203,7 @@ pub fn check(
 }
 
 /// Whether the rule may find something at a call of the function that token `name` names, if its
-/// name is one token, with so many arguments.
+/// name is one token, by how many arguments it has, and whether the last is expanded (`...`).
 #[inline(always)]
 pub fn may_find(scanned: &Scanned<'_>, name: Option<u32>, arguments: Count, expands: bool) -> bool
     ensures { result ≡ may_find scanned.now.pairs name arguments expands }
