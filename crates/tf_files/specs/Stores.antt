@@ -1,6 +1,7 @@
 -- What a store of files holds, and what its methods do to that. Of a store of which it is not known
 -- what it holds nothing is stated.
-use Rattle.std.specs.Prelude.{◌≡◌, ◌⊎◌, ℕ, Bool, true, List, [], ◌∷◌, Option, Some, None, Result, Ok, Err, IfErr}
+use Rattle.std.specs.Prelude.{◌≡◌, ◌⊎◌, ℕ, Bool, true, List, [], ◌∷◌}
+use Rattle.std.specs.Prelude.{Option, Some, None, Result, Ok, Err, IfErr}
 use Rattle.tf_session.specs.Invocations.{FileContents}
 use Rattle.tf_session.specs.declared.fault.RunFault.{RunFault}
 use Rattle.tf_session.specs.declared.fault.RunFault.TheVariants.{Memory}
@@ -102,7 +103,8 @@ abbrev pub contents_to_save : {P : Type 0} → ChangedFile P → FileContents
 contents_to_save file = record { text = file.text.items; journal = file.journal.items }
 
 -- files were saved one after another, each with its result
-abbrev pub SavesEach : {P : Type 0} → (P → Spot) → List (ChangedFile P) → List (Result (Unit {0}) Trouble) → Option Files → Option Files → Type 0
+abbrev pub SavesEach : {P : Type 0} → (P → Spot) → List (ChangedFile P)
+    → List (Result (Unit {0}) Trouble) → Option Files → Option Files → Type 0
 SavesEach spot [] [] old new = new ≡ old
 SavesEach spot [] (result ∷ results) old new = ⊥
 SavesEach spot (file ∷ files) [] old new = ⊥

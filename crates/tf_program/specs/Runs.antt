@@ -31,7 +31,11 @@ IsStatusOfOutcome outcome status =
 abbrev pub RunsTask : Task → RunOutcome → World → World → Type 0
 RunsTask task outcome old new =
     DoesEach task.action task.locate task.files.items
-    (record { outcome = outcome_of_files (length task.files.items); console = old.console; files = old.files })
+    (record {
+      outcome = outcome_of_files (length task.files.items);
+      console = old.console;
+      files = old.files;
+    })
     (record { outcome = outcome; console = new.console; files = new.files })
 
 -- the task was done on its files, and the status is that of what they have met

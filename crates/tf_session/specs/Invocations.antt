@@ -19,7 +19,8 @@ use Rattle.tf_session.specs.Faults.{run_fault_of}
 use Rattle.tf_session.specs.Journals.{MAX_JOURNAL, IsSavedText, JournalTextFault, BadJournalFault}
 use Rattle.tf_session.specs.Layers.{History, initial_history, top_text, records_in, IsHistory, HistoryStep}
 use Rattle.tf_session.specs.Machine.{Stack, initial_stack, StackStep, IsNotTake, WithoutTake}
-use Rattle.tf_session.specs.Records.{ChangesContents, RefusesContents, DoesStep, RefusesStep, IsJournalOfStack}
+use Rattle.tf_session.specs.Records.{ChangesContents, RefusesContents, DoesStep, RefusesStep}
+use Rattle.tf_session.specs.Records.{IsJournalOfStack}
 use Rattle.tf_session.specs.Runs.{RunBy}
 use Rattle.tf_session.specs.Session.{SessionContents, with_records}
 
