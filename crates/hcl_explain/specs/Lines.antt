@@ -3,15 +3,12 @@ use Rattle.std.specs.Prelude.{ℕ, zero, suc, ◌-◌, ◌==◌, ◌&&◌, ◌||
 use Rattle.std.specs.Prelude.{List, [], ◌∷◌, length, take, drop, slice_index}
 use Rattle.std.specs.List.{prefix_len}
 use Rattle.std.specs.Str.{byte}
-use Rattle.hcl_token.specs.Bytes.{line_feed, carriage_return, minus}
+use Rattle.hcl_token.specs.Bytes.{line_feed, minus}
 use Rattle.hcl_scan.specs.Modes.{marker_of}
 use Rattle.hcl_scan.specs.Closing.{is_closing_line}
 
 abbrev pub is_not_line_feed : ℕ → Bool
 is_not_line_feed b = not (b == line_feed)
-
-abbrev pub is_not_line_break : ℕ → Bool
-is_not_line_break b = not (b == line_feed || b == carriage_return)
 
 -- the first line of a text, without its line feed
 abbrev pub first_line : List ℕ → List ℕ

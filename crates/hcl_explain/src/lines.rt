@@ -5,6 +5,7 @@ ghost use Rattle.std.specs.List.{prefix_len};
 ghost use Rattle.hcl_token.specs.Bytes.{line_feed};
 ghost use Rattle.hcl_scan.specs.Characters as scanner;
 ghost use Rattle.hcl_scan.specs.Closing as closing;
+ghost use Rattle.hcl_scan.specs.Inner.Openings.{is_not_line_break};
 ghost use Rattle.hcl_scan.specs.Modes as modes;
 ghost use Rattle.hcl_explain.specs.Lines as spec;
 
@@ -162,14 +163,14 @@ fn from_closing<'t>(text: &'t [u8], marker: &[u8]) -> &'t [u8]
 }
 
 fn is_not_line_break(b: u8) -> bool
-    ensures { result ≡ spec.is_not_line_break b }
+    ensures { result ≡ is_not_line_break b }
 {
     !((b == b'\n') | (b == b'\r'))
 }
 
 /// Returns how many bytes are before the first LF or CR of a text, or how many it has.
 fn marker_len(text: &[u8]) -> usize
-    ensures { result ≡ prefix_len spec.is_not_line_break text.now }
+    ensures { result ≡ prefix_len is_not_line_break text.now }
 {
     let mut at = 0usize;
     while at < text.len() && is_not_line_break(text[at]) {

@@ -1,6 +1,6 @@
 use Rattle.std.proofs.Common.{length, ◌-◌, ◌≡◌, ◌+◌, ◌≤◌, drop}
 use Rattle.std.specs.List.{prefix_len}
-use Rattle.hcl_explain.specs.Lines.{is_not_line_break}
+use Rattle.hcl_scan.specs.Inner.Openings.{is_not_line_break}
 use Rattle.hcl_explain.proofs.lines.marker_len.Given as goal
 
 abbrev pub invariant-loop-at : goal.invariant-loop-at
