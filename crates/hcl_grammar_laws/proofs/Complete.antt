@@ -320,7 +320,7 @@ module _ (ts : List Token) where
       (subst (λ (c : Expr). Answers d b e l (p.conditional nodes ts b (deeper nodes ts b) m (next_index ts m i) c j)) f.is then)
 
   mutual
-    unfolding p.tails_from p.dot_tail p.bracket_tail same_kind p.identifier_or_call p.call p.tuple_or_for p.tuple p.object_or_for p.object p.for_tuple p.for_object p.for_value p.quoted p.heredoc p.template p.parens p.arguments_from p.tuple_items_from p.elements_from p.element steps.equals_or_colon p.intro p.condition p.parts_from p.interpolation p.directive p.if_directive p.for_directive p.else_and_endif
+    unfolding p.tails_from p.dot_tail p.bracket_tail same_kind p.identifier_or_call p.call p.tuple_or_for p.tuple p.object_or_for p.object p.for_tuple p.for_object p.for_value p.quoted p.heredoc p.template p.parens p.arguments_from p.tuple_items_from p.elems_from p.elem steps.equals_or_colon p.intro p.filter p.parts_from p.interpolation p.directive p.if_directive p.for_directive p.else_and_endif
 
     pub c_expr : {d : ℕ} {m : Bool} {e : Expr} {i j : ℕ} → IsExpr ts d m e i j → Stops 8 ts m j → (b : ℕ) → Answers d b e j (p.whole nodes ts b (deeper nodes ts b) m i)
     c_expr (plain {m} {i} q) s b = c_whole q (c_level q (looser (omega arith) s)) (looser (omega arith) s) b (choice_none m (next_index ts m i) s)
@@ -437,7 +437,7 @@ module _ (ts : List Token) where
         (rw (sees-yes ts true k.Comma j q, if_next-yes ts true k.Comma j q) (c_items xs a turns (acc ++ e ∷ []) (omega (arith, (step ts true k.Comma j q).forth, (span_expr x).forth)))))
 
     c_elems : {d : ℕ} {xs : List Elem} {i j : ℕ} → IsElems ts d xs i j → (a turns : ℕ) (acc : List Elem) → j ≤ turns + i
-        → Answers d a (acc ++ xs) j (p.elements_from nodes ts (p.under nodes ts a).expr turns acc i)
+        → Answers d a (acc ++ xs) j (p.elems_from nodes ts (p.under nodes ts a).expr turns acc i)
     c_elems (no_elems {i} q) a zero acc l = absurd (omega (arith, (step ts false k.CloseBrace i q).forth))
     c_elems (no_elems {i} q) a (suc turns) acc l = rw (append-nil acc, sees-yes ts false k.CloseBrace i q, if_next-yes ts false k.CloseBrace i q) found
     c_elems (last_elem {i} {j} x q) a zero acc l = absurd (omega (arith, (step ts false k.CloseBrace j q).forth, (span_elem x).forth))
@@ -450,7 +450,7 @@ module _ (ts : List Token) where
         rw (← append_assoc acc (y ∷ []) ys, n, if_next-no ts false k.CloseBrace i n) (bind _ (c_elem x (sep_stop q) a acc)
         (rw (sep_or_end-yes q (elems_line xs)) (c_elems xs a turns (acc ++ y ∷ []) (omega (arith, (span_sep q).forth, (span_elem x).forth)))))
 
-    c_elem : {d : ℕ} {x : Elem} {i j : ℕ} → IsElem ts d x i j → Stops 8 ts false j → (a : ℕ) (acc : List Elem) → Answers d a (acc ++ x ∷ []) j (p.element nodes ts (p.under nodes ts a).expr acc i)
+    c_elem : {d : ℕ} {x : Elem} {i j : ℕ} → IsElem ts d x i j → Stops 8 ts false j → (a : ℕ) (acc : List Elem) → Answers d a (acc ++ x ∷ []) j (p.elem nodes ts (p.under nodes ts a).expr acc i)
     c_elem (by_equals {i} {j} x q y) s a acc =
         bind _ (nested false i a (c_expr x (stops_at 8 k.Equal q (omega arith)) a)) (rw (sees-yes ts false k.Equal j q, if_next-yes ts false k.Equal j q) (bind _ (nested false (after_next ts false j) a (c_expr y s a)) found))
     c_elem (by_colon {i} {j} x q y) s a acc =
@@ -461,7 +461,7 @@ module _ (ts : List Token) where
     c_intro (intro {i} {j} w n o v x) s a =
         rw (word-yes ts true for_word i w, expect-yes ts true k.Identifier (after_next ts true i) n, second-yes o v, word-yes ts true in_word j v) (bind _ (nested true (after_next ts true j) a (c_expr x s a)) found)
 
-    c_filter : {d : ℕ} {close : Kind} {o : Option Expr} {i j : ℕ} → Closes close → IsFilter ts d close o i j → (a : ℕ) → Answers d a o j (p.condition nodes ts (p.under nodes ts a).expr close i)
+    c_filter : {d : ℕ} {close : Kind} {o : Option Expr} {i j : ℕ} → Closes close → IsFilter ts d close o i j → (a : ℕ) → Answers d a o j (p.filter nodes ts (p.under nodes ts a).expr close i)
     c_filter z (no_filter {close} {i} q) a = rw (reads-other ts true if_word close i q z.no_name, expect-yes ts true close i q) found
     c_filter z (filter {close} {i} {j} w x q) a = rw (reads-yes ts true if_word i w) (bind _ (nested true (after_next ts true i) a (c_expr x (stops_at 8 close q z.ends) a)) (rw (expect-yes ts true close j q) found))
 

@@ -132,17 +132,17 @@ module _ (ts : List Token) where
   unfolding steps.equals_or_colon
   s_equals a i j = eat_or ts false k.Equal j _ _ (λ q. read (λ key value n x y. by_equals x q y)) (λ _. expected ts false k.Colon j (λ q key value n x y. by_colon x q y))
 
-  s_elem : (a : ℕ) → Sound a → (acc : List Elem) (i : ℕ) → Gives (Added a acc i) (p.element nodes ts (p.under nodes ts a).expr acc i)
-  unfolding p.element
+  s_elem : (a : ℕ) → Sound a → (acc : List Elem) (i : ℕ) → Gives (Added a acc i) (p.elem nodes ts (p.under nodes ts a).expr acc i)
+  unfolding p.elem
   s_elem a z acc i = next _ (z.whole false i) (λ key j x. next _ (s_equals a i j) (λ _ l t. next _ (z.whole false l) (λ value n y. read (added (t key value n x y)))))
 
-  s_elems : (a : ℕ) → Sound a → (turns : ℕ) (acc : List Elem) (i : ℕ) → Gives (Extends (λ xs j. IsElems ts a xs i j) acc) (p.elements_from nodes ts (p.under nodes ts a).expr turns acc i)
-  unfolding p.elements_from
+  s_elems : (a : ℕ) → Sound a → (turns : ℕ) (acc : List Elem) (i : ℕ) → Gives (Extends (λ xs j. IsElems ts a xs i j) acc) (p.elems_from nodes ts (p.under nodes ts a).expr turns acc i)
+  unfolding p.elems_from
   s_elems a z zero acc i = fault
   s_elems a z (suc turns) acc i = eat_or ts false k.CloseBrace i _ _ (λ q. read (no_more acc (no_elems q))) (λ _. next _ (s_elem a z acc i) (λ xs j x. next _ (s_sep_or_brace j) (λ b l s. by (s_elems a z turns) xs j x b l s)))
     where
-      by : ((acc : List Elem) (l : ℕ) → Gives (Extends (λ xs j. IsElems ts a xs l j) acc) (p.elements_from nodes ts (p.under nodes ts a).expr turns acc l)) → (xs : List Elem) (j : ℕ) → Added a acc i xs j → (b : Bool) (l : ℕ) → SepOrBrace j b l
-          → Gives (Extends (λ xs j. IsElems ts a xs i j) acc) ((if b then p.elements_from nodes ts (p.under nodes ts a).expr turns xs else pure xs) l)
+      by : ((acc : List Elem) (l : ℕ) → Gives (Extends (λ xs j. IsElems ts a xs l j) acc) (p.elems_from nodes ts (p.under nodes ts a).expr turns acc l)) → (xs : List Elem) (j : ℕ) → Added a acc i xs j → (b : Bool) (l : ℕ) → SepOrBrace j b l
+          → Gives (Extends (λ xs j. IsElems ts a xs i j) acc) ((if b then p.elems_from nodes ts (p.under nodes ts a).expr turns xs else pure xs) l)
       by again xs j (added {x = e} x) b l (sep s) = one_more acc e (λ _ _ r. elems x s r) (again (acc ++ e ∷ []) l)
       by again xs j (added x) b l (brace c) = read (extended (last_elem x c))
 
@@ -157,8 +157,8 @@ module _ (ts : List Token) where
   s_intro a z i =
       word_then ts true for_word i _ (λ w. expect_then ts true k.Identifier _ _ (λ n. next _ (s_second _) (λ o j s. word_then ts true in_word j _ (λ v. next _ (z.whole true _) (λ e l x. read (intro w n s v x))))))
 
-  s_filter : (a : ℕ) → Sound a → (close : Kind) (i : ℕ) → Gives (λ o j. IsFilter ts a close o i j) (p.condition nodes ts (p.under nodes ts a).expr close i)
-  unfolding p.condition
+  s_filter : (a : ℕ) → Sound a → (close : Kind) (i : ℕ) → Gives (λ o j. IsFilter ts a close o i j) (p.filter nodes ts (p.under nodes ts a).expr close i)
+  unfolding p.filter
   s_filter a z close i =
       word_or ts true if_word i i _ _ (λ w. next _ (z.whole true _) (λ e j x. expect_then ts true close j _ (λ c. read (filter w x c)))) (λ _. expect_then ts true close i _ (λ c. read (no_filter c)))
 
@@ -180,7 +180,7 @@ module _ (ts : List Token) where
       → (key : Expr) (n : ℕ) → IsExpr ts a true key (after_next ts true j) n → GivesTerm (suc a) m i (p.for_value nodes ts (p.under nodes ts a).expr (next_index ts m i) x key n)
   unfolding p.for_value
   s_for_value a z m i h x j y c key n e =
-      expect_then ts true k.FatArrow n _ (λ t. next _ (z.whole true _) (λ value o v. eat_then ts true k.Ellipsis o (λ grouped. p.condition nodes ts (p.under nodes ts a).expr k.CloseBrace >>= (λ f end. Ok (node.term (next_index ts m i) end (node.for_object x key value grouped f), end)))
+      expect_then ts true k.FatArrow n _ (λ t. next _ (z.whole true _) (λ value o v. eat_then ts true k.Ellipsis o (λ grouped. p.filter nodes ts (p.under nodes ts a).expr k.CloseBrace >>= (λ f end. Ok (node.term (next_index ts m i) end (node.for_object x key value grouped f), end)))
       (λ q. next _ (s_filter a z k.CloseBrace _) (λ f l w. read (for_object h y c e t v (ellipsis q) w))) (λ _. next _ (s_filter a z k.CloseBrace _) (λ f l w. read (for_object h y c e t v no_ellipsis w)))))
 
   s_bracket : (b : ℕ) → Below b → (m : Bool) (i : ℕ) → NextIs ts m k.OpenBracket i → GivesTerm b m i (p.tuple_or_for nodes ts b (deeper nodes ts b) (next_index ts m i) (after_next ts m i))

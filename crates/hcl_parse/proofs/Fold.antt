@@ -160,22 +160,22 @@ module _ {s t : Types} (a : Makers s) (b : Makers t) (R : Relations s t) (r : Re
     arguments zero x y i e = fault (is_syntax _)
     arguments (suc n) x y i e = branch (next_is ts true k.CloseParen i) (after_if_next ts true k.CloseParen i) _ _ _ _ (read (e, refl)) (following _ _ (h true Whole _) (λ v w j d. branch (next_is ts true k.Comma j) (after_if_next ts true k.Comma j) _ _ _ _ (arguments n _ _ _ (r.add_expr x y e v w d)) (step (expect ts true k.CloseParen _) (own_expect ts true k.CloseParen _) _ _ (λ u l. read (r.add_expr x y e v w d, refl)))))
 
-    element : (x : s.Elements) (y : t.Elements) (i : ℕ) → R.Elements x y → Alike R.Elements (g.element a ts I x i) (g.element b ts J y i)
-    unfolding g.element
-    element x y i e = following _ _ (h false Whole i) (λ v w j d. step (steps.equals_or_colon ts j) (own_equals_or_colon ts j) _ _ (λ u l. following _ _ (h false Whole l) (λ c z o f. read (r.add_element x y e v w d c z f))))
+    elem : (x : s.Elems) (y : t.Elems) (i : ℕ) → R.Elems x y → Alike R.Elems (g.elem a ts I x i) (g.elem b ts J y i)
+    unfolding g.elem
+    elem x y i e = following _ _ (h false Whole i) (λ v w j d. step (steps.equals_or_colon ts j) (own_equals_or_colon ts j) _ _ (λ u l. following _ _ (h false Whole l) (λ c z o f. read (r.add_elem x y e v w d c z f))))
 
-    elements : (n : ℕ) (x : s.Elements) (y : t.Elements) (i : ℕ) → R.Elements x y → Alike R.Elements (g.elements_from a ts I n x i) (g.elements_from b ts J n y i)
-    unfolding g.elements_from
-    elements zero x y i e = fault (is_syntax _)
-    elements (suc n) x y i e = branch (next_is ts false k.CloseBrace i) (after_if_next ts false k.CloseBrace i) _ _ _ _ (read e) (following _ _ (element x y _ e) (λ v w j d. step (eat_separator_or_brace ts j) (own_eat_separator_or_brace ts j) _ _ (λ more l. branch more l _ _ _ _ (elements n v w l d) (read d))))
+    elems : (n : ℕ) (x : s.Elems) (y : t.Elems) (i : ℕ) → R.Elems x y → Alike R.Elems (g.elems_from a ts I n x i) (g.elems_from b ts J n y i)
+    unfolding g.elems_from
+    elems zero x y i e = fault (is_syntax _)
+    elems (suc n) x y i e = branch (next_is ts false k.CloseBrace i) (after_if_next ts false k.CloseBrace i) _ _ _ _ (read e) (following _ _ (elem x y _ e) (λ v w j d. step (eat_separator_or_brace ts j) (own_eat_separator_or_brace ts j) _ _ (λ more l. branch more l _ _ _ _ (elems n v w l d) (read d))))
 
     intro : (i : ℕ) → Alike R.Intro (g.intro a ts I i) (g.intro b ts J i)
     unfolding g.intro
     intro i = step (expect_word ts true for_word i) (own_expect_word ts true for_word i) _ _ (λ u j. step (expect ts true k.Identifier j) (own_expect ts true k.Identifier j) _ _ (λ u j. step (second_name ts j) (own_second_name ts j) _ _ (λ o j. step (expect_word ts true in_word j) (own_expect_word ts true in_word j) _ _ (λ u j. following _ _ (h true Whole j) (λ x y l e. read (r.intro _ _ _ o x y e))))))
 
-    condition : (close : Kind) (i : ℕ) → Alike (InSome R.Expr) (g.condition a ts I close i) (g.condition b ts J close i)
-    unfolding g.condition
-    condition close i = branch (next_is_word ts true if_word i) i _ _ _ _ (following _ _ (h true Whole _) (λ x y j e. step (expect ts true close j) (own_expect ts true close j) _ _ (λ u l. read e))) (step (expect ts true close _) (own_expect ts true close _) _ _ (λ u l. read tt))
+    filter : (close : Kind) (i : ℕ) → Alike (InSome R.Expr) (g.filter a ts I close i) (g.filter b ts J close i)
+    unfolding g.filter
+    filter close i = branch (next_is_word ts true if_word i) i _ _ _ _ (following _ _ (h true Whole _) (λ x y j e. step (expect ts true close j) (own_expect ts true close j) _ _ (λ u l. read e))) (step (expect ts true close _) (own_expect ts true close _) _ _ (λ u l. read tt))
 
     tuple : (first i : ℕ) → Alike R.Term (g.tuple a ts I first i) (g.tuple b ts J first i)
     unfolding g.tuple
@@ -183,15 +183,15 @@ module _ {s t : Types} (a : Makers s) (b : Makers t) (R : Relations s t) (r : Re
 
     object : (first i : ℕ) → Alike R.Term (g.object a ts I first i) (g.object b ts J first i)
     unfolding g.object
-    object first i = step (skip_newlines ts i) (own_skip_newlines ts i) _ _ (λ u j. following _ _ (elements (length ts) _ _ j r.no_elements) (λ x y l e. read (r.object first l x y e)))
+    object first i = step (skip_newlines ts i) (own_skip_newlines ts i) _ _ (λ u j. following _ _ (elems (length ts) _ _ j r.no_elems) (λ x y l e. read (r.object first l x y e)))
 
     for_tuple : (first i : ℕ) → Alike R.Term (g.for_tuple a ts I first i) (g.for_tuple b ts J first i)
     unfolding g.for_tuple
-    for_tuple first i = following _ _ (intro i) (λ x y j e. step (expect ts true k.Colon j) (own_expect ts true k.Colon j) _ _ (λ u j. following _ _ (h true Whole j) (λ v w j d. following _ _ (condition k.CloseBracket j) (λ c z l f. read (r.for_tuple first l x y e v w d c z f)))))
+    for_tuple first i = following _ _ (intro i) (λ x y j e. step (expect ts true k.Colon j) (own_expect ts true k.Colon j) _ _ (λ u j. following _ _ (h true Whole j) (λ v w j d. following _ _ (filter k.CloseBracket j) (λ c z l f. read (r.for_tuple first l x y e v w d c z f)))))
 
     for_value : (first : ℕ) (x : s.Intro) (y : t.Intro) (v : s.Expr) (w : t.Expr) (i : ℕ) → R.Intro x y → R.Expr v w → Alike R.Term (g.for_value a ts I first x v i) (g.for_value b ts J first y w i)
     unfolding g.for_value
-    for_value first x y v w i e d = step (expect ts true k.FatArrow i) (own_expect ts true k.FatArrow i) _ _ (λ u j. following _ _ (h true Whole j) (λ n o j c. following _ _ (condition k.CloseBrace _) (λ q z l f. read (r.for_object first l x y e v w d n o c _ q z f))))
+    for_value first x y v w i e d = step (expect ts true k.FatArrow i) (own_expect ts true k.FatArrow i) _ _ (λ u j. following _ _ (h true Whole j) (λ n o j c. following _ _ (filter k.CloseBrace _) (λ q z l f. read (r.for_object first l x y e v w d n o c _ q z f))))
 
     for_object : (first i : ℕ) → Alike R.Term (g.for_object a ts I first i) (g.for_object b ts J first i)
     unfolding g.for_object

@@ -44,7 +44,7 @@ pub record Relations (s t : Types) : Type 1 where
   pub Tail : s.Tail → t.Tail → Type 0
   pub Tails : s.Tails → t.Tails → Type 0
   pub Names : s.Names → t.Names → Type 0
-  pub Elements : s.Elements → t.Elements → Type 0
+  pub Elems : s.Elems → t.Elems → Type 0
   pub Intro : s.Intro → t.Intro → Type 0
   pub Template : s.Template → t.Template → Type 0
   pub Part : s.Part → t.Part → Type 0
@@ -60,7 +60,7 @@ pub record Relations (s t : Types) : Type 1 where
 
 -- each maker of a makes of related parts what is related to what that of b makes
 module _ {s t : Types} (a : Makers s) (b : Makers t) (R : Relations s t) where
-  open R use {Expr, Exprs, Operations, Term, Tail, Tails, Names, Elements, Intro}
+  open R use {Expr, Exprs, Operations, Term, Tail, Tails, Names, Elems, Intro}
   open R use {Template, Part, Parts}
   open R use {Attribute, Label, Labels, Content, Member, Members, Body, Tree}
 
@@ -87,9 +87,9 @@ module _ {s t : Types} (a : Makers s) (b : Makers t) (R : Relations s t) where
     pub no_exprs : Exprs a.no_exprs b.no_exprs
     pub add_expr : (Exprs ⇒ Expr ⇒ Exprs) a.add_expr b.add_expr
     pub tuple : Node (Exprs ⇒ Term) a.tuple b.tuple
-    pub object : Node (Elements ⇒ Term) a.object b.object
-    pub no_elements : Elements a.no_elements b.no_elements
-    pub add_element : (Elements ⇒ Expr ⇒ Expr ⇒ Elements) a.add_element b.add_element
+    pub object : Node (Elems ⇒ Term) a.object b.object
+    pub no_elems : Elems a.no_elems b.no_elems
+    pub add_elem : (Elems ⇒ Expr ⇒ Expr ⇒ Elems) a.add_elem b.add_elem
     pub intro : Node (OfEach {N = ℕ} (OfEach {N = Option ℕ} (Expr ⇒ Intro))) a.intro b.intro
     pub for_tuple : Node (Intro ⇒ Expr ⇒ InSome Expr ⇒ Term) a.for_tuple b.for_tuple
     pub for_object : Node (Intro ⇒ Expr ⇒ Expr ⇒ OfEach {N = Bool} (InSome Expr ⇒ Term))

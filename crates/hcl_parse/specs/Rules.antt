@@ -40,7 +40,7 @@ abbrev pub equals_or_colon : ReaderState → Step (Unit {0})
 equals_or_colon t = steps.equals_or_colon t.tokens
 
 module _ {types : Types} (a : Makers types) (t : ReaderState) where
-  open types use {Expr, Exprs, Operations, Term, Tail, Tails, Names, Elements, Intro}
+  open types use {Expr, Exprs, Operations, Term, Tail, Tails, Names, Elems, Intro}
   open types use {Template, Part, Parts}
 
   abbrev pub expr : Step Expr
@@ -179,20 +179,20 @@ module _ {types : Types} (a : Makers types) (t : ReaderState) where
   abbrev pub arguments : Step (Exprs × Bool)
   arguments = arguments_from (length t.tokens) a.no_exprs
 
-  abbrev pub element : Elements → Step Elements
-  element found = p.element a t.tokens (p.under a t.tokens t.depth).expr found
+  abbrev pub elem : Elems → Step Elems
+  elem found = p.elem a t.tokens (p.under a t.tokens t.depth).expr found
 
-  abbrev pub elements_from : ℕ → Elements → Step Elements
-  elements_from n found = p.elements_from a t.tokens (p.under a t.tokens t.depth).expr n found
+  abbrev pub elems_from : ℕ → Elems → Step Elems
+  elems_from n found = p.elems_from a t.tokens (p.under a t.tokens t.depth).expr n found
 
-  abbrev pub elements : Step Elements
-  elements = elements_from (length t.tokens) a.no_elements
+  abbrev pub elems : Step Elems
+  elems = elems_from (length t.tokens) a.no_elems
 
   abbrev pub intro : Step Intro
   intro = p.intro a t.tokens (p.under a t.tokens t.depth).expr
 
-  abbrev pub condition : Kind → Step (Option Expr)
-  condition close = p.condition a t.tokens (p.under a t.tokens t.depth).expr close
+  abbrev pub filter : Kind → Step (Option Expr)
+  filter close = p.filter a t.tokens (p.under a t.tokens t.depth).expr close
 
   abbrev pub tuple : ℕ → Step Term
   tuple first = p.tuple a t.tokens (p.under a t.tokens t.depth).expr first

@@ -17,7 +17,8 @@ pub struct Tokens {
     pub past: u32,
 }
 
-/// What a method makes, unless memory runs out.
+/// What a method makes; `AllocError` if memory ran out, or if the builder wants no more, as that of
+/// tf_glance at a suspect node.
 pub type Made<T> = Result<T, AllocError>;
 
 /// What a rule takes, or its error.
@@ -39,7 +40,7 @@ pub trait Builder {
 
     type Names: Drop;
 
-    type Elements: Drop;
+    type Elems: Drop;
 
     type Intro: Drop;
 
@@ -73,7 +74,7 @@ pub trait Builder {
       Tail = Self.Tail;
       Tails = Self.Tails;
       Names = Self.Names;
-      Elements = Self.Elements;
+      Elems = Self.Elems;
       Intro = Self.Intro;
       Template = Self.Template;
       Part = Self.Part;
@@ -88,7 +89,7 @@ pub trait Builder {
       Tree = Self.Tree;
     }) };
 
-    /// Whether memory may run out.
+    /// Whether a method may answer `AllocError`.
     ghost may_run_out: { Bool };
 
     /// Makes a conditional.
@@ -202,22 +203,17 @@ pub trait Builder {
         ensures { IsMade may_run_out result ((make self.now).tuple at.first at.past exprs) };
 
     /// Makes an object.
-    fn object(&self, at: Tokens, elements: Self::Elements) -> Made<Self::Term>
-        ensures { IsMade may_run_out result ((make self.now).object at.first at.past elements) };
+    fn object(&self, at: Tokens, elems: Self::Elems) -> Made<Self::Term>
+        ensures { IsMade may_run_out result ((make self.now).object at.first at.past elems) };
 
     /// Makes an empty list of an object's elements.
-    fn no_elements(&self) -> Self::Elements
-        ensures { result ≡ (make self.now).no_elements };
+    fn no_elems(&self) -> Self::Elems
+        ensures { result ≡ (make self.now).no_elems };
 
     /// Adds a key and its value.
-    fn add_element(
-        &self,
-        elements: &mut Self::Elements,
-        key: Self::Expr,
-        value: Self::Expr,
-    ) -> Made<()>
-        ensures { IsAdded may_run_out result elements.new
-            ((make self.now).add_element elements.old key value) };
+    fn add_elem(&self, elems: &mut Self::Elems, key: Self::Expr, value: Self::Expr) -> Made<()>
+        ensures { IsAdded may_run_out result elems.new
+            ((make self.now).add_elem elems.old key value) };
 
     /// Makes what a `for` begins with.
     fn intro(
@@ -235,10 +231,10 @@ pub trait Builder {
         at: Tokens,
         intro: Self::Intro,
         value: Self::Expr,
-        condition: Option<Self::Expr>,
+        filter: Option<Self::Expr>,
     ) -> Made<Self::Term>
         ensures { IsMade may_run_out result
-            ((make self.now).for_tuple at.first at.past intro value condition) };
+            ((make self.now).for_tuple at.first at.past intro value filter) };
 
     /// Makes a `for` in braces.
     fn for_object(
@@ -248,10 +244,10 @@ pub trait Builder {
         key: Self::Expr,
         value: Self::Expr,
         grouped: bool,
-        condition: Option<Self::Expr>,
+        filter: Option<Self::Expr>,
     ) -> Made<Self::Term>
         ensures { IsMade may_run_out result
-            ((make self.now).for_object at.first at.past intro key value grouped condition) };
+            ((make self.now).for_object at.first at.past intro key value grouped filter) };
 
     /// Makes a quoted text.
     fn quoted(&self, at: Tokens, template: Self::Template) -> Made<Self::Term>

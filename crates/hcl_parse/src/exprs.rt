@@ -151,7 +151,8 @@ fn operand<S: Builder>(builder: &S, reader: &Reader, at: &mut u32) -> Taken<S::E
     unary::<S>(builder, reader, at)
 }
 
-/// Takes the `Unary` after a `-` or `!`, which is one construct deeper.
+/// Takes the rest of a `Unary`, after its `-` or `!`, which is token `first`. What follows is one
+/// construct deeper.
 #[cycle(nest)]
 #[inline(never)]
 fn unary_with<S: Builder>(
@@ -173,8 +174,8 @@ fn unary_with<S: Builder>(
 /// Returns whether an operand is a whole `Expr`: neither an operator comes next nor `?`.
 #[tactic(auto, unfolding(hcl_grammar::specs::Pure::Steps::eat_operator, hcl_grammar::specs::Pure::Reading::next_is))]
 fn ends(reader: &Reader, at: u32) -> bool
-    ensures quiet { result ≡ true → spec.eat_operator reader.now at ≡ Ok (None, at) }
-    ensures other { result ≡ true → tokens.next_is reader.now k.Question at ≡ false }
+    ensures operator { result ≡ true → spec.eat_operator reader.now at ≡ Ok (None, at) }
+    ensures question { result ≡ true → tokens.next_is reader.now k.Question at ≡ false }
 {
     match reader.next_kind(at) {
         Some(kind) => operator_between(kind).is_none() && !same_kind(kind, Kind::Question),

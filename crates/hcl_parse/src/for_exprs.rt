@@ -26,17 +26,17 @@ pub fn intro<S: Builder>(builder: &S, reader: &Reader, at: &mut u32) -> Taken<S:
     Ok(builder.intro(Tokens { first, past: *at }, name, second, collection))
 }
 
-/// Takes the condition of a `For`, if it has one, and the bracket that closes it.
+/// Takes the filter of a `For`, `"if" Expr`, if it has one, and the bracket that closes it.
 #[cycle(nest)]
-#[tactic(auto, unfolding(hcl_grammar::specs::Pure::Parser::condition))]
-fn condition<S: Builder>(
+#[tactic(auto, unfolding(hcl_grammar::specs::Pure::Parser::filter))]
+fn filter<S: Builder>(
     builder: &S,
     reader: &Reader,
     close: Kind,
     at: &mut u32,
 ) -> Taken<Option<S::Expr>>
     ensures { Yields S.may_run_out
-        (spec.condition (S.make builder.now) reader.now close at.old) result at.new }
+        (spec.filter (S.make builder.now) reader.now close at.old) result at.new }
 {
     let inside = reader.in_brackets();
     if !inside.eat_word(b"if", at) {
@@ -64,8 +64,8 @@ pub fn for_tuple<S: Builder>(
     let begin = intro::<S>(builder, &inside, at)?;
     inside.expect(Kind::Colon, at)?;
     let value = expr::<S>(builder, &inside, at)?;
-    let met = condition::<S>(builder, &inside, Kind::CloseBracket, at)?;
-    Ok(builder.for_tuple(Tokens { first, past: *at }, begin, value, met)?)
+    let filter = filter::<S>(builder, &inside, Kind::CloseBracket, at)?;
+    Ok(builder.for_tuple(Tokens { first, past: *at }, begin, value, filter)?)
 }
 
 /// Takes the rest of a `For` in braces, after its key.
@@ -86,8 +86,15 @@ fn for_value<S: Builder>(
     inside.expect(Kind::FatArrow, at)?;
     let value = expr::<S>(builder, &inside, at)?;
     let grouped = inside.eat(Kind::Ellipsis, at);
-    let met = condition::<S>(builder, &inside, Kind::CloseBrace, at)?;
-    Ok(builder.for_object(Tokens { first, past: *at }, begin, key, value, grouped, met)?)
+    let filter = filter::<S>(builder, &inside, Kind::CloseBrace, at)?;
+    Ok(builder.for_object(
+        Tokens { first, past: *at },
+        begin,
+        key,
+        value,
+        grouped,
+        filter,
+    )?)
 }
 
 /// Takes the rest of a `For` in braces, after its `{`, which is token `first`.

@@ -1,5 +1,5 @@
-//! What the instances of the parser have to do with one another. Each law is the contract of a
-//! function that does nothing.
+//! That the parser ends at the same place with either builder. Each law is the contract of a function
+//! that does nothing.
 
 ghost use Rattle.hcl_parse.specs.Laws.{EndAlike};
 

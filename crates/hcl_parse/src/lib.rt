@@ -1,4 +1,5 @@
-//! One parser of the HCL native syntax, generic in what it makes: nodes, or nothing.
+//! One parser of the HCL native syntax, generic in what it makes: nodes, nothing, or what a crate
+//! above wants (tf_glance).
 #![tactic(auto)]
 
 mod bodies;

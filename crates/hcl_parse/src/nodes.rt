@@ -81,7 +81,7 @@ impl Builder for Nodes {
 
     type Names = Items<u32>;
 
-    type Elements = Items<Elem>;
+    type Elems = Items<Elem>;
 
     type Intro = Intro;
 
@@ -258,25 +258,20 @@ impl Builder for Nodes {
     }
 
     #[inline]
-    fn object(&self, at: Tokens, elements: Self::Elements) -> Made<Self::Term> {
-        let elements = Boxed::new(self.alloc, elements)?;
-        Ok(term(at, Primary::Object(elements)))
+    fn object(&self, at: Tokens, elems: Self::Elems) -> Made<Self::Term> {
+        let elems = Boxed::new(self.alloc, elems)?;
+        Ok(term(at, Primary::Object(elems)))
     }
 
     #[inline]
-    fn no_elements(&self) -> Self::Elements {
+    fn no_elems(&self) -> Self::Elems {
         Items::new(self.alloc)
     }
 
     #[inline]
     #[tactic(auto, unfolding(hcl_grammar::specs::Nodes::elem))]
-    fn add_element(
-        &self,
-        elements: &mut Self::Elements,
-        key: Self::Expr,
-        value: Self::Expr,
-    ) -> Made<()> {
-        elements.push(Elem { key, value })
+    fn add_elem(&self, elems: &mut Self::Elems, key: Self::Expr, value: Self::Expr) -> Made<()> {
+        elems.push(Elem { key, value })
     }
 
     #[inline]
@@ -304,11 +299,11 @@ impl Builder for Nodes {
         at: Tokens,
         intro: Self::Intro,
         value: Self::Expr,
-        condition: Option<Self::Expr>,
+        filter: Option<Self::Expr>,
     ) -> Made<Self::Term>
-        ensures { IsMade true result (nodes.for_tuple at.first at.past intro value condition) }
+        ensures { IsMade true result (nodes.for_tuple at.first at.past intro value filter) }
     {
-        let filter = boxed_option(self.alloc, condition)?;
+        let filter = boxed_option(self.alloc, filter)?;
         let comprehension = ForTuple {
             intro,
             value,
@@ -329,12 +324,12 @@ impl Builder for Nodes {
         key: Self::Expr,
         value: Self::Expr,
         grouped: bool,
-        condition: Option<Self::Expr>,
+        filter: Option<Self::Expr>,
     ) -> Made<Self::Term>
         ensures { IsMade true result
-            (nodes.for_object at.first at.past intro key value grouped condition) }
+            (nodes.for_object at.first at.past intro key value grouped filter) }
     {
-        let filter = boxed_option(self.alloc, condition)?;
+        let filter = boxed_option(self.alloc, filter)?;
         let comprehension = ForObject {
             intro,
             key,

@@ -25,7 +25,7 @@ impl Builder for Nothing {
 
     type Names = ();
 
-    type Elements = ();
+    type Elems = ();
 
     type Intro = ();
 
@@ -177,17 +177,17 @@ impl Builder for Nothing {
     }
 
     #[inline(always)]
-    fn object(&self, _at: Tokens, _elements: ()) -> Made<()> {
+    fn object(&self, _at: Tokens, _elems: ()) -> Made<()> {
         Ok(())
     }
 
     #[inline(always)]
-    fn no_elements(&self) -> () {
+    fn no_elems(&self) -> () {
         ()
     }
 
     #[inline(always)]
-    fn add_element(&self, _elements: &mut (), _key: (), _value: ()) -> Made<()> {
+    fn add_elem(&self, _elems: &mut (), _key: (), _value: ()) -> Made<()> {
         Ok(())
     }
 
@@ -197,8 +197,8 @@ impl Builder for Nothing {
     }
 
     #[inline(always)]
-    fn for_tuple(&self, at: Tokens, intro: (), value: (), condition: Option<()>) -> Made<()>
-        ensures { IsMade false result (nothing.for_tuple at.first at.past intro value condition) }
+    fn for_tuple(&self, at: Tokens, intro: (), value: (), filter: Option<()>) -> Made<()>
+        ensures { IsMade false result (nothing.for_tuple at.first at.past intro value filter) }
     {
         Ok(())
     }
@@ -211,10 +211,10 @@ impl Builder for Nothing {
         key: (),
         value: (),
         grouped: bool,
-        condition: Option<()>,
+        filter: Option<()>,
     ) -> Made<()>
         ensures { IsMade false result
-            (nothing.for_object at.first at.past intro key value grouped condition) }
+            (nothing.for_object at.first at.past intro key value grouped filter) }
     {
         Ok(())
     }

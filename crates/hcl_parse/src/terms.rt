@@ -99,26 +99,26 @@ fn tuple<S: Builder>(builder: &S, reader: &Reader, first: u32, at: &mut u32) -> 
 /// Takes an `Elem`, and adds it to those that were found. Its first token is `next`.
 #[cycle(nest)]
 #[inline(always)]
-#[tactic(auto, unfolding(hcl_grammar::specs::Pure::Parser::element))]
-fn element<S: Builder>(
+#[tactic(auto, unfolding(hcl_grammar::specs::Pure::Parser::elem))]
+fn elem<S: Builder>(
     builder: &S,
     reader: &Reader,
     next: Next,
-    found: S::Elements,
+    found: S::Elems,
     at: &mut u32,
-) -> Taken<S::Elements>
+) -> Taken<S::Elems>
     requires number { next.0 ≡ tokens.next_index (outside_brackets reader.now) at.old }
     requires kind { next.1 ≡ tokens.next_kind (outside_brackets reader.now) at.old }
     requires fits { OnSome next.1 (next.0 + 1 < 2 ^ 32) }
     ensures { Yields S.may_run_out
-        (spec.element (S.make builder.now) reader.now found at.old) result at.new }
+        (spec.elem (S.make builder.now) reader.now found at.old) result at.new }
 {
     let lines = reader.outside_brackets();
     let mut all = found;
     let key = expr_next::<S>(builder, &lines, next, at)?;
     equals_or_colon(&lines, at)?;
     let value = expr::<S>(builder, &lines, at)?;
-    builder.add_element(&mut all, key, value)?;
+    builder.add_elem(&mut all, key, value)?;
     Ok(all)
 }
 
@@ -138,18 +138,18 @@ fn equals_or_colon(reader: &Reader, at: &mut u32) -> Taken<()>
 
 /// Takes the elements of an `Object` and the `}` after them: `(Elem (Sep Elem)* Sep?)?`.
 #[cycle(nest)]
-fn elements<S: Builder>(builder: &S, reader: &Reader, at: &mut u32) -> Taken<S::Elements>
+fn elems<S: Builder>(builder: &S, reader: &Reader, at: &mut u32) -> Taken<S::Elems>
     ensures { Yields S.may_run_out
-        (spec.elements (S.make builder.now) reader.now at.old) result at.new }
+        (spec.elems (S.make builder.now) reader.now at.old) result at.new }
 {
     let lines = reader.outside_brackets();
-    let mut found = builder.no_elements();
+    let mut found = builder.no_elems();
     for _turn in 0..lines.len() {
         let next = lines.next_token(*at);
         if lines.eat_next(next, Kind::CloseBrace, at) {
             return Ok(found);
         }
-        found = element::<S>(builder, &lines, next, found, at)?;
+        found = elem::<S>(builder, &lines, next, found, at)?;
         if !lines.eat_separator_or_brace(at)? {
             return Ok(found);
         }
@@ -165,7 +165,7 @@ fn object<S: Builder>(builder: &S, reader: &Reader, first: u32, at: &mut u32) ->
         (spec.object (S.make builder.now) reader.now first at.old) result at.new }
 {
     reader.skip_newlines(at)?;
-    let found = elements::<S>(builder, reader, at)?;
+    let found = elems::<S>(builder, reader, at)?;
     Ok(builder.object(Tokens { first, past: *at }, found)?)
 }
 

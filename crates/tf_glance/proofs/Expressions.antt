@@ -203,18 +203,18 @@ module _ (pairs : List Pair) where
 
   -- ---- elements of an object
 
-  abbrev pub ElementsOf : Bool → List Elem → Type 0
-  ElementsOf b xs = b ≡ true → AreFree pairs (flat_map elem_children xs)
+  abbrev pub ElemsOf : Bool → List Elem → Type 0
+  ElemsOf b xs = b ≡ true → AreFree pairs (flat_map elem_children xs)
 
-  elements_more : (xs : List Elem) (key e : Expr) → AreFree pairs (flat_map elem_children xs) → IsFree pairs (expr ObjectKey key) → IsFree pairs (expr ObjectValue e) → AreFree pairs (flat_map elem_children (xs ++ node.elem key e ∷ []))
+  elems_more : (xs : List Elem) (key e : Expr) → AreFree pairs (flat_map elem_children xs) → IsFree pairs (expr ObjectKey key) → IsFree pairs (expr ObjectValue e) → AreFree pairs (flat_map elem_children (xs ++ node.elem key e ∷ []))
   unfolding node.elem
-  elements_more [] key e h f g = more _ _ f (one _ g)
-  elements_more (x ∷ xs) key e (more _ _ a (more _ _ b rest)) f g = more _ _ a (more _ _ b (elements_more xs key e rest f g))
+  elems_more [] key e h f g = more _ _ f (one _ g)
+  elems_more (x ∷ xs) key e (more _ _ a (more _ _ b rest)) f g = more _ _ a (more _ _ b (elems_more xs key e rest f g))
 
-  pub elements : (b : Bool) (xs : List Elem) (k : Value) (key : Expr) (q : Value) (e : Expr) → ElementsOf b xs → ExprOf k key → ExprOf q e → ElementsOf (b && (is_clean k && is_clean q)) (xs ++ node.elem key e ∷ [])
-  elements b xs k key q e h f g = λ w.
+  pub elems : (b : Bool) (xs : List Elem) (k : Value) (key : Expr) (q : Value) (e : Expr) → ElemsOf b xs → ExprOf k key → ExprOf q e → ElemsOf (b && (is_clean k && is_clean q)) (xs ++ node.elem key e ∷ [])
+  elems b xs k key q e h f g = λ w.
       let two = right b _ w in
-      elements_more xs key e (h (left b _ w)) ((f (left (is_clean k) _ two)).0 ObjectKey) ((g (right (is_clean k) _ two)).0 ObjectValue)
+      elems_more xs key e (h (left b _ w)) ((f (left (is_clean k) _ two)).0 ObjectKey) ((g (right (is_clean k) _ two)).0 ObjectValue)
 
   -- ---- for
 

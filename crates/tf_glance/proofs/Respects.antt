@@ -13,7 +13,7 @@ use Rattle.hcl_token.specs.Tokens.{Pair}
 use Rattle.tf_glance.proofs.Blocks.{LabelOf, LabelsOf, label, no_labels, labels, blocks}
 use Rattle.tf_glance.proofs.Bodies.{AttributeOf, MemberOf, MembersOf, BodyOf, ContentOf, attributes, attribute_member, no_members, members, body, block_body, line_body}
 use Rattle.tf_glance.proofs.Chains.{OperationsOf, operations, chain}
-use Rattle.tf_glance.proofs.Expressions.{left, right, ExprOf, TermOf, TailOf, TailsOf, ExprsOf, ElementsOf, IntroOf, plain_expr, inner_term, known_tail, tails_more, postfix, exprs, tuple, elements, intro, for_tuple, for_object}
+use Rattle.tf_glance.proofs.Expressions.{left, right, ExprOf, TermOf, TailOf, TailsOf, ExprsOf, ElemsOf, IntroOf, plain_expr, inner_term, known_tail, tails_more, postfix, exprs, tuple, elems, intro, for_tuple, for_object}
 use Rattle.tf_glance.proofs.Free.{none, more, one}
 use Rattle.tf_glance.proofs.Calls.{NamesOf, names, call}
 use Rattle.tf_glance.proofs.Templates.{PartOf, PartsOf, TemplateOf, parts, template, literal, interpolation, if_directive, for_directive, quoted, heredoc}
@@ -34,7 +34,7 @@ module _ (pairs : List Pair) (assumed : BlockType) where
     Tail = TailOf pairs;
     Tails = TailsOf pairs;
     Names = NamesOf;
-    Elements = ElementsOf pairs;
+    Elems = ElemsOf pairs;
     Intro = IntroOf pairs;
     Template = TemplateOf pairs;
     Part = PartOf pairs;
@@ -83,8 +83,8 @@ module _ (pairs : List Pair) (assumed : BlockType) where
     add_expr = λ n es h q e g. exprs pairs n es q e h g;
     tuple = λ i j n es h. tuple pairs i j n es h;
     object = λ i j b xs h. inner_term pairs b i j (shape.Object xs) _ (open_object xs) refl (λ rules role. empty.none) h;
-    no_elements = λ w. none;
-    add_element = λ b xs h k key f q e g. elements pairs b xs k key q e h f g;
+    no_elems = λ w. none;
+    add_elem = λ b xs h k key f q e g. elems pairs b xs k key q e h f g;
     intro = λ i j n o q e h. intro pairs i j n o q e h;
     for_tuple = λ i j b x f q e g o c h. for_tuple pairs i j b x q e o c f g h;
     for_object = λ i j b x f k key g q e h grouped o c d. for_object pairs i j b x k key q e grouped o c f g h d;

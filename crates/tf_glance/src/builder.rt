@@ -29,7 +29,7 @@ impl<'s, 't> Builder for Summaries<'s, 't> {
 
     type Names = Option<u32>;
 
-    type Elements = bool;
+    type Elems = bool;
 
     type Intro = bool;
 
@@ -199,23 +199,18 @@ impl<'s, 't> Builder for Summaries<'s, 't> {
     }
 
     #[inline(always)]
-    fn object(&self, _at: Tokens, elements: Self::Elements) -> Made<Self::Term> {
-        plain_if(elements)
+    fn object(&self, _at: Tokens, elems: Self::Elems) -> Made<Self::Term> {
+        plain_if(elems)
     }
 
     #[inline(always)]
-    fn no_elements(&self) -> Self::Elements {
+    fn no_elems(&self) -> Self::Elems {
         true
     }
 
     #[inline(always)]
-    fn add_element(
-        &self,
-        elements: &mut Self::Elements,
-        key: Self::Expr,
-        value: Self::Expr,
-    ) -> Made<()> {
-        *elements = *elements && key.is_clean() && value.is_clean();
+    fn add_elem(&self, elems: &mut Self::Elems, key: Self::Expr, value: Self::Expr) -> Made<()> {
+        *elems = *elems && key.is_clean() && value.is_clean();
         Ok(())
     }
 
@@ -236,13 +231,13 @@ impl<'s, 't> Builder for Summaries<'s, 't> {
         at: Tokens,
         intro: Self::Intro,
         value: Self::Expr,
-        condition: Option<Self::Expr>,
+        filter: Option<Self::Expr>,
     ) -> Made<Self::Term>
         ensures { IsMade true result
             ((summaries self.now.scanned.now.pairs self.now.block_type).for_tuple at.first at.past
-            intro value condition) }
+            intro value filter) }
     {
-        plain_if(intro && value.is_clean() && is_clean_option(condition))
+        plain_if(intro && value.is_clean() && is_clean_option(filter))
     }
 
     #[inline(always)]
@@ -253,13 +248,13 @@ impl<'s, 't> Builder for Summaries<'s, 't> {
         key: Self::Expr,
         value: Self::Expr,
         grouped: bool,
-        condition: Option<Self::Expr>,
+        filter: Option<Self::Expr>,
     ) -> Made<Self::Term>
         ensures { IsMade true result
             ((summaries self.now.scanned.now.pairs self.now.block_type).for_object at.first at.past
-            intro key value grouped condition) }
+            intro key value grouped filter) }
     {
-        plain_if(intro && key.is_clean() && value.is_clean() && is_clean_option(condition))
+        plain_if(intro && key.is_clean() && value.is_clean() && is_clean_option(filter))
     }
 
     #[inline(always)]

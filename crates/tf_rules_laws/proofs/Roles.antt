@@ -22,7 +22,7 @@ use Rattle.hcl_grammar.specs.TreeLayers.{ExprKindLayer, PrimaryLayer, TailLayer,
 use Rattle.tf_rules.specs.declared.role.Role.{Role}
 use Rattle.tf_rules.specs.declared.role.Role.TheVariants.{AttributeValue, Element, ObjectKey, ObjectValue, Argument, Parentheses, Index, Interpolation, Elsewhere}
 use Rattle.tf_rules.specs.Preorder.{Node, expr, term, tail, part, member, children, nodes_of_tails, splat_after, expr_kind_children, elem_children, filter_children, primary_children, tail_children, else_children, part_children, content_children, member_children}
-use Rattle.tf_rules_laws.specs.Roles.{is_same_role, exprs_in_role, optional_condition, content_values, of_expr, of_term, of_tail, of_part, of_member, exprs_of, terms_among, term_of_expr, terms_of, leads_back_over, leads_back_to_splat, flagged_tails, tails_among, tails_of_expr, RolesAreRight}
+use Rattle.tf_rules_laws.specs.Roles.{is_same_role, exprs_in_role, optional_filter, content_values, of_expr, of_term, of_tail, of_part, of_member, exprs_of, terms_among, term_of_expr, terms_of, leads_back_over, leads_back_to_splat, flagged_tails, tails_among, tails_of_expr, RolesAreRight}
 
 if_true : {X : Type 0} (b : Bool) (x y : X) → b ≡ true → (if b then x else y) ≡ x
 if_true true x y e = refl
@@ -71,9 +71,9 @@ no_elems role h k (x ∷ xs) =
     let value = if is_same_role role ObjectValue then x.value ∷ rest else rest in
     if_false (is_same_role role ObjectKey) (x.key ∷ value) value h ∙ (if_false (is_same_role role ObjectValue) (x.value ∷ rest) rest k ∙ no_elems role h k xs)
 
-all_conditions : (o : Option Expr) → exprs_in_role Elsewhere (filter_children o) ≡ optional_condition o
-all_conditions None = refl
-all_conditions (Some e) = refl
+all_filters : (o : Option Expr) → exprs_in_role Elsewhere (filter_children o) ≡ optional_filter o
+all_filters None = refl
+all_filters (Some e) = refl
 
 no_conditions : (role : Role) → is_same_role role Elsewhere ≡ false → (o : Option Expr) → exprs_in_role role (filter_children o) ≡ []
 no_conditions role h None = refl
@@ -124,9 +124,9 @@ at_term Element (Primary-F.Tuple es) = all_exprs Element Element refl es
 at_term ObjectKey (Primary-F.Object xs) = all_keys xs
 at_term ObjectValue (Primary-F.Object xs) = all_values xs
 at_term Elsewhere (Primary-F.ForTuple f) =
-    ap (λ (es : List Expr). (out-ForTuple f).intro.collection ∷ (out-ForTuple f).value ∷ es) (all_conditions (out-ForTuple f).filter)
+    ap (λ (es : List Expr). (out-ForTuple f).intro.collection ∷ (out-ForTuple f).value ∷ es) (all_filters (out-ForTuple f).filter)
 at_term Elsewhere (Primary-F.ForObject f) =
-    ap (λ (es : List Expr). (out-ForObject f).intro.collection ∷ (out-ForObject f).key ∷ (out-ForObject f).value ∷ es) (all_conditions (out-ForObject f).filter)
+    ap (λ (es : List Expr). (out-ForObject f).intro.collection ∷ (out-ForObject f).key ∷ (out-ForObject f).value ∷ es) (all_filters (out-ForObject f).filter)
 at_term Element (Primary-F.Quoted t) = no_parts Element t.parts
 at_term Element (Primary-F.Heredoc t) = no_parts Element t.parts
 at_term role (Primary-F.Call c) = no_exprs role Argument refl (out-Call c).arguments

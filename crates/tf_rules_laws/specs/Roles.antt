@@ -108,18 +108,18 @@ operands (ExprKind-F.Unary op operand) = operand ∷ []
 operands (ExprKind-F.Postfix t tails) = []
 operands (ExprKind-F.Term t) = []
 
-abbrev pub optional_condition : Option Expr → List Expr
-optional_condition None = []
-optional_condition (Some e) = e ∷ []
+abbrev pub optional_filter : Option Expr → List Expr
+optional_filter None = []
+optional_filter (Some e) = e ∷ []
 
 -- .. a part of a `for` ..
 abbrev pub for_parts : PrimaryLayer → List Expr
 for_parts (Primary-F.ForTuple f) =
     (out-ForTuple f).intro.collection ∷ (out-ForTuple f).value
-    ∷ optional_condition (out-ForTuple f).filter
+    ∷ optional_filter (out-ForTuple f).filter
 for_parts (Primary-F.ForObject f) =
     (out-ForObject f).intro.collection ∷ (out-ForObject f).key ∷ (out-ForObject f).value
-    ∷ optional_condition (out-ForObject f).filter
+    ∷ optional_filter (out-ForObject f).filter
 for_parts _ = []
 
 -- .. or the condition of an `if` directive, the collection of a `for` directive

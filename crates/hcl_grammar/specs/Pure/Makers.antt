@@ -14,7 +14,7 @@ pub record Types : Type 1 where
   pub Tail : Type 0
   pub Tails : Type 0
   pub Names : Type 0
-  pub Elements : Type 0
+  pub Elems : Type 0
   pub Intro : Type 0
   pub Template : Type 0
   pub Part : Type 0
@@ -29,7 +29,7 @@ pub record Types : Type 1 where
   pub Tree : Type 0
 
 module _ (t : Types) where
-  open t use {Expr, Exprs, Operations, Term, Tail, Tails, Names, Elements, Intro}
+  open t use {Expr, Exprs, Operations, Term, Tail, Tails, Names, Elems, Intro}
   open t use {Template, Part, Parts}
   open t use {Attribute, Label, Labels, Content, Member, Members, Body, Tree}
 
@@ -61,15 +61,15 @@ module _ (t : Types) where
     pub no_exprs : Exprs
     pub add_expr : Exprs → Expr → Exprs
     pub tuple : ℕ → ℕ → Exprs → Term
-    pub object : ℕ → ℕ → Elements → Term
-    pub no_elements : Elements
+    pub object : ℕ → ℕ → Elems → Term
+    pub no_elems : Elems
     -- key and value
-    pub add_element : Elements → Expr → Expr → Elements
+    pub add_elem : Elems → Expr → Expr → Elems
     -- the numbers of its names, and the collection
     pub intro : ℕ → ℕ → ℕ → Option ℕ → Expr → Intro
-    -- value and condition
+    -- value and filter
     pub for_tuple : ℕ → ℕ → Intro → Expr → Option Expr → Term
-    -- key, value, whether `...` follows it, and condition
+    -- key, value, whether `...` follows it, and filter
     pub for_object : ℕ → ℕ → Intro → Expr → Expr → Bool → Option Expr → Term
     pub quoted : ℕ → ℕ → Template → Term
     pub heredoc : ℕ → ℕ → Template → Term

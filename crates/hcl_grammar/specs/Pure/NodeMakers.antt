@@ -54,7 +54,7 @@ node_types = record {
   Tail = Tail;
   Tails = List Tail;
   Names = List ℕ;
-  Elements = List Elem;
+  Elems = List Elem;
   Intro = Intro;
   Template = Template;
   Part = Part;
@@ -98,13 +98,13 @@ nodes = record {
   add_expr = λ xs x. xs ++ x ∷ [];
   tuple = λ first past xs. node.term first past (shape.Tuple xs);
   object = λ first past xs. node.term first past (shape.Object xs);
-  no_elements = [];
-  add_element = λ xs key value. xs ++ node.elem key value ∷ [];
+  no_elems = [];
+  add_elem = λ xs key value. xs ++ node.elem key value ∷ [];
   intro = node.intro;
-  for_tuple = λ first past x value condition.
-      node.term first past (node.for_tuple x value condition);
-  for_object = λ first past x key value grouped condition.
-      node.term first past (node.for_object x key value grouped condition);
+  for_tuple = λ first past x value filter.
+      node.term first past (node.for_tuple x value filter);
+  for_object = λ first past x key value grouped filter.
+      node.term first past (node.for_object x key value grouped filter);
   quoted = λ first past x. node.term first past (shape.Quoted x);
   heredoc = λ first past x. node.term first past (shape.Heredoc x);
   parens = λ first past x. node.term first past (shape.Parens x);

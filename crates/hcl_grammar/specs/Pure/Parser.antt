@@ -26,7 +26,7 @@ pub record Deeper (t : Types) : Type 0 where
   pub parts : Bool → Step t.Parts
 
 module _ {t : Types} (a : Makers t) (ts : List Token) where
-  open t use {Expr, Exprs, Operations, Term, Tail, Tails, Names, Elements, Intro}
+  open t use {Expr, Exprs, Operations, Term, Tail, Tails, Names, Elems, Intro}
   open t use {Template, Part, Parts}
 
   -- the names after the first of a function's name
@@ -67,22 +67,22 @@ module _ {t : Types} (a : Makers t) (ts : List Token) where
           pure (a.add_expr found x, expand_final)))
 
     -- Elem, added
-    unfoldable pub element : Elements → Step Elements
-    element found = do
+    unfoldable pub elem : Elems → Step Elems
+    elem found = do
       key ← inner false Whole
       equals_or_colon ts
       value ← inner false Whole
-      pure (a.add_element found key value)
+      pure (a.add_elem found key value)
 
     -- (Elem (Sep Elem)* Sep?)? and `}`
-    unfoldable pub elements_from : ℕ → Elements → Step Elements
-    elements_from zero found = syntax_fault ts false
-    elements_from (suc n) found = do
+    unfoldable pub elems_from : ℕ → Elems → Step Elems
+    elems_from zero found = syntax_fault ts false
+    elems_from (suc n) found = do
       is_closed ← eat ts false k.CloseBrace
       if is_closed then pure found else (do
-        xs ← element found
+        xs ← elem found
         more ← eat_separator_or_brace ts
-        if more then elements_from n xs else pure xs)
+        if more then elems_from n xs else pure xs)
 
     -- Intro
     unfoldable pub intro : Step Intro
@@ -98,8 +98,8 @@ module _ {t : Types} (a : Makers t) (ts : List Token) where
       pure (a.intro first end name second collection)
 
     -- ("if" Expr)? and the closing bracket
-    unfoldable pub condition : Kind → Step (Option Expr)
-    condition close = do
+    unfoldable pub filter : Kind → Step (Option Expr)
+    filter close = do
       is_there ← peek_is_word ts true if_word
       if is_there then (do
         bump_known ts true
@@ -119,7 +119,7 @@ module _ {t : Types} (a : Makers t) (ts : List Token) where
     unfoldable pub object : ℕ → Step Term
     object first = do
       skip_newlines ts
-      xs ← elements_from (length ts) a.no_elements
+      xs ← elems_from (length ts) a.no_elems
       end ← position
       pure (a.object first end xs)
 
@@ -128,7 +128,7 @@ module _ {t : Types} (a : Makers t) (ts : List Token) where
       x ← intro
       expect ts true k.Colon
       value ← inner true Whole
-      c ← condition k.CloseBracket
+      c ← filter k.CloseBracket
       end ← position
       pure (a.for_tuple first end x value c)
 
@@ -138,7 +138,7 @@ module _ {t : Types} (a : Makers t) (ts : List Token) where
       expect ts true k.FatArrow
       value ← inner true Whole
       grouped ← eat ts true k.Ellipsis
-      c ← condition k.CloseBrace
+      c ← filter k.CloseBrace
       end ← position
       pure (a.for_object first end x key value grouped c)
 

@@ -1,7 +1,7 @@
 use Rattle.std.proofs.Common.{◌∙◌, length, refl, sym, rules, arith}
 use Rattle.std.proofs.lemmas.Grind.{common_steps}
 use Rattle.hcl_reader.proofs.Turns.{one_left, none_left}
-use Rattle.hcl_grammar.specs.Pure.Parser.{deeper, arguments_from, tuple_items_from, elements_from, parts_from, operations_from, tails_from, post_by}
+use Rattle.hcl_grammar.specs.Pure.Parser.{deeper, arguments_from, tuple_items_from, elems_from, parts_from, operations_from, tails_from, post_by}
 use Rattle.hcl_parse.specs.Rules as spec
 use Rattle.hcl_parse.proofs.Ends.{expr_is, operand_is, parts_is, operand_ends, ends_tails}
 use Rattle.hcl_parse.proofs.Turns.{refused}
@@ -9,7 +9,7 @@ use Rattle.hcl_parse.proofs.+nest.Goals as goal
 
 pub exprs::after_operand-returns-then-ends : goal.exprs::after_operand-returns-then-ends
 exprs::after_operand-returns-then-ends g t c =
-    operand_ends (g.S.Builder.make c.args.builder.now) c.args.reader.now.tokens c.args.reader.now.depth (deeper (g.S.Builder.make c.args.builder.now) c.args.reader.now.tokens c.args.reader.now.depth) c.args.reader.now.skip_newlines c.args.first c.args.head c.args.at.now (c.ends.ensures.quiet c.if-ends.true) (c.ends.ensures.other c.if-ends.true)
+    operand_ends (g.S.Builder.make c.args.builder.now) c.args.reader.now.tokens c.args.reader.now.depth (deeper (g.S.Builder.make c.args.builder.now) c.args.reader.now.tokens c.args.reader.now.depth) c.args.reader.now.skip_newlines c.args.first c.args.head c.args.at.now (c.ends.ensures.operator c.if-ends.true) (c.ends.ensures.question c.if-ends.true)
 
 pub exprs::general_expr-returns : goal.exprs::general_expr-returns
 exprs::general_expr-returns g t c =
@@ -167,40 +167,40 @@ exprs::rest_of_expr-returns-then-not-has_tail g t c =
 
 -- ---- elements
 
-pub terms::elements-returns-then-eat_next : goal.terms::elements-returns-then-eat_next
-unfolding elements_from
-terms::elements-returns-then-eat_next g t c =
-    let e = one_left (λ n. spec.elements_from (g.S.Builder.make c.args.builder.now) c.args.reader.now n c.loop-turn.found c.loop-turn.at) c.loop-turn-test.true c.loop-turn.invariant in
+pub terms::elems-returns-then-eat_next : goal.terms::elems-returns-then-eat_next
+unfolding elems_from
+terms::elems-returns-then-eat_next g t c =
+    let e = one_left (λ n. spec.elems_from (g.S.Builder.make c.args.builder.now) c.args.reader.now n c.loop-turn.found c.loop-turn.at) c.loop-turn-test.true c.loop-turn.invariant in
     first_of (search rules, cc, grind (arith, common_steps))
 
-pub terms::elements-returns-in_err-found : goal.terms::elements-returns-in_err-found
-unfolding elements_from
-terms::elements-returns-in_err-found g t c =
-    let e = one_left (λ n. spec.elements_from (g.S.Builder.make c.args.builder.now) c.args.reader.now n c.loop-turn.found c.loop-turn.at) c.loop-turn-test.true c.loop-turn.invariant in
+pub terms::elems-returns-in_err-found : goal.terms::elems-returns-in_err-found
+unfolding elems_from
+terms::elems-returns-in_err-found g t c =
+    let e = one_left (λ n. spec.elems_from (g.S.Builder.make c.args.builder.now) c.args.reader.now n c.loop-turn.found c.loop-turn.at) c.loop-turn-test.true c.loop-turn.invariant in
     first_of (search rules, cc, grind (arith, common_steps))
 
-pub terms::elements-returns-in_err-eat_separator_or_brace : goal.terms::elements-returns-in_err-eat_separator_or_brace
-unfolding elements_from
-terms::elements-returns-in_err-eat_separator_or_brace g t c =
-    let e = one_left (λ n. spec.elements_from (g.S.Builder.make c.args.builder.now) c.args.reader.now n c.loop-turn.found c.loop-turn.at) c.loop-turn-test.true c.loop-turn.invariant in
+pub terms::elems-returns-in_err-eat_separator_or_brace : goal.terms::elems-returns-in_err-eat_separator_or_brace
+unfolding elems_from
+terms::elems-returns-in_err-eat_separator_or_brace g t c =
+    let e = one_left (λ n. spec.elems_from (g.S.Builder.make c.args.builder.now) c.args.reader.now n c.loop-turn.found c.loop-turn.at) c.loop-turn-test.true c.loop-turn.invariant in
     first_of (search rules, cc, grind (arith, common_steps))
 
-pub terms::elements-returns-then-not-branch : goal.terms::elements-returns-then-not-branch
-unfolding elements_from
-terms::elements-returns-then-not-branch g t c =
-    let e = one_left (λ n. spec.elements_from (g.S.Builder.make c.args.builder.now) c.args.reader.now n c.loop-turn.found c.loop-turn.at) c.loop-turn-test.true c.loop-turn.invariant in
+pub terms::elems-returns-then-not-branch : goal.terms::elems-returns-then-not-branch
+unfolding elems_from
+terms::elems-returns-then-not-branch g t c =
+    let e = one_left (λ n. spec.elems_from (g.S.Builder.make c.args.builder.now) c.args.reader.now n c.loop-turn.found c.loop-turn.at) c.loop-turn-test.true c.loop-turn.invariant in
     first_of (search rules, cc, grind (arith, common_steps))
 
-pub terms::elements-loop-turn-preserved : goal.terms::elements-loop-turn-preserved
-unfolding elements_from
-terms::elements-loop-turn-preserved g t c =
-    let e = one_left (λ n. spec.elements_from (g.S.Builder.make c.args.builder.now) c.args.reader.now n c.loop-turn.found c.loop-turn.at) c.loop-turn-test.true c.loop-turn.invariant in
+pub terms::elems-loop-turn-preserved : goal.terms::elems-loop-turn-preserved
+unfolding elems_from
+terms::elems-loop-turn-preserved g t c =
+    let e = one_left (λ n. spec.elems_from (g.S.Builder.make c.args.builder.now) c.args.reader.now n c.loop-turn.found c.loop-turn.at) c.loop-turn-test.true c.loop-turn.invariant in
     first_of (search rules, cc, grind (arith, common_steps))
 
-pub terms::elements-returns : goal.terms::elements-returns
-unfolding elements_from
-terms::elements-returns g t c =
-    let e = none_left (λ n. spec.elements_from (g.S.Builder.make c.args.builder.now) c.args.reader.now n c.loop-turn.found c.loop-turn.at) c.loop-turn-test.false c.loop-turn.invariant in
+pub terms::elems-returns : goal.terms::elems-returns
+unfolding elems_from
+terms::elems-returns g t c =
+    let e = none_left (λ n. spec.elems_from (g.S.Builder.make c.args.builder.now) c.args.reader.now n c.loop-turn.found c.loop-turn.at) c.loop-turn-test.false c.loop-turn.invariant in
     first_of (search rules, cc, grind (arith, common_steps))
 
 -- ---- parts

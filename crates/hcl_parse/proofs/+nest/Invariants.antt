@@ -98,11 +98,11 @@ decreases-terms::arguments g l = 64 * l.reader.now.depth + 33
 abbrev pub decreases-terms::tuple : goal.decreases-terms::tuple
 decreases-terms::tuple g l = 64 * l.reader.now.depth + 34
 
-abbrev pub decreases-terms::element : goal.decreases-terms::element
-decreases-terms::element g l = 64 * l.reader.now.depth + 33
+abbrev pub decreases-terms::elem : goal.decreases-terms::elem
+decreases-terms::elem g l = 64 * l.reader.now.depth + 33
 
-abbrev pub decreases-terms::elements : goal.decreases-terms::elements
-decreases-terms::elements g l = 64 * l.reader.now.depth + 34
+abbrev pub decreases-terms::elems : goal.decreases-terms::elems
+decreases-terms::elems g l = 64 * l.reader.now.depth + 34
 
 abbrev pub decreases-terms::object : goal.decreases-terms::object
 decreases-terms::object g l = 64 * l.reader.now.depth + 35
@@ -110,8 +110,8 @@ decreases-terms::object g l = 64 * l.reader.now.depth + 35
 abbrev pub decreases-for_exprs::intro : goal.decreases-for_exprs::intro
 decreases-for_exprs::intro g l = 64 * l.reader.now.depth + 33
 
-abbrev pub decreases-for_exprs::condition : goal.decreases-for_exprs::condition
-decreases-for_exprs::condition g l = 64 * l.reader.now.depth + 33
+abbrev pub decreases-for_exprs::filter : goal.decreases-for_exprs::filter
+decreases-for_exprs::filter g l = 64 * l.reader.now.depth + 33
 
 abbrev pub decreases-for_exprs::for_tuple : goal.decreases-for_exprs::for_tuple
 decreases-for_exprs::for_tuple g l = 64 * l.reader.now.depth + 34
@@ -158,8 +158,8 @@ invariant-terms::arguments-loop-turn g l = spec.arguments (g.S.Builder.make l.bu
 abbrev pub invariant-terms::tuple_items-loop-turn : goal.invariant-terms::tuple_items-loop-turn
 invariant-terms::tuple_items-loop-turn g l = spec.tuple_items (g.S.Builder.make l.builder) l.reader l.fn.at ≡ spec.tuple_items_from (g.S.Builder.make l.builder) l.reader (l._turn-end - l._turn) l.found l.at
 
-abbrev pub invariant-terms::elements-loop-turn : goal.invariant-terms::elements-loop-turn
-invariant-terms::elements-loop-turn g l = spec.elements (g.S.Builder.make l.builder) l.reader l.fn.at ≡ spec.elements_from (g.S.Builder.make l.builder) l.reader (l._turn-end - l._turn) l.found l.at
+abbrev pub invariant-terms::elems-loop-turn : goal.invariant-terms::elems-loop-turn
+invariant-terms::elems-loop-turn g l = spec.elems (g.S.Builder.make l.builder) l.reader l.fn.at ≡ spec.elems_from (g.S.Builder.make l.builder) l.reader (l._turn-end - l._turn) l.found l.at
 
 abbrev pub invariant-exprs::operations-loop-turn : goal.invariant-exprs::operations-loop-turn
 invariant-exprs::operations-loop-turn g l = spec.operations (g.S.Builder.make l.builder) l.reader l.fn.at ≡ spec.operations_from (g.S.Builder.make l.builder) l.reader (l._turn-end - l._turn) l.found l.at

@@ -104,7 +104,7 @@ summary_types = record {
   Tail = Bool;
   Tails = Bool;
   Names = Option ℕ;
-  Elements = Bool;
+  Elems = Bool;
   Intro = Bool;
   Template = Pieces;
   Part = Piece;
@@ -146,12 +146,12 @@ summaries pairs assumed = record {
   add_expr = λ xs x. add_one xs (is_clean x);
   tuple = λ _ _ xs. summary.tuple xs;
   object = λ _ _ xs. plain_if xs;
-  no_elements = true;
-  add_element = λ xs key x. xs && (is_clean key && is_clean x);
+  no_elems = true;
+  add_elem = λ xs key x. xs && (is_clean key && is_clean x);
   intro = λ _ _ _ _ x. is_clean x;
-  for_tuple = λ _ _ i x condition. plain_if (i && (is_clean x && is_clean_option condition));
-  for_object = λ _ _ i key x _ condition.
-      plain_if (i && (is_clean key && (is_clean x && is_clean_option condition)));
+  for_tuple = λ _ _ i x filter. plain_if (i && (is_clean x && is_clean_option filter));
+  for_object = λ _ _ i key x _ filter.
+      plain_if (i && (is_clean key && (is_clean x && is_clean_option filter)));
   quoted = λ _ _ x. summary.quoted x;
   heredoc = λ _ _ x. plain_if (is_clean_pieces x);
   parens = λ _ _ x. plain_if (is_clean x);
