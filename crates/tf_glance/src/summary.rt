@@ -1,6 +1,6 @@
 //! Summaries of nodes: of each, whether it is clean or suspect, and what the rules on the nodes
-//! around it need (those of tf_rules, and more). A node is clean if no rule finds anything in it,
-//! suspect if one may.
+//! around it need. `Value`, `Count` and `Pieces` are of tf_rules. A node is clean if no rule finds
+//! anything in it, suspect if one may.
 
 ghost use Rattle.std.specs.Prelude.{◌≡◌, IfOk};
 ghost use Rattle.tf_glance.specs.Inner.Summary as spec;
