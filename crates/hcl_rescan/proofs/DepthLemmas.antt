@@ -10,7 +10,7 @@ use Rattle.hcl_scan.specs.Modes.{Mode, mode_of, is_in_sequence, is_braces, after
 use Rattle.hcl_scan.specs.Modes.Mode.{Expression, Sequence, Braces, Quoted, Heredoc}
 use Rattle.hcl_scan.specs.Lexeme.{is_allowed_in}
 use Rattle.hcl_scan.specs.Follows.{FollowsFrom}
-use Rattle.hcl_rescan.specs.Inner.WholeLines.{IsLineStart, depth_after}
+use Rattle.hcl_rescan.specs.Inner.WholeLines.{IsLineStart, openings_after}
 use Rattle.hcl_scan.proofs.PairLemmas.{modes_after_pairs}
 use Rattle.hcl_rescan.proofs.LineLemmas.{modes_more, one_at, range_more, pair_there, kind_is}
 
@@ -65,7 +65,7 @@ within_length (Braces ∷ modes) = refl
 within_length (Quoted ∷ modes) = refl
 within_length (Heredoc name at_line_start ∷ modes) = refl
 
-depth_is : (kind : Kind) (s : List ℕ) (modes : List Mode) → is_allowed_in (mode_of modes) kind ≡ true → AreOpened modes → length (modes_after kind s modes) ≡ depth_after kind (length modes)
+depth_is : (kind : Kind) (s : List ℕ) (modes : List Mode) → is_allowed_in (mode_of modes) kind ≡ true → AreOpened modes → length (modes_after kind s modes) ≡ openings_after kind (length modes)
 depth_is QuoteOpen s modes st h = omega arith
 depth_is HereOpen s modes st h = omega arith
 depth_is InterpOpen s modes st h = omega (arith, within_length modes)
@@ -99,7 +99,7 @@ allowed_after (p ∷ ps) q qs modes last f = allowed_after ps q qs (modes_after 
 
 -- after one more token
 pub depth_more : (tokenized : TokenizedText) (from at i depth : ℕ) (kind : Kind) → IsLineStart tokenized from at → from ≤ i → i < length tokenized.pairs → Some kind ≡ kind_of tokenized.pairs i
-    → depth ≡ length (modes_after_pairs [] (slice_range tokenized.pairs from i)) → depth_after kind depth ≡ length (modes_after_pairs [] (slice_range tokenized.pairs from (i + 1)))
+    → depth ≡ length (modes_after_pairs [] (slice_range tokenized.pairs from i)) → openings_after kind depth ≡ length (modes_after_pairs [] (slice_range tokenized.pairs from (i + 1)))
 depth_more tokenized from at i depth kind f le within is so_far =
     let there = pair_there tokenized.pairs i within in
     let p : Pair = there.0 in
@@ -108,9 +108,9 @@ depth_more tokenized from at i depth kind f le within is so_far =
     let split : drop from tokenized.pairs ≡ before ++ p ∷ rest = drop_split tokenized.pairs from i le ∙ ap (λ (x : List Pair). before ++ x) (one_at tokenized.pairs i p there.1) in
     let follow : FollowsFrom [] (before ++ p ∷ rest) tokenized.last [] = subst (λ (x : List Pair). FollowsFrom [] x tokenized.last []) split f.rest.follow in
     let modes : List Mode = modes_after_pairs [] before in
-    let one : length (modes_after p.kind p.spelling modes) ≡ depth_after p.kind (length modes) = depth_is p.kind p.spelling modes (allowed_after before p rest [] tokenized.last follow) (opened_after_pairs before [] tt) in
+    let one : length (modes_after p.kind p.spelling modes) ≡ openings_after p.kind (length modes) = depth_is p.kind p.spelling modes (allowed_after before p rest [] tokenized.last follow) (opened_after_pairs before [] tt) in
     let more : modes_after_pairs [] (slice_range tokenized.pairs from (i + 1)) ≡ modes_after p.kind p.spelling modes = ap (modes_after_pairs []) (range_more tokenized.pairs from i p le there.1) ∙ modes_more before p [] in
-    ap₂ depth_after (sym (kind_is tokenized.pairs i p kind there.1 is)) so_far ∙ sym one ∙ ap length (sym more)
+    ap₂ openings_after (sym (kind_is tokenized.pairs i p kind there.1 is)) so_far ∙ sym one ∙ ap length (sym more)
 
 -- where none is open
 pub none_open : (modes : List Mode) (depth : ℕ) → depth ≡ length modes → depth ≡ 0 → modes ≡ []

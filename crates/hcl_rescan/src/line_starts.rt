@@ -3,7 +3,7 @@
 ghost use Rattle.std.specs.Prelude.{◌≡◌, ◌<◌, ◌≤◌, ◌+◌, ◌^◌, true, Some, length, IfSome};
 ghost use Rattle.hcl_token.specs.declared.kind.Kind.TheVariants.{LineEnd};
 ghost use Rattle.hcl_token.specs.TokenizedText.{kind_of};
-ghost use Rattle.hcl_rescan.specs.Inner.WholeLines.{IsLineRange, IsLineStart, depth_after};
+ghost use Rattle.hcl_rescan.specs.Inner.WholeLines.{IsLineRange, IsLineStart, openings_after};
 
 use crate::sequences::{close_what_they_open, first_beyond};
 use crate::stretches::span_range;
@@ -74,7 +74,7 @@ fn last_line_start_by_depth(old: &Scanned<'_>, from: LineStart, limit: usize) ->
             }
             to = LineStart { index: i + 1, at };
         } else {
-            depth = depth_after(kind, depth);
+            depth = openings_after(kind, depth);
         }
     }
     to
@@ -101,7 +101,7 @@ pub(crate) fn next_line_start(old: &Scanned<'_>, from: LineStart, limit: usize) 
                 return Some(LineStart { index: i + 1, at });
             }
         } else {
-            depth = depth_after(kind, depth);
+            depth = openings_after(kind, depth);
         }
     }
     None
@@ -124,9 +124,9 @@ pub(crate) fn is_line_end(kind: Kind) -> bool
 
 /// Returns how many openings are open after a token of the kind, if `depth` are before it. A brace
 /// opens something in a template alone.
-fn depth_after(kind: Kind, depth: usize) -> usize
+fn openings_after(kind: Kind, depth: usize) -> usize
     requires { depth + 1 < 2 ^ 64 }
-    ensures value { result ≡ depth_after kind depth }
+    ensures value { result ≡ openings_after kind depth }
     ensures small { result ≤ depth + 1 }
 {
     match kind {

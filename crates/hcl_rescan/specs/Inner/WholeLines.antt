@@ -13,17 +13,17 @@ use Rattle.hcl_scan.specs.Follows.{FollowsFrom, AreApart}
 
 -- how many openings are open after a token of the kind, if `depth` are before it: a `{` is one only
 -- inside another
-abbrev pub depth_after : Kind → ℕ → ℕ
-depth_after QuoteOpen depth = depth + 1
-depth_after HereOpen depth = depth + 1
-depth_after InterpOpen depth = depth + 1
-depth_after DirectiveOpen depth = depth + 1
-depth_after OpenBrace depth = depth + min depth 1
-depth_after QuoteClose depth = depth - 1
-depth_after HereClose depth = depth - 1
-depth_after SeqClose depth = depth - 1
-depth_after CloseBrace depth = depth - 1
-depth_after kind depth = depth
+abbrev pub openings_after : Kind → ℕ → ℕ
+openings_after QuoteOpen depth = depth + 1
+openings_after HereOpen depth = depth + 1
+openings_after InterpOpen depth = depth + 1
+openings_after DirectiveOpen depth = depth + 1
+openings_after OpenBrace depth = depth + min depth 1
+openings_after QuoteClose depth = depth - 1
+openings_after HereClose depth = depth - 1
+openings_after SeqClose depth = depth - 1
+openings_after CloseBrace depth = depth - 1
+openings_after kind depth = depth
 
 -- nothing, or the last token ends a line
 abbrev pub EndsWithLineEnd : List Pair → Type 0

@@ -1,6 +1,6 @@
 use Rattle.std.proofs.Common.{◌≡◌, ◌≤◌, ◌<◌, ◌+◌, length, [], slice_range, arith, ap, refl, subst, sym, ◌∙◌}
 use Rattle.hcl_rescan.specs.declared.line_starts.LineStart.{LineStart}
-use Rattle.hcl_rescan.specs.Inner.WholeLines.{IsLineStart, IsLineRange, depth_after}
+use Rattle.hcl_rescan.specs.Inner.WholeLines.{IsLineStart, IsLineRange, openings_after}
 use Rattle.hcl_scan.proofs.PairLemmas.{modes_after_pairs}
 use Rattle.hcl_rescan.proofs.LineLemmas.{line_start_at_line_end}
 use Rattle.hcl_rescan.proofs.DepthLemmas.{depth_more, none_open}
@@ -18,7 +18,7 @@ loop-i-preserved c =
     let known = c.loop-i.invariant in
     let ordered : from ≤ i = omega arith in
     let within : i < length old.pairs = omega arith in
-    let more : depth_after kind depth ≡ length (modes_after_pairs [] (slice_range old.pairs from (i + 1))) = depth_more old from at i depth kind c.requires ordered within c.kind-kind.ensures known.depth in
+    let more : openings_after kind depth ≡ length (modes_after_pairs [] (slice_range old.pairs from (i + 1))) = depth_more old from at i depth kind c.requires ordered within c.kind-kind.ensures known.depth in
     elim c.if-ends_top_level_line.branch [
       | then-ends_top_level_line+else-at-limit w ↦
           let end = w.if-ends_top_level_line.ensures in
@@ -27,14 +27,14 @@ loop-i-preserved c =
           record {
             line_start = subst (λ (t : LineStart). IsLineStart old t.index t.at) (sym w.to-is) line.0;
             lines = subst (λ (t : LineStart). IsLineRange old.pairs from t.index) (sym w.to-is) line.1;
-            depth = w.depth-is ∙ sym (ap (λ k. depth_after k depth) (end.kind refl)) ∙ more;
+            depth = w.depth-is ∙ sym (ap (λ k. openings_after k depth) (end.kind refl)) ∙ more;
             few = omega (arith, w.depth-is, known.few);
           }
       | else-ends_top_level_line w ↦
           record {
             line_start = subst (λ (t : LineStart). IsLineStart old t.index t.at) (sym w.to-is) known.line_start;
             lines = subst (λ (t : LineStart). IsLineRange old.pairs from t.index) (sym w.to-is) known.lines;
-            depth = w.depth-is ∙ w.depth_after-depth.ensures.value ∙ more;
-            few = omega (arith, w.depth-is, w.depth_after-depth.ensures.small, known.few);
+            depth = w.depth-is ∙ w.openings_after-depth.ensures.value ∙ more;
+            few = omega (arith, w.depth-is, w.openings_after-depth.ensures.small, known.few);
           }
     ]

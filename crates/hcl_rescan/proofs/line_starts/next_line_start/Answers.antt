@@ -1,5 +1,5 @@
 use Rattle.std.proofs.Common.{◌≡◌, ◌≤◌, ◌<◌, ◌+◌, length, [], slice_range, arith, ap, refl, sym, ◌∙◌}
-use Rattle.hcl_rescan.specs.Inner.WholeLines.{depth_after}
+use Rattle.hcl_rescan.specs.Inner.WholeLines.{openings_after}
 use Rattle.hcl_scan.proofs.PairLemmas.{modes_after_pairs}
 use Rattle.hcl_rescan.proofs.LineLemmas.{line_start_at_line_end}
 use Rattle.hcl_rescan.proofs.DepthLemmas.{depth_more, none_open}
@@ -24,5 +24,5 @@ loop-i-preserved c =
     let known = c.loop-i.invariant in
     let ordered : from ≤ i = omega arith in
     let within : i < length old.pairs = omega arith in
-    let more : depth_after kind depth ≡ length (modes_after_pairs [] (slice_range old.pairs from (i + 1))) = depth_more old from c.args.from.at i depth kind c.requires ordered within c.kind-kind.ensures known.depth in
-    elim c.if-ends_top_level_line.branch [ then-ends_top_level_line+else-at-limit w ↦ record { depth = w.depth-is ∙ sym (ap (λ k. depth_after k depth) (w.if-ends_top_level_line.ensures.kind refl)) ∙ more; few = omega (arith, w.depth-is, known.few) } | else-ends_top_level_line w ↦ record { depth = w.depth-is ∙ w.depth_after-depth.ensures.value ∙ more; few = omega (arith, w.depth-is, w.depth_after-depth.ensures.small, known.few) } ]
+    let more : openings_after kind depth ≡ length (modes_after_pairs [] (slice_range old.pairs from (i + 1))) = depth_more old from c.args.from.at i depth kind c.requires ordered within c.kind-kind.ensures known.depth in
+    elim c.if-ends_top_level_line.branch [ then-ends_top_level_line+else-at-limit w ↦ record { depth = w.depth-is ∙ sym (ap (λ k. openings_after k depth) (w.if-ends_top_level_line.ensures.kind refl)) ∙ more; few = omega (arith, w.depth-is, known.few) } | else-ends_top_level_line w ↦ record { depth = w.depth-is ∙ w.openings_after-depth.ensures.value ∙ more; few = omega (arith, w.depth-is, w.openings_after-depth.ensures.small, known.few) } ]
