@@ -5,8 +5,6 @@ use Rattle.std.specs.Fmt.{decimal}
 use Rattle.hcl_token.specs.declared.limit.TheConstants.{MAX_TEXT}
 use Rattle.edit_record.specs.Lists.ChangeResults.{refused_message}
 use Rattle.edit_record.specs.declared.fault.RecordFault.{RecordFault}
-use Rattle.edit_record.specs.declared.fault.RecordFault.TheVariants.{BadHead, BadNumber, CutShort, BadEdits}
-use Rattle.edit_record.specs.declared.fault.RecordFault.TheVariants.{BadEnd, BadSteps}
 use Rattle.tf_rules.specs.Table.{name_of}
 use Rattle.tf_session.specs.declared.command.Fault.{Fault}
 use Rattle.tf_session.specs.declared.fault.RunFault.{RunFault}
@@ -22,13 +20,8 @@ run_fault_of Fault.Memory = RunFault.Memory
 run_fault_of (Fault.Blocked number) = RunFault.Blocked number
 
 abbrev pub run_fault_of_record : RecordFault → RunFault
-run_fault_of_record (BadHead at) = RunFault.BadJournal (BadHead at)
-run_fault_of_record (BadNumber at) = RunFault.BadJournal (BadNumber at)
-run_fault_of_record (CutShort at) = RunFault.BadJournal (CutShort at)
-run_fault_of_record (BadEdits at) = RunFault.BadJournal (BadEdits at)
-run_fault_of_record (BadEnd at) = RunFault.BadJournal (BadEnd at)
 run_fault_of_record RecordFault.Memory = RunFault.Memory
-run_fault_of_record (BadSteps at) = RunFault.BadJournal (BadSteps at)
+run_fault_of_record fault = RunFault.BadJournal fault
 
 -- What is written of an error; nothing is stated of a message that is another crate's, but of that
 -- of a record that does not fit.

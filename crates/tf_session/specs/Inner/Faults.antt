@@ -25,9 +25,8 @@ fault_of_lint LintFault.TooLong = Fault.TooLong
 fault_of_lint LintFault.Memory = Fault.Memory
 
 abbrev pub fault_of_refused : Refused → Fault
-fault_of_refused (Refused.Length expected found) = Fault.Refused (Refused.Length expected found)
-fault_of_refused (Refused.Differs step edit) = Fault.Refused (Refused.Differs step edit)
 fault_of_refused Refused.Memory = Fault.Memory
+fault_of_refused refused = Fault.Refused refused
 
 abbrev pub run_fault_of_read : ReadFault → RunFault
 run_fault_of_read ReadFault.Read = RunFault.Read
