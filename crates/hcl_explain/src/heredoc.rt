@@ -62,8 +62,8 @@ fn last_less(alloc: Global, text: &[u8]) -> Result<Option<usize>, AllocError>
     }
 }
 
-/// Returns no place, or that memory ran out if that is the error.
-fn none_unless_memory(fault: ScanFault) -> Result<Option<usize>, AllocError>
+/// Returns that there is nothing to say, or that memory ran out if that is the error.
+pub fn none_unless_memory<T>(fault: ScanFault) -> Result<Option<T>, AllocError>
     ensures none { IfOk result (λ o. o ≡ None) }
     ensures memory { fault ≡ Memory → IsErr result }
 {

@@ -1,12 +1,12 @@
 //! The place and the sentence of an error of a text.
 
-ghost use Rattle.std.specs.Prelude.{◌≡◌, IfOk, IfSome, IfNone, IsErr, None};
-ghost use Rattle.hcl_scan.specs.declared.fault.ScanFault.TheVariants.{Memory};
+ghost use Rattle.std.specs.Prelude.{◌≡◌, IfOk, IfSome, IfNone, None};
 ghost use Rattle.hcl_explain.specs.Explanations.{IsAtNoToken};
 ghost use Rattle.hcl_explain.specs.ScanExplanations.{IsScanExplanation};
 ghost use Rattle.hcl_explain.specs.Said.{IsSaidOfScan, IsSaidOfParse, IsAtNoTokenOf};
 
 use crate::explanation::explain;
+use crate::heredoc::none_unless_memory;
 use crate::scan_error::explain_scan;
 use hcl_scan::{ScanFault, Scanned, scan};
 use hcl_text_laws::ParseFault;
@@ -64,17 +64,6 @@ pub fn say_parse_fault(
     match scan(alloc, text) {
         Ok(scanned) => say_of_tokens(alloc, &scanned, fault),
         Err(fault) => none_unless_memory(fault),
-    }
-}
-
-/// Returns that nothing is said, or that memory ran out if that is the error.
-fn none_unless_memory(fault: ScanFault) -> Result<Option<Said>, AllocError>
-    ensures none { IfOk result (λ o. o ≡ None) }
-    ensures memory { fault ≡ Memory → IsErr result }
-{
-    match fault {
-        ScanFault::Memory => Err(AllocError),
-        _ => Ok(None),
     }
 }
 
