@@ -4,7 +4,8 @@ use Rattle.std.specs.List.{prefix_len, list_all, list_any, onto_first}
 use Rattle.std.proofs.lemmas.Bool.{false≢true, false_from_ne_true, and_parts, or_cases, eqb-true, eqb-false, eq-eqb, ne_eqb, lt-ltb}
 use Rattle.tf_rules.specs.declared.rule.Rule.{Rule}
 use Rattle.tf_findings.specs.declared.silencing.class.ByteClass.TheVariants.{Whitespace, NameByte, NotHash}
-use Rattle.tf_findings.specs.Comments.{is_whitespace, is_name_byte, trimmed_start, trimmed_end, trimmed, ends_in_whitespace, strip_prefix, before_hash, has_hash, split_at_commas, is_name, means_rule, list_silences, rest_silences, text_silences}
+use Rattle.hcl_scan.specs.Characters.{is_whitespace}
+use Rattle.tf_findings.specs.Comments.{is_name_byte, trimmed_start, trimmed_end, trimmed, ends_in_whitespace, strip_prefix, before_hash, has_hash, split_at_commas, is_name, means_rule, list_silences, rest_silences, text_silences}
 use Rattle.tf_findings.specs.Inner.ByteCounts as counted
 
 -- ---- counts

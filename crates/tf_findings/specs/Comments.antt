@@ -5,14 +5,11 @@ use Rattle.std.specs.Prelude.{ℕ, ◌-◌, nat_le, nat_lt, not, ◌&&◌, ◌||
 use Rattle.std.specs.Prelude.{drop, length, map, slice_index, codes, Option, Some, None, if◌then◌else◌}
 use Rattle.std.specs.List.{list_all, list_any, before_first, slice_split}
 use Rattle.std.specs.Str.{byte, bytes_eq}
+use Rattle.hcl_scan.specs.Characters.{is_whitespace}
 use Rattle.hcl_token.specs.declared.kind.Kind.{Kind}
 use Rattle.hcl_token.specs.declared.kind.Kind.TheVariants.{LineComment, InlineComment}
 use Rattle.tf_rules.specs.declared.rule.Rule.{Rule}
 use Rattle.tf_rules.specs.Table.{name_of}
-
--- a space or a tab
-abbrev pub is_whitespace : ℕ → Bool
-is_whitespace b = b == byte " " || b == byte "\t"
 
 -- an ASCII letter, a digit, `_` or `-`
 abbrev pub is_name_byte : ℕ → Bool

@@ -33,7 +33,7 @@ use Rattle.tf_rules.specs.Table.{is_comment_rule}
 use Rattle.tf_fix.specs.Edits.Parts.{TextPart, parts_of, text_of_parts}
 use Rattle.tf_fix.specs.Edits.Parts.TextPart.{Gap, Token}
 use Rattle.tf_fix.specs.JoinedTokens.{Prev, joins_prev}
-use Rattle.tf_fix.specs.Edits.SettledSpaces.{prev_after}
+use Rattle.tf_fix.specs.Edits.SettledSpaces.{prev_of_parts}
 use Rattle.tf_fix.specs.Selection.{selected}
 use Rattle.tf_fix.proofs.PairLemmas.{parts_append, pairs_settled}
 use Rattle.tf_fix.proofs.PartLemmas.{known, take_range}
@@ -247,7 +247,7 @@ comments_apart prev at pairs last (f ∷ fs) are a =
     let both = apart_parts prev (pairs_parts before) (Gap p.gap ∷ Token p.kind p.spelling ∷ old) (subst (Apart prev) split a) in
     let following : Apart (Some (LineComment, p.spelling)) old = subst (λ k. Apart (Some (k, p.spelling)) old) t.kind (token_after _ p.gap p.kind p.spelling old both.1) in
     let rest = comments_apart (Some (LineComment, codes "#" ++ drop 2 p.spelling)) f.past pairs last fs are.2 (other_comment p.spelling (codes "#" ++ drop 2 p.spelling) old following) in
-    let here = hash_apart (prev_after prev (pairs_parts before)) p.gap (drop 2 p.spelling) p.kind (parts_of more last) t.kind rest in
+    let here = hash_apart (prev_of_parts prev (pairs_parts before)) p.gap (drop 2 p.spelling) p.kind (parts_of more last) t.kind rest in
     let joined = apart_join prev (pairs_parts before) (Gap p.gap ∷ Token p.kind (codes "#" ++ drop 2 p.spelling) ∷ parts_of more last) both.0 here in
     let now : parts_of (fixed_pairs_from at pairs (f ∷ fs)) last ≡ pairs_parts before ++ (Gap p.gap ∷ Token p.kind (codes "#" ++ drop 2 p.spelling) ∷ parts_of more last) =
     ap (λ ps. parts_of (before ++ (ps ++ more)) last) t.has_fix ∙ parts_append before (fixed_comment p ∷ more) last in

@@ -26,8 +26,8 @@ use Rattle.tf_fix.specs.Edits.FindingReplacements.{inserted_parts, replacements_
 use Rattle.tf_fix.specs.Edits.Parts.{TextPart, parts_of, text_of_parts, boundary_index}
 use Rattle.tf_fix.specs.Edits.Parts.TextPart.{Gap, Token}
 use Rattle.tf_fix.specs.Edits.Replacements.{Replacement, stays_until, space_before, pieces_from}
-use Rattle.tf_fix.specs.JoinedTokens.{Prev, joins_prev, space}
-use Rattle.tf_fix.specs.Edits.SettledSpaces.{prev_after, settled}
+use Rattle.tf_fix.specs.JoinedTokens.{Prev, joins_prev, one_space}
+use Rattle.tf_fix.specs.Edits.SettledSpaces.{prev_of_parts, settled}
 use Rattle.tf_fix.specs.declared.boundary.Boundary.{Boundary}
 use Rattle.tf_fix.specs.declared.boundary.Boundary.TheVariants.{Gap as BeforeGap, Token as BeforeToken}
 use Rattle.tf_fix.proofs.PartLemmas.{known, token_first, range_first, length_written}
@@ -147,7 +147,7 @@ selected_real pairs last at (f ∷ fs) are following =
 -- ---- so each changed piece is an edit
 
 longer_if : (met : Bool) (k : Kind) (s : List ℕ) (rest : List TextPart) (n : ℕ) → n ≤ length (text_of_parts rest)
-    → length s + n ≤ length (text_of_parts (if met then Gap space ∷ Token k s ∷ rest else Token k s ∷ rest))
+    → length s + n ≤ length (text_of_parts (if met then Gap one_space ∷ Token k s ∷ rest else Token k s ∷ rest))
 longer_if true k s rest n le = omega (arith, le, length-append s (text_of_parts rest))
 longer_if false k s rest n le = omega (arith, le, length-append s (text_of_parts rest))
 
@@ -163,7 +163,7 @@ settled_longer prev (Token k s ∷ xs) =
 pub real_changes : (prev : Prev) (at : ℕ) (xs : List TextPart) (rs : List Replacement) → AreReal xs rs → ChangesAreNonempty (pieces_from prev at xs rs)
 real_changes prev at xs [] are = tt
 real_changes prev at xs (r ∷ rs) are =
-    let there = prev_after prev (slice_range xs at r.from) in
+    let there = prev_of_parts prev (slice_range xs at r.from) in
     let more = settled_longer there r.inserted_parts in
-    let whole = length-append (text_of_parts (settled there r.inserted_parts)) (space_before (prev_after there r.inserted_parts) (stays_until r.to xs rs)) in
-    (omega (arith, are.0, more, whole), real_changes (prev_after there r.inserted_parts) r.to xs rs are.1)
+    let whole = length-append (text_of_parts (settled there r.inserted_parts)) (space_before (prev_of_parts there r.inserted_parts) (stays_until r.to xs rs)) in
+    (omega (arith, are.0, more, whole), real_changes (prev_of_parts there r.inserted_parts) r.to xs rs are.1)

@@ -15,7 +15,7 @@ use Rattle.tf_rules.specs.declared.fix.Insertion.{Insertion}
 use Rattle.tf_rules.specs.declared.fix.Insertion.TheVariants.{Nothing}
 use Rattle.tf_rules.specs.declared.fix.KeptTokens.{KeptTokens}
 use Rattle.tf_rules.specs.declared.rule.Rule.{Rule}
-use Rattle.tf_fix.specs.StepText.{gap_at, with_gap, inserted_and_kept_pairs, fixed_pairs, fixed_pairs_from, settled_pair, settled_pairs, fix_step_text}
+use Rattle.tf_fix.specs.StepText.{gap_at, with_first_gap, inserted_and_kept_pairs, fixed_pairs, fixed_pairs_from, settled_pair, settled_pairs, fix_step_text}
 use Rattle.tf_rules.specs.ValidFindings.{AreValidFindings, ChangesEnd, AreInOrder}
 use Rattle.tf_fix.specs.Inner.Nonempty.{HasValidFix}
 use Rattle.tf_rules.specs.declared.rule.Rule.TheVariants.{CommentSyntax}
@@ -27,7 +27,7 @@ use Rattle.tf_rules.specs.Table.{is_comment_rule}
 use Rattle.tf_fix.specs.Edits.Parts.{TextPart, parts_of, parts, text_of_parts, boundary_index}
 use Rattle.tf_fix.specs.Edits.Parts.TextPart.{Gap, Token}
 use Rattle.tf_fix.specs.Edits.Replacements.{Replacement, replaced_from, replaced_text}
-use Rattle.tf_fix.specs.JoinedTokens.{Prev, joins_prev, space}
+use Rattle.tf_fix.specs.JoinedTokens.{Prev, joins_prev, one_space}
 use Rattle.tf_fix.specs.Edits.SettledSpaces.{settled}
 use Rattle.tf_fix.specs.Selection.{selected}
 use Rattle.tf_fix.specs.declared.boundary.Boundary.{Boundary}
@@ -74,7 +74,7 @@ open_range pairs last a b le within =
     ∙ ap (λ g. pairs_parts (slice_range pairs a b) ++ Gap g ∷ []) gap
 
 -- from a token on, after another gap
-inner_range : (pairs : List Pair) (last gap : List ℕ) (a b : ℕ) → a < b → b ≤ length pairs → Gap gap ∷ slice_range (parts_of pairs last) (2 * a + 1) (2 * b) ≡ pairs_parts (with_gap gap (slice_range pairs a b))
+inner_range : (pairs : List Pair) (last gap : List ℕ) (a b : ℕ) → a < b → b ≤ length pairs → Gap gap ∷ slice_range (parts_of pairs last) (2 * a + 1) (2 * b) ≡ pairs_parts (with_first_gap gap (slice_range pairs a b))
 inner_range pairs last gap a b lt within =
     let (p, found, leading) = known pairs a (omega (arith, lt, within)) in
     let xs = parts_of pairs last in
@@ -85,7 +85,7 @@ inner_range pairs last gap a b lt within =
     ∙ ap (take (2 * b - (2 * a + 1))) (drop-drop 1 (2 * a) xs) in
     let pairs_are = whole_range pairs last a b (omega (arith, lt)) within ∙ ap pairs_parts side in
     ap (λ t. Gap gap ∷ t) (sym whole ∙ ap (drop 1) pairs_are)
-    ∙ sym (ap (λ t. pairs_parts (with_gap gap t)) side)
+    ∙ sym (ap (λ t. pairs_parts (with_first_gap gap t)) side)
 
 -- from a place on, what is before the first that is kept stays
 from_place : (pairs : List Pair) (last : List ℕ) (first a : ℕ) (from : Boundary) (w : Insertion) (kept : List (Option KeptTokens)) (past : ℕ) (rs : List Replacement)
@@ -105,12 +105,12 @@ from_place pairs last first a from w (Some k ∷ kept) past rs =
 -- a range that is kept, and what follows it
 kept_one : (pairs : List Pair) (last gap : List ℕ) (first past : ℕ) (k : KeptTokens) (kept : List (Option KeptTokens)) (rs : List Replacement) (following : List TextPart) → k.from < k.to → k.to ≤ length pairs
     → replaced_from (2 * k.to) (parts_of pairs last) (replacements_from pairs first (BeforeGap k.to) k.after kept past ++ rs) ≡ following
-    → Gap gap ∷ replaced_from (2 * k.from + 1) (parts_of pairs last) (replacements_from pairs first (BeforeGap k.to) k.after kept past ++ rs) ≡ pairs_parts (with_gap gap (slice_range pairs k.from k.to)) ++ following
+    → Gap gap ∷ replaced_from (2 * k.from + 1) (parts_of pairs last) (replacements_from pairs first (BeforeGap k.to) k.after kept past ++ rs) ≡ pairs_parts (with_first_gap gap (slice_range pairs k.from k.to)) ++ following
 kept_one pairs last gap first past k kept rs following some within rest =
     let xs = parts_of pairs last in
     ap (λ t. Gap gap ∷ t) (from_place pairs last first (2 * k.from + 1) (BeforeGap k.to) k.after kept past rs)
     ∙ ap (λ t. t ++ replaced_from (2 * k.to) xs (replacements_from pairs first (BeforeGap k.to) k.after kept past ++ rs)) (inner_range pairs last gap k.from k.to some within)
-    ∙ ap (λ t. pairs_parts (with_gap gap (slice_range pairs k.from k.to)) ++ t) rest
+    ∙ ap (λ t. pairs_parts (with_first_gap gap (slice_range pairs k.from k.to)) ++ t) rest
 
 -- what follows a range that is kept
 kept_body : (pairs : List Pair) (last : List ℕ) (first past at : ℕ) (w : Insertion) (kept : List (Option KeptTokens)) (rs : List Replacement) → AreInOrder first past at w kept → past ≤ length pairs
@@ -125,7 +125,7 @@ kept_body pairs last first past at w (Some k ∷ kept) rs o le =
     let ins = inserted pairs first w in
     let more = replaced_from (2 * past) xs rs in
     let following = replaced_from (2 * k.from + 1) xs (replacements_from pairs first (BeforeGap k.to) k.after kept past ++ rs) in
-    let range = with_gap [] (slice_range pairs k.from k.to) in
+    let range = with_first_gap [] (slice_range pairs k.from k.to) in
     let rest = inserted_and_kept_pairs pairs first k.after kept in
     let end = kept_le first past k.to k.after kept o.2 in
     ap (λ t. t ++ ((pairs_parts ins ++ (Gap [] ∷ [])) ++ following)) (range_none xs (2 * at) (2 * at) (omega arith))
@@ -135,7 +135,7 @@ kept_body pairs last first past at w (Some k ∷ kept) rs o le =
 
 -- the gap of the first token goes to the first that is written or kept
 gap_twice : (pairs : List Pair) (gap : List ℕ) (a b : ℕ) (rest : List Pair) → a < b → b ≤ length pairs
-    → with_gap gap (with_gap [] (slice_range pairs a b) ++ rest) ≡ with_gap gap (slice_range pairs a b) ++ rest
+    → with_first_gap gap (with_first_gap [] (slice_range pairs a b) ++ rest) ≡ with_first_gap gap (slice_range pairs a b) ++ rest
 gap_twice pairs gap a b rest lt within =
     let (p, found, leading) = known pairs a (omega (arith, lt, within)) in
     rw (range_first pairs a b p _ lt leading) refl
@@ -150,23 +150,23 @@ written_is pairs first Nothing = not_written refl
 written_is pairs first w = is_written _ _ refl
 
 written_prefix_end : (pairs : List Pair) (gap : List ℕ) (first past : ℕ) (w : Insertion) (more : List TextPart) → Written pairs first w → ChangesEnd first w first past
-    → Gap gap ∷ (drop 1 (pairs_parts (inserted pairs first w) ++ []) ++ more) ≡ pairs_parts (with_gap gap (inserted pairs first w)) ++ more
+    → Gap gap ∷ (drop 1 (pairs_parts (inserted pairs first w) ++ []) ++ more) ≡ pairs_parts (with_first_gap gap (inserted pairs first w)) ++ more
 written_prefix_end pairs gap first past w more (not_written is) end = let both = subst (λ (x : Insertion). ChangesEnd first x first past) is end in absurd (omega (arith, both.0))
 written_prefix_end pairs gap first past w more (is_written p ps is) end = rw is (ap (λ t. t ++ more) (ap (λ t. Gap gap ∷ Token p.kind p.spelling ∷ t) (append-nil (pairs_parts ps))))
 
 prefix_kept : (pairs : List Pair) (gap : List ℕ) (first a b : ℕ) (w : Insertion) (rest : List Pair) (following more : List TextPart) → Written pairs first w → a < b → b ≤ length pairs
-    → ((g : List ℕ) → Gap g ∷ following ≡ pairs_parts (with_gap g (slice_range pairs a b)) ++ (pairs_parts rest ++ more))
-    → Gap gap ∷ (drop 1 (pairs_parts (inserted pairs first w) ++ (Gap [] ∷ [])) ++ following) ≡ pairs_parts (with_gap gap (inserted pairs first w ++ (with_gap [] (slice_range pairs a b) ++ rest))) ++ more
+    → ((g : List ℕ) → Gap g ∷ following ≡ pairs_parts (with_first_gap g (slice_range pairs a b)) ++ (pairs_parts rest ++ more))
+    → Gap gap ∷ (drop 1 (pairs_parts (inserted pairs first w) ++ (Gap [] ∷ [])) ++ following) ≡ pairs_parts (with_first_gap gap (inserted pairs first w ++ (with_first_gap [] (slice_range pairs a b) ++ rest))) ++ more
 prefix_kept pairs gap first a b w rest following more (not_written is) lt within here =
-    rw is (here gap ∙ sym (append_assoc (pairs_parts (with_gap gap (slice_range pairs a b))) (pairs_parts rest) more)
-    ∙ ap (λ t. t ++ more) (sym (body_append (with_gap gap (slice_range pairs a b)) rest) ∙ ap pairs_parts (sym (gap_twice pairs gap a b rest lt within))))
+    rw is (here gap ∙ sym (append_assoc (pairs_parts (with_first_gap gap (slice_range pairs a b))) (pairs_parts rest) more)
+    ∙ ap (λ t. t ++ more) (sym (body_append (with_first_gap gap (slice_range pairs a b)) rest) ∙ ap pairs_parts (sym (gap_twice pairs gap a b rest lt within))))
 prefix_kept pairs gap first a b w rest following more (is_written p ps is) lt within here =
     let leading : List Pair = record p { gap = gap } ∷ ps in
-    rw is (append_assoc (pairs_parts leading) (Gap [] ∷ []) following ∙ ap (λ t. pairs_parts leading ++ t) (here []) ∙ sym (three leading (with_gap [] (slice_range pairs a b)) rest more))
+    rw is (append_assoc (pairs_parts leading) (Gap [] ∷ []) following ∙ ap (λ t. pairs_parts leading ++ t) (here []) ∙ sym (three leading (with_first_gap [] (slice_range pairs a b)) rest more))
 
 start_body : (pairs : List Pair) (last gap : List ℕ) (first past : ℕ) (w : Insertion) (kept : List (Option KeptTokens)) (rs : List Replacement) → AreInOrder first past first w kept → past ≤ length pairs
     → Gap gap ∷ replaced_from (2 * first + 1) (parts_of pairs last) (replacements_from pairs first (BeforeToken first) w kept past ++ rs)
-    ≡ pairs_parts (with_gap gap (inserted_and_kept_pairs pairs first w kept)) ++ replaced_from (2 * past) (parts_of pairs last) rs
+    ≡ pairs_parts (with_first_gap gap (inserted_and_kept_pairs pairs first w kept)) ++ replaced_from (2 * past) (parts_of pairs last) rs
 start_body pairs last gap first past w [] rs o le =
     let xs = parts_of pairs last in
     let more = replaced_from (2 * past) xs rs in
@@ -214,12 +214,12 @@ all_fixed rule pairs last at (f ∷ fs) other of are =
 
 -- settling pair by pair
 abbrev given : Bool → Kind → List ℕ → Pair
-given met k s = if met then record { gap = space; kind = k; spelling = s } else record { gap = []; kind = k; spelling = s }
+given met k s = if met then record { gap = one_space; kind = k; spelling = s } else record { gap = []; kind = k; spelling = s }
 
 settle_if : (met : Bool) (k : Kind) (s rest : List ℕ) (more : List TextPart) → text_of_parts (settled (Some (k, s)) more) ≡ rest
-    → text_of_parts (if met then Gap space ∷ Token k s ∷ settled (Some (k, s)) more else Token k s ∷ settled (Some (k, s)) more)
+    → text_of_parts (if met then Gap one_space ∷ Token k s ∷ settled (Some (k, s)) more else Token k s ∷ settled (Some (k, s)) more)
     ≡ (given met k s).gap ++ ((given met k s).spelling ++ rest)
-settle_if true k s rest more e = ap (λ t. space ++ (s ++ t)) e
+settle_if true k s rest more e = ap (λ t. one_space ++ (s ++ t)) e
 settle_if false k s rest more e = ap (λ t. s ++ t) e
 
 settle_last : (prev : Prev) (last : List ℕ) → text_of_parts (settled prev (Gap last ∷ [])) ≡ last

@@ -9,7 +9,7 @@ use Rattle.hcl_token.specs.Tokens.{Pair, whole_text}
 use Rattle.tf_fix.specs.Edits.Parts.{TextPart, parts_of, text_of_parts}
 use Rattle.tf_fix.specs.Edits.Parts.TextPart.{Gap, Token}
 use Rattle.tf_fix.specs.JoinedTokens.{Prev, joins_prev}
-use Rattle.tf_fix.specs.Edits.SettledSpaces.{prev_after, is_glued}
+use Rattle.tf_fix.specs.Edits.SettledSpaces.{prev_of_parts, is_glued}
 use Rattle.tf_fix.specs.Edits.Replacements.{Replacement, stays_until}
 use Rattle.tf_fix.specs.Inner.Views.{next_index}
 use Rattle.tf_fix.proofs.SettledLemmas.{written-append, after-append}
@@ -130,18 +130,18 @@ text_within xs to =
 
 -- ---- the token that the next one after a slice may join
 
-pub after_token : (prev : Prev) (xs : List TextPart) (kind : Kind) (spelling : List ℕ) → prev_after prev (xs ++ Token kind spelling ∷ []) ≡ Some (kind, spelling)
+pub after_token : (prev : Prev) (xs : List TextPart) (kind : Kind) (spelling : List ℕ) → prev_of_parts prev (xs ++ Token kind spelling ∷ []) ≡ Some (kind, spelling)
 after_token prev xs kind spelling = after-append prev xs (Token kind spelling ∷ [])
 
-pub after_empty : (prev : Prev) (xs : List TextPart) (gap : List ℕ) → gap ≡ [] → prev_after prev (xs ++ Gap gap ∷ []) ≡ prev_after prev xs
+pub after_empty : (prev : Prev) (xs : List TextPart) (gap : List ℕ) → gap ≡ [] → prev_of_parts prev (xs ++ Gap gap ∷ []) ≡ prev_of_parts prev xs
 after_empty prev xs gap e = rw e (after-append prev xs (Gap [] ∷ []))
 
-none_after_whitespace : (prev : Prev) (gap : List ℕ) → (gap ≡ [] → ⊥) → prev_after prev (Gap gap ∷ []) ≡ None
+none_after_whitespace : (prev : Prev) (gap : List ℕ) → (gap ≡ [] → ⊥) → prev_of_parts prev (Gap gap ∷ []) ≡ None
 none_after_whitespace prev [] some = absurd (some refl)
 none_after_whitespace prev (b ∷ gap) some = refl
 
-pub prev_after_whitespace : (prev : Prev) (xs : List TextPart) (gap : List ℕ) → (gap ≡ [] → ⊥) → prev_after prev (xs ++ Gap gap ∷ []) ≡ None
-prev_after_whitespace prev xs gap some = after-append prev xs (Gap gap ∷ []) ∙ none_after_whitespace (prev_after prev xs) gap some
+pub prev_after_whitespace : (prev : Prev) (xs : List TextPart) (gap : List ℕ) → (gap ≡ [] → ⊥) → prev_of_parts prev (xs ++ Gap gap ∷ []) ≡ None
+prev_after_whitespace prev xs gap some = after-append prev xs (Gap gap ∷ []) ∙ none_after_whitespace (prev_of_parts prev xs) gap some
 
 -- ---- whether the neighbour joins with the start of a slice
 

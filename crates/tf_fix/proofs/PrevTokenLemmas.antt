@@ -9,7 +9,7 @@ use Rattle.hcl_token.specs.Tokens.{Pair}
 use Rattle.tf_fix.specs.Edits.Parts.{parts_of, text_of_parts}
 use Rattle.tf_fix.specs.Edits.Parts.TextPart.{Gap, Token}
 use Rattle.tf_fix.specs.JoinedTokens.{Prev, joins_prev}
-use Rattle.tf_fix.specs.Edits.SettledSpaces.{prev_after, is_glued}
+use Rattle.tf_fix.specs.Edits.SettledSpaces.{prev_of_parts, is_glued}
 use Rattle.tf_fix.specs.Inner.Views.{prev_at}
 use Rattle.tf_fix.proofs.PartLemmas.{known, range_last, gap_and_token_first, token_first, parts_drop, start_text, stop_text, after_token, after_empty, prev_after_whitespace, glued_gap, glued_empty, glued_whitespace, glued_token}
 
@@ -40,7 +40,7 @@ strictly n m le other = elim (nat_lt n m) as (λ b. nat_lt n m ≡ b → n < m) 
 
 -- a gap with a token before it
 pub prev_token : (pairs : List Pair) (last : List ℕ) (prev : Prev) (from i : ℕ) (view : Prev) → from ≤ 2 * i → (from ≡ 2 * i → ⊥) → i ≤ length pairs
-    → Some view ≡ option_map prev_at (slice_get pairs (i - 1)) → view ≡ prev_after prev (slice_range (parts_of pairs last) from (2 * i))
+    → Some view ≡ option_map prev_at (slice_get pairs (i - 1)) → view ≡ prev_of_parts prev (slice_range (parts_of pairs last) from (2 * i))
 prev_token pairs last prev from i view le other within result_is =
     let some : from < 2 * i = strictly from (2 * i) le other in
     let (p, found, leading) = known pairs (i - 1) (omega (arith, some, within)) in
@@ -48,26 +48,26 @@ prev_token pairs last prev from i view le other within result_is =
     let same : view ≡ prev_at p = cc is in
     let two : 2 * i ≡ 2 * (i - 1) + 1 + 1 = omega (arith, some) in
     let whole = range_last (parts_of pairs last) from (2 * (i - 1) + 1) (Token p.kind p.spelling) _ (omega (arith, some)) (token_first pairs last (i - 1) p found) in
-    same ∙ sym (after_token prev (slice_range (parts_of pairs last) from (2 * (i - 1) + 1)) p.kind p.spelling) ∙ ap (prev_after prev) (sym whole) ∙ ap (λ k. prev_after prev (slice_range (parts_of pairs last) from k)) (sym two)
+    same ∙ sym (after_token prev (slice_range (parts_of pairs last) from (2 * (i - 1) + 1)) p.kind p.spelling) ∙ ap (prev_of_parts prev) (sym whole) ∙ ap (λ k. prev_of_parts prev (slice_range (parts_of pairs last) from k)) (sym two)
 
 pub prev_empty : (pairs : List Pair) (last : List ℕ) (prev : Prev) (from i : ℕ) (gap : List ℕ) (view : Prev) → from ≤ 2 * i → i < length pairs
-    → Some gap ≡ gap_of pairs i → gap ≡ [] → view ≡ prev_after prev (slice_range (parts_of pairs last) from (2 * i))
-    → view ≡ prev_after prev (slice_range (parts_of pairs last) from (2 * i + 1))
+    → Some gap ≡ gap_of pairs i → gap ≡ [] → view ≡ prev_of_parts prev (slice_range (parts_of pairs last) from (2 * i))
+    → view ≡ prev_of_parts prev (slice_range (parts_of pairs last) from (2 * i + 1))
 prev_empty pairs last prev from i gap view le lt result_is empty same =
     let (p, found, leading) = known pairs i lt in
     let is : Some gap ≡ Some p.gap = result_is ∙ ap (option_map (λ (q : Pair). q.gap)) found in
     let none : p.gap ≡ [] = cc (is, empty) in
     let whole = range_last (parts_of pairs last) from (2 * i) (Gap p.gap) _ le (gap_and_token_first pairs last i p found) in
-    same ∙ sym (after_empty prev (slice_range (parts_of pairs last) from (2 * i)) p.gap none) ∙ ap (prev_after prev) (sym whole)
+    same ∙ sym (after_empty prev (slice_range (parts_of pairs last) from (2 * i)) p.gap none) ∙ ap (prev_of_parts prev) (sym whole)
 
 pub prev_whitespace : (pairs : List Pair) (last : List ℕ) (prev : Prev) (from i : ℕ) (gap : List ℕ) → from ≤ 2 * i → i < length pairs
-    → Some gap ≡ gap_of pairs i → (gap ≡ [] → ⊥) → None ≡ prev_after prev (slice_range (parts_of pairs last) from (2 * i + 1))
+    → Some gap ≡ gap_of pairs i → (gap ≡ [] → ⊥) → None ≡ prev_of_parts prev (slice_range (parts_of pairs last) from (2 * i + 1))
 prev_whitespace pairs last prev from i gap le lt result_is some =
     let (p, found, leading) = known pairs i lt in
     let is : Some gap ≡ Some p.gap = result_is ∙ ap (option_map (λ (q : Pair). q.gap)) found in
     let same : gap ≡ p.gap = cc is in
     let whole = range_last (parts_of pairs last) from (2 * i) (Gap p.gap) _ le (gap_and_token_first pairs last i p found) in
-    sym (ap (prev_after prev) whole ∙ prev_after_whitespace prev (slice_range (parts_of pairs last) from (2 * i)) p.gap (λ e. some (same ∙ e)))
+    sym (ap (prev_of_parts prev) whole ∙ prev_after_whitespace prev (slice_range (parts_of pairs last) from (2 * i)) p.gap (λ e. some (same ∙ e)))
 
 -- whether the neighbor joins with the token after it
 read_token : (pairs : List Pair) (i : ℕ) (p : Pair) (kind : Kind) (spelling : List ℕ) → slice_get pairs i ≡ Some p → Some kind ≡ kind_of pairs i

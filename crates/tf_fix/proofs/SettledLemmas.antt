@@ -8,8 +8,8 @@ use Rattle.hcl_token.specs.Tokens.{Pair, whole_text}
 use Rattle.hcl_scan.specs.Follows.{IsApart, AreApart}
 use Rattle.tf_fix.specs.Edits.Parts.{TextPart, parts_of, text_of_parts}
 use Rattle.tf_fix.specs.Edits.Parts.TextPart.{Gap, Token}
-use Rattle.tf_fix.specs.JoinedTokens.{Prev, joins_prev, space}
-use Rattle.tf_fix.specs.Edits.SettledSpaces.{prev_after, settled, is_glued}
+use Rattle.tf_fix.specs.JoinedTokens.{Prev, joins_prev, one_space}
+use Rattle.tf_fix.specs.Edits.SettledSpaces.{prev_of_parts, settled, is_glued}
 use Rattle.tf_fix.specs.Edits.Replacements.{Replacement, AreReplacementsInOrder, replaced_from, replaced_text, stays_until, space_before, pieces_from, replaced_pieces}
 
 pub written-append : (xs ys : List TextPart) → text_of_parts (xs ++ ys) ≡ text_of_parts xs ++ text_of_parts ys
@@ -17,18 +17,18 @@ written-append [] ys = refl
 written-append (Gap b ∷ xs) ys = ap (λ t. b ++ t) (written-append xs ys) ∙ sym (append_assoc b (text_of_parts xs) (text_of_parts ys))
 written-append (Token k s ∷ xs) ys = ap (λ t. s ++ t) (written-append xs ys) ∙ sym (append_assoc s (text_of_parts xs) (text_of_parts ys))
 
-pub after-append : (prev : Prev) (xs ys : List TextPart) → prev_after prev (xs ++ ys) ≡ prev_after (prev_after prev xs) ys
+pub after-append : (prev : Prev) (xs ys : List TextPart) → prev_of_parts prev (xs ++ ys) ≡ prev_of_parts (prev_of_parts prev xs) ys
 after-append prev [] ys = refl
 after-append prev (Gap [] ∷ xs) ys = after-append prev xs ys
 after-append prev (Gap (b ∷ g) ∷ xs) ys = after-append None xs ys
 after-append prev (Token k s ∷ xs) ys = after-append (Some (k, s)) xs ys
 
 settled_if : (met : Bool) (k : Kind) (s : List ℕ) (all leading back : List TextPart) → all ≡ leading ++ back
-    → (if met then Gap space ∷ Token k s ∷ all else Token k s ∷ all) ≡ (if met then Gap space ∷ Token k s ∷ leading else Token k s ∷ leading) ++ back
-settled_if true k s all leading back e = ap (λ t. Gap space ∷ Token k s ∷ t) e
+    → (if met then Gap one_space ∷ Token k s ∷ all else Token k s ∷ all) ≡ (if met then Gap one_space ∷ Token k s ∷ leading else Token k s ∷ leading) ++ back
+settled_if true k s all leading back e = ap (λ t. Gap one_space ∷ Token k s ∷ t) e
 settled_if false k s all leading back e = ap (λ t. Token k s ∷ t) e
 
-pub settled-append : (prev : Prev) (xs ys : List TextPart) → settled prev (xs ++ ys) ≡ settled prev xs ++ settled (prev_after prev xs) ys
+pub settled-append : (prev : Prev) (xs ys : List TextPart) → settled prev (xs ++ ys) ≡ settled prev xs ++ settled (prev_of_parts prev xs) ys
 settled-append prev [] ys = refl
 settled-append prev (Gap [] ∷ xs) ys = ap (λ t. Gap [] ∷ t) (settled-append prev xs ys)
 settled-append prev (Gap (b ∷ g) ∷ xs) ys = ap (λ t. Gap (b ∷ g) ∷ t) (settled-append None xs ys)
@@ -49,13 +49,13 @@ apart_alone prev (Gap [] ∷ xs) a = apart_alone prev xs a
 apart_alone prev (Gap (b ∷ g) ∷ xs) a = a
 apart_alone prev (Token k s ∷ xs) a = (refl, a.1)
 
-pub apart_parts : (prev : Prev) (xs ys : List TextPart) → Apart prev (xs ++ ys) → Apart prev xs × Apart (prev_after prev xs) ys
+pub apart_parts : (prev : Prev) (xs ys : List TextPart) → Apart prev (xs ++ ys) → Apart prev xs × Apart (prev_of_parts prev xs) ys
 apart_parts prev [] ys a = (tt, a)
 apart_parts prev (Gap [] ∷ xs) ys a = apart_parts prev xs ys a
 apart_parts prev (Gap (b ∷ g) ∷ xs) ys a = apart_parts None xs ys a
 apart_parts prev (Token k s ∷ xs) ys a = let both = apart_parts (Some (k, s)) xs ys a.1 in ((a.0, both.0), both.1)
 
-pub apart_join : (prev : Prev) (xs ys : List TextPart) → Apart prev xs → Apart (prev_after prev xs) ys → Apart prev (xs ++ ys)
+pub apart_join : (prev : Prev) (xs ys : List TextPart) → Apart prev xs → Apart (prev_of_parts prev xs) ys → Apart prev (xs ++ ys)
 apart_join prev [] ys a b = b
 apart_join prev (Gap [] ∷ xs) ys a b = apart_join prev xs ys a b
 apart_join prev (Gap (c ∷ g) ∷ xs) ys a b = apart_join None xs ys a b
@@ -66,7 +66,7 @@ apart_take n xs a = (apart_parts None (take n xs) (drop n xs) (subst (Apart None
 
 pub apart_drop : (n : ℕ) (xs : List TextPart) → Apart None xs → Apart None (drop n xs)
 apart_drop n xs a =
-    apart_alone (prev_after None (take n xs)) (drop n xs) (apart_parts None (take n xs) (drop n xs) (subst (Apart None) (sym (take-append-drop n xs)) a)).1
+    apart_alone (prev_of_parts None (take n xs)) (drop n xs) (apart_parts None (take n xs) (drop n xs) (subst (Apart None) (sym (take-append-drop n xs)) a)).1
 
 pub apart_range : (from to : ℕ) (xs : List TextPart) → Apart None xs → Apart None (slice_range xs from to)
 apart_range from to xs a = apart_take (to - from) (drop from xs) (apart_drop from xs a)
@@ -78,8 +78,8 @@ stays_same prev (Gap (b ∷ g) ∷ xs) a = ap (λ t. Gap (b ∷ g) ∷ t) (stays
 stays_same prev (Token k s ∷ xs) a = rw a.0 (ap (λ t. Token k s ∷ t) (stays_same (Some (k, s)) xs a.1))
 
 stretch_if : (met : Bool) (k : Kind) (s : List ℕ) (rest same : List TextPart) → rest ≡ same
-    → text_of_parts (if met then Gap space ∷ Token k s ∷ rest else Token k s ∷ rest) ≡ (if met then space else []) ++ (s ++ text_of_parts same)
-stretch_if true k s rest same e = ap (λ t. space ++ (s ++ text_of_parts t)) e
+    → text_of_parts (if met then Gap one_space ∷ Token k s ∷ rest else Token k s ∷ rest) ≡ (if met then one_space else []) ++ (s ++ text_of_parts same)
+stretch_if true k s rest same e = ap (λ t. one_space ++ (s ++ text_of_parts t)) e
 stretch_if false k s rest same e = ap (λ t. s ++ text_of_parts t) e
 
 -- what stays, after any neighbor: a space more at most, right at its start
@@ -97,7 +97,7 @@ pieces_old prev at xs [] o = append-nil (text_of_parts (drop at xs))
 pieces_old prev at xs (r ∷ rs) o =
     let stay = slice_range xs at r.from in
     let slice_written = slice_range xs r.from r.to in
-    let rest = pieces_old (prev_after (prev_after prev stay) r.inserted_parts) r.to xs rs o.2 in
+    let rest = pieces_old (prev_of_parts (prev_of_parts prev stay) r.inserted_parts) r.to xs rs o.2 in
     let inner : drop r.from xs ≡ slice_written ++ drop r.to xs = drop_split xs r.from r.to o.1 in
     let outer : drop at xs ≡ stay ++ drop r.from xs = drop_split xs at r.from o.0 in
     ap (λ t. text_of_parts stay ++ (text_of_parts slice_written ++ t)) rest
@@ -110,8 +110,8 @@ pieces_new prev at xs [] a =
     ap (λ t. space_before prev (drop at xs) ++ t) (append-nil (text_of_parts (drop at xs))) ∙ sym (stretch_settled prev (drop at xs) (apart_drop at xs a))
 pieces_new prev at xs (r ∷ rs) a =
     let stay = slice_range xs at r.from in
-    let there = prev_after prev stay in
-    let following = prev_after there r.inserted_parts in
+    let there = prev_of_parts prev stay in
+    let following = prev_of_parts there r.inserted_parts in
     let more = replaced_from r.to xs rs in
     let leading = space_before prev stay in
     let inserted_text = text_of_parts (settled there r.inserted_parts) in

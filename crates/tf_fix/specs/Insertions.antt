@@ -8,7 +8,7 @@ use Rattle.hcl_token.specs.Tokens.{Pair}
 use Rattle.tf_rules.specs.declared.fix.Insertion.{Insertion}
 use Rattle.tf_rules.specs.declared.fix.Insertion.TheVariants.{Nothing, Index, Length, IsZero, IsPositive}
 use Rattle.tf_rules.specs.declared.fix.Insertion.TheVariants.{OpenBracket as Opening, CloseBracket as Closing}
-use Rattle.tf_fix.specs.JoinedTokens.{space}
+use Rattle.tf_fix.specs.JoinedTokens.{one_space}
 
 -- the spelling of the token of this number
 abbrev pub spelling_at : List Pair → ℕ → List ℕ
@@ -31,10 +31,10 @@ inserted pairs first Index =
 inserted pairs first Length =
     pair [] Identifier (codes "length") ∷ pair [] OpenParen (codes "(") ∷ []
 inserted pairs first IsZero =
-    pair [] CloseParen (codes ")") ∷ pair space DoubleEqual (codes "==")
-    ∷ pair space Number (codes "0") ∷ []
+    pair [] CloseParen (codes ")") ∷ pair one_space DoubleEqual (codes "==")
+    ∷ pair one_space Number (codes "0") ∷ []
 inserted pairs first IsPositive =
-    pair [] CloseParen (codes ")") ∷ pair space Greater (codes ">") ∷ pair space Number (codes "0")
+    pair [] CloseParen (codes ")") ∷ pair one_space Greater (codes ">") ∷ pair one_space Number (codes "0")
     ∷ []
 inserted pairs first Opening = pair [] OpenBracket (codes "[") ∷ []
 inserted pairs first Closing = pair [] CloseBracket (codes "]") ∷ []

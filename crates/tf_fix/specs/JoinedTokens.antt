@@ -14,5 +14,5 @@ joins_prev None kind spelling = false
 joins_prev (Some (first, letters)) kind spelling = joins_with first letters kind spelling
 
 -- one space
-abbrev pub space : List ℕ
-space = 32 ∷ []
+abbrev pub one_space : List ℕ
+one_space = 32 ∷ []

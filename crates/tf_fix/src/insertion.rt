@@ -2,7 +2,7 @@
 
 ghost use Rattle.std.specs.Prelude.{◌≡◌, ℕ, IfOk};
 ghost use Rattle.tf_fix.specs.Edits.Parts.{text_of_parts};
-ghost use Rattle.tf_fix.specs.Edits.SettledSpaces.{prev_after, settled};
+ghost use Rattle.tf_fix.specs.Edits.SettledSpaces.{prev_of_parts, settled};
 ghost use Rattle.tf_fix.specs.Inner.Views.{prev_view, HasByte};
 ghost use Rattle.tf_fix.specs.Edits.FindingReplacements.{pairs_parts};
 ghost use Rattle.tf_fix.specs.Insertions.{inserted};
@@ -54,7 +54,7 @@ pub fn added_text(
 pub fn prev_after_insertion<'t>(prev: PrevToken<'t>, insertion: Insertion) -> PrevToken<'t>
     ensures { (pairs : _) (first : ℕ)
         → prev_view result
-        ≡ prev_after (prev_view prev.entry) (pairs_parts (inserted pairs first insertion)) }
+        ≡ prev_of_parts (prev_view prev.entry) (pairs_parts (inserted pairs first insertion)) }
 {
     match insertion {
         Insertion::Nothing => prev,

@@ -3,7 +3,7 @@
 ghost use Rattle.std.specs.Prelude.{◌≡◌, ◌≤◌, ◌<◌, ◌+◌, ◌*◌, length, slice_range, slice_get, Some};
 ghost use Rattle.std.specs.Option.{option_map};
 ghost use Rattle.tf_fix.specs.Edits.Parts.{parts, boundary_index};
-ghost use Rattle.tf_fix.specs.Edits.SettledSpaces.{prev_after, is_glued};
+ghost use Rattle.tf_fix.specs.Edits.SettledSpaces.{prev_of_parts, is_glued};
 ghost use Rattle.tf_fix.specs.JoinedTokens.{joins_prev};
 ghost use Rattle.tf_fix.specs.Inner.Views.{prev_view, prev_at};
 
@@ -52,8 +52,8 @@ fn prev_before_gap<'t>(
 ) -> PrevToken<'t>
     requires order { boundary_index from ≤ 2 * i }
     requires within { i ≤ length scanned.now.pairs }
-    ensures { prev_view result
-        ≡ prev_after (prev_view prev.entry) (slice_range (parts scanned.now) (boundary_index from) (2 * i)) }
+    ensures { prev_view result ≡ prev_of_parts (prev_view prev.entry)
+        (slice_range (parts scanned.now) (boundary_index from) (2 * i)) }
 {
     if is_before_gap(from, i) {
         prev
@@ -73,7 +73,7 @@ pub fn prev_before<'t>(
     requires order { boundary_index from ≤ boundary_index to }
     requires within { boundary_index to ≤ 2 * length scanned.now.pairs }
     ensures { prev_view result
-        ≡ prev_after (prev_view prev.entry)
+        ≡ prev_of_parts (prev_view prev.entry)
         (slice_range (parts scanned.now) (boundary_index from) (boundary_index to)) }
 {
     match to {

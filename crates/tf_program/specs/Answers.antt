@@ -53,8 +53,8 @@ check_line name FileOutcome.Issue = []
 
 -- The fix makes the new text and records of the old ones; `lines` are what is reported of it in a
 -- file of this name.
-abbrev pub FixesText : List ℕ → RuleSet → SessionContents → Done → List ℕ → SessionContents → Type 0
-FixesText name rules old d lines new =
+abbrev pub FixesUnsavedText : List ℕ → RuleSet → SessionContents → Done → List ℕ → SessionContents → Type 0
+FixesUnsavedText name rules old d lines new =
     DoesStep (Fix rules) old d new × AreReportLines (Fix rules) name d new.text lines
 
 -- The fix refuses text and records; or it succeeds, and memory runs out for those lines.
@@ -76,7 +76,7 @@ IsAnswer Action.Check name text met output errors =
 IsAnswer (Action.Lint rules) name text met output errors =
     (count : ℕ) × AreLines name rules text output count × IsOutcomeOf met count × (errors ≡ [])
 IsAnswer (Action.Fix rules) name text met output errors =
-    (d : Done) × (new : SessionContents) × FixesText name rules (without_records text) d errors new
+    (d : Done) × (new : SessionContents) × FixesUnsavedText name rules (without_records text) d errors new
     × (output ≡ new.text) × IsOutcomeOf met d.left
 IsAnswer (Action.Revert number) name text met output errors =
     (met ≡ FileOutcome.Nothing) × (output ≡ []) × (errors ≡ [])

@@ -3,8 +3,8 @@ use Rattle.std.specs.Prelude.{ℕ, ◌≤◌, List, [], ◌∷◌, ◌++◌, dro
 use Rattle.edit_record.specs.Lists.Pieces.{Piece}
 use Rattle.edit_record.specs.Lists.Pieces.Piece.{Kept, Changed}
 use Rattle.tf_fix.specs.Edits.Parts.{TextPart, text_of_parts}
-use Rattle.tf_fix.specs.JoinedTokens.{Prev, space}
-use Rattle.tf_fix.specs.Edits.SettledSpaces.{prev_after, settled, is_glued}
+use Rattle.tf_fix.specs.JoinedTokens.{Prev, one_space}
+use Rattle.tf_fix.specs.Edits.SettledSpaces.{prev_of_parts, settled, is_glued}
 
 -- The parts from one place to another are replaced by others.
 pub record Replacement : Type 0 where
@@ -35,13 +35,13 @@ stays_until at parts (r ∷ rs) = slice_range parts at r.from
 
 -- one space where the neighbour joins with what stays
 abbrev pub space_before : Prev → List TextPart → List ℕ
-space_before prev parts = if is_glued prev parts then space else []
+space_before prev parts = if is_glued prev parts then one_space else []
 
 -- what a replacement adds: the inserted parts, settled, and a space if the last token joins with
 -- what is kept after them
 abbrev pub added : Prev → List TextPart → List TextPart → List ℕ
 added prev inserted kept_after =
-    text_of_parts (settled prev inserted) ++ space_before (prev_after prev inserted) kept_after
+    text_of_parts (settled prev inserted) ++ space_before (prev_of_parts prev inserted) kept_after
 
 -- The text in pieces: kept, or replaced by what is added. `prev` is the token before place `at`,
 -- `before` that before what is inserted, and `after` that before what stays after it.
@@ -49,8 +49,8 @@ abbrev pub pieces_from : Prev → ℕ → List TextPart → List Replacement →
 pieces_from prev at parts [] = Kept (text_of_parts (drop at parts)) ∷ []
 pieces_from prev at parts (r ∷ rs) =
     let kept = slice_range parts at r.from in
-    let before = prev_after prev kept in
-    let after = prev_after before r.inserted_parts in
+    let before = prev_of_parts prev kept in
+    let after = prev_of_parts before r.inserted_parts in
     Kept (text_of_parts kept)
     ∷ Changed (text_of_parts (slice_range parts r.from r.to))
     (added before r.inserted_parts (stays_until r.to parts rs))

@@ -40,9 +40,9 @@ abbrev pub is_empty_list : Expr → Bool
 is_empty_list e = is_empty_list_kind (out-ExprKind e.kind)
 
 -- `==`
-abbrev pub is_equal : BinaryOperator → Bool
-is_equal operator.Equal = true
-is_equal _ = false
+abbrev pub is_double_equal : BinaryOperator → Bool
+is_double_equal operator.Equal = true
+is_double_equal _ = false
 
 -- a comparison with an empty list
 pub record Comparison : Type 0 where
@@ -93,7 +93,7 @@ abbrev pub comparison_findings : List Pair → ℕ → Operation → Comparison 
 comparison_findings pairs first link c =
     finding_at EmptyListEquality first link.operand.past plain_message
     (when (is_comparison_fixable pairs c)
-    (length_fix c.operand_first c.operand_past (is_equal link.operator)))
+    (length_fix c.operand_first c.operand_past (is_double_equal link.operator)))
 
 -- Which operand of an operator is the empty list: the right one, or else, at the first operator of
 -- a chain, `left`, which is the expression before it.

@@ -2,7 +2,7 @@
 
 ghost use Rattle.std.specs.Prelude.{◌≡◌, ◌+◌, ◌-◌, ◌==◌, ◌&&◌, not, true, OnOk, length, []};
 ghost use Rattle.std.specs.Prelude.{if◌then◌else◌};
-ghost use Rattle.tf_rules.specs.Rules.Equality.{is_empty_list, is_equality, is_equal, length_fix};
+ghost use Rattle.tf_rules.specs.Rules.Equality.{is_empty_list, is_equality, is_double_equal, length_fix};
 ghost use Rattle.tf_rules.specs.Rules.Equality.{operation_findings, chain_findings, may_find};
 ghost use Rattle.tf_rules.specs.Fixes.{when};
 ghost use Rattle.tf_rules.specs.declared.rule.Rule.TheVariants.{EmptyListEquality};
@@ -43,8 +43,8 @@ fn is_equality(operator: BinaryOperator) -> bool
 }
 
 /// Whether an operator is `==`.
-fn is_equal(operator: BinaryOperator) -> bool
-    ensures { result ≡ is_equal operator }
+fn is_double_equal(operator: BinaryOperator) -> bool
+    ensures { result ≡ is_double_equal operator }
 {
     match operator {
         BinaryOperator::Equal => true,
@@ -100,7 +100,7 @@ fn check_operation(
     let right = &operation.operand;
     let left_past = left.past;
     let (right_first, right_past) = (right.first, right.past);
-    let is_zero_test = is_equal(operation.operator);
+    let is_zero_test = is_double_equal(operation.operator);
     if is_empty_list(right) {
         let fixable = is_comparison_fixable(cx.scanned, right, left_past, left_past, right_first);
         let operand = (first, left_past);

@@ -25,7 +25,7 @@ use Rattle.tf_reuse.proofs.Window.{Here, Same}
 use Rattle.tf_reuse.specs.SameTokens.{SameTokens}
 use Rattle.tf_rules.specs.Findings.{plain_message, finding_at}
 use Rattle.tf_rules.specs.Fixes.{when, is_in_order}
-use Rattle.tf_rules.specs.Rules.Equality.{is_empty_list, is_empty_list_kind, is_empty_list_primary, chain_findings, may_find, operation_findings, is_equal, is_equality, length_fix, list_on_right, list_on_left, is_comparison_fixable}
+use Rattle.tf_rules.specs.Rules.Equality.{is_empty_list, is_empty_list_kind, is_empty_list_primary, chain_findings, may_find, operation_findings, is_double_equal, is_equality, length_fix, list_on_right, list_on_left, is_comparison_fixable}
 use Rattle.tf_rules.specs.Summaries.{value_of, kind_value, primary_value}
 use Rattle.tf_rules.specs.Trivia.{token_range, has_trivia, is_here_close}
 use Rattle.tf_rules.specs.declared.finding.Finding.{Finding}
@@ -43,7 +43,7 @@ use Rattle.tf_rules_laws.proofs.Valid.{AreValid}
 
 link_of_rule : (pairs : List Pair) (first : ℕ) (is_first : Bool) (left : Expr) (l : Operation) → From pairs EmptyListEquality (operation_findings pairs first is_first left l)
 link_of_rule pairs first is_first left l =
-    let equal = is_equal l.operator in
+    let equal = is_double_equal l.operator in
     found.choose (is_equality l.operator)
     (found.choose (is_empty_list l.operand) (found.maybe (is_comparison_fixable pairs (list_on_right first left l)) (length_fix first left.past equal) refl refl refl)
     (found.choose (is_first && is_empty_list left)
@@ -112,8 +112,8 @@ module _ (old new : List Pair) {from to count : ℕ} (w : SameTokens (tokens_of 
   link_moved is_first op h a b =
       let p = fixable_moved b (first_here a) (past_here a) (some_token a) (past_here a) (first_here b) in
       let q = fixable_moved a (first_here b) (past_here b) (some_token b) (past_here a) (first_here b) in
-      let one = comparison_moves (is_equal op) h (past_here b) h (past_here a) p in
-      let two_arguments = comparison_moves (is_equal op) h (past_here b) (first_here b) (past_here b) q in
+      let one = comparison_moves (is_double_equal op) h (past_here b) h (past_here a) p in
+      let two_arguments = comparison_moves (is_double_equal op) h (past_here b) (first_here b) (past_here b) q in
       moves.either {b = is_equality op} {b' = is_equality op} refl
       (moves.either (empty_list_moved b) one (moves.either (ap (λ (x : Bool). is_first && x) (empty_list_moved a)) two_arguments moves.none))
       moves.none
@@ -140,7 +140,7 @@ link_is_valid : (pairs : List Pair) (first : ℕ) (is_first : Bool) (left : Expr
     → l.operand.past ≤ length pairs → AreValid (length pairs) (operation_findings pairs first is_first left l)
 link_is_valid pairs first is_first left l a b c d =
     let past = l.operand.past in
-    let equal = is_equal l.operator in
+    let equal = is_double_equal l.operator in
     let fixes_node = is_comparison_fixable pairs (list_on_right first left l) in
     let right = valid.keep (length pairs) EmptyListEquality first past plain_message (when fixes_node (length_fix first left.past equal)) (omega (arith, a, b, c)) d
     (valid.fits first past fixes_node (length_fix first left.past equal) (compared first past first left.past equal (omega arith) a (omega (arith, b, c)))) in
