@@ -7,6 +7,7 @@ use crate::found::byte_of;
 use crate::indents::{Braces, early_braces, late_braces};
 use crate::lines::line_number;
 use crate::near::{first_from, is_kind, kind_at};
+use hcl_grammar::MAX_NESTING;
 use hcl_scan::{Kind, Scanned};
 use std::alloc::{AllocError, Global};
 use std::fmt::Write;
@@ -32,7 +33,7 @@ impl Explanation {
                 push_braces(&mut out, scanned, early_braces(alloc, scanned, *self)?)?;
             }
             Reason::NoEnd => push_no_end(&mut out, scanned, self.token)?,
-            Reason::TooDeep => out.push_str("nested more than 100 deep")?,
+            Reason::TooDeep => write!(out, "nested more than {} deep", MAX_NESTING)?,
             Reason::Expected(expected) => {
                 push_expected(&mut out, scanned, expected.name(), self.found)?
             }

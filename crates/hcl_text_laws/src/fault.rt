@@ -3,6 +3,7 @@
 ghost use Rattle.std.specs.Prelude.{◌≡◌};
 ghost use Rattle.hcl_text_laws.specs.Faults.{byte_offset, to_parse_fault};
 
+use hcl_grammar::MAX_NESTING;
 use hcl_grammar::fault::TokenFault;
 use hcl_scan::Scanned;
 use thiserror::Error;
@@ -17,7 +18,7 @@ pub enum ParseFault {
     #[error("byte {at}: syntax error")]
     Syntax { at: usize },
     /// The token that opens the construct which is nested too deep (`MAX_NESTING`).
-    #[error("byte {at}: nested more than 100 deep")]
+    #[error("byte {at}: nested more than {} deep", MAX_NESTING)]
     TooDeep { at: usize },
     /// An allocation failed.
     #[error("out of memory")]
